@@ -7,8 +7,8 @@ from .names import imports_of, items_of
 
 # The crates whose public contracts are read.
 READ = """
-    st_top st_reading st_command st_kernel st_machine st_next st_law st_reached st_filter st_learn st_audit st_report st_schedule
-    st_script st_policy st_reread st_first_fault st_relearn st_round_trip
+    st_top st_reading st_command st_kernel st_machine st_decide st_law st_reached st_filter st_learn st_audit st_report st_schedule
+    st_script st_policy st_reread st_fault_laws st_relearn st_round_trip
 """.split()
 PAGE = "docs/DEFINITIONS.md"
 # A type's variants are those of the code, and so are the limits: the type is on the page.

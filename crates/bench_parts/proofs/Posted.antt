@@ -3,7 +3,7 @@ use native.Mathlib.Omega.{arith}
 use Rattle.std.proofs.Common.{◌≡◌, ◌<◌, ◌⊎◌, ℕ, ◌+◌, Bool, true, false, cond, List, [], ◌∷◌, ◌++◌, Option, Some, None, inl, inr, refl, subst}
 use Rattle.std.specs.Option.{option_map}
 use Rattle.std.specs.Prelude.{find}
-use Rattle.st_messages.specs.Messages.{HeldCalls, calls_after_post, calls_after_renew, calls_after_renew_of, has_number, message_at, thread_at, waiting_message}
+use Rattle.st_messages.specs.Messages.{HeldCalls, calls_after_post, calls_after_renew, calls_after_renew_of, is_message_of, message_of_number, thread_of_number, waiting_message}
 use Rattle.st_messages.specs.declared.message.Message.{Message}
 
 -- if a thread has a message after one more was added, it had one before, or the added message is its
@@ -16,21 +16,21 @@ alone : (b : Bool) (x : Message) (t : ℕ) → option_map (λ (m : Message). m.t
 alone true x t e = cc
 alone false x t e = absurd cc
 
-last : (live : List Message) (x : Message) (q t : ℕ) → option_map (λ (m : Message). m.tid) (find (has_number q) (live ++ x ∷ [])) ≡ Some t → (option_map (λ (m : Message). m.tid) (find (has_number q) live) ≡ Some t) ⊎ (t ≡ x.tid)
-last [] x q t e = inr (alone (has_number q x) x t e)
-last (y ∷ live) x q t e = last_by (has_number q y) x (find (has_number q) live) (find (has_number q) (live ++ x ∷ [])) t (last live x q t) y e
+last : (live : List Message) (x : Message) (q t : ℕ) → option_map (λ (m : Message). m.tid) (find (is_message_of q) (live ++ x ∷ [])) ≡ Some t → (option_map (λ (m : Message). m.tid) (find (is_message_of q) live) ≡ Some t) ⊎ (t ≡ x.tid)
+last [] x q t e = inr (alone (is_message_of q x) x t e)
+last (y ∷ live) x q t e = last_by (is_message_of q y) x (find (is_message_of q) live) (find (is_message_of q) (live ++ x ∷ [])) t (last live x q t) y e
 
 below : (t tid : ℕ) (P : Type 0) → (P → t < tid) → P ⊎ (t ≡ tid) → t < tid + 1
 below t tid P f (inl p) = let less = f p in omega (arith, less)
 below t tid P f (inr e) = omega (arith, e)
 
 -- if only threads below a number have messages, and the thread of this number gets one, only threads up to it have messages
-pub posted : (calls new : HeldCalls) (tid : ℕ) → ((q t : ℕ) → thread_at calls q ≡ Some t → t < tid) → new ≡ calls_after_post calls tid → (q t : ℕ) → thread_at new q ≡ Some t → t < tid + 1
-posted calls new tid all is q t e = below t tid (thread_at calls q ≡ Some t) (all q t) (last calls.live (waiting_message calls.next tid) q t (subst (λ (c : HeldCalls). thread_at c q ≡ Some t) is e))
+pub posted : (calls new : HeldCalls) (tid : ℕ) → ((q t : ℕ) → thread_of_number calls q ≡ Some t → t < tid) → new ≡ calls_after_post calls tid → (q t : ℕ) → thread_of_number new q ≡ Some t → t < tid + 1
+posted calls new tid all is q t e = below t tid (thread_of_number calls q ≡ Some t) (all q t) (last calls.live (waiting_message calls.next tid) q t (subst (λ (c : HeldCalls). thread_of_number c q ≡ Some t) is e))
 
 renewed_by : (calls : HeldCalls) (q : ℕ) (o : Option Message) → (calls_after_renew_of calls q o).workers ≡ calls.workers
 renewed_by calls q None = refl
 renewed_by calls q (Some message) = refl
 
 pub renewed : (calls : HeldCalls) (q : ℕ) → (calls_after_renew calls q).workers ≡ calls.workers
-renewed calls q = renewed_by calls q (message_at calls q)
+renewed calls q = renewed_by calls q (message_of_number calls q)

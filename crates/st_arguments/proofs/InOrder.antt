@@ -14,7 +14,7 @@ use Rattle.st_model.specs.Walk as walk
 use Rattle.st_names.specs.Name.{Components, printed_name}
 use Rattle.std.specs.Prelude.{slice_index_or}
 use Rattle.std.proofs.lemmas.List.{get_or_default}
-use Rattle.st_arguments.specs.Parts.{is_followed, part_in, IsArgument, IsFaultOf, IsSpelled}
+use Rattle.st_arguments.specs.Parts.{is_followed, part_in, IsArgument, IsFaultOf, IsSpelledBy}
 
 -- the progress of arguments that come after these complete ones
 abbrev pub with_args : List ArgText → Progress → Progress
@@ -37,14 +37,14 @@ with_args-ready (first ∷ args) = ap (with_arg first) (with_args-ready args)
 
 module _ (asked : ArgRequest) (around : Surroundings) (spec : ArgSpec) where
   -- an argument with this spelling
-  spells : (s : Spelled) → IsSpelled around.bytes spec.kind (slice_index_or asked.regs spec.register 0) s → (j : ℕ) (rest : Progress) → part_in asked around spec j rest ≡ part_of_spelling j spec asked around.tree s rest
+  spells : (s : Spelled) → IsSpelledBy around.bytes spec.kind (slice_index_or asked.regs spec.register 0) s → (j : ℕ) (rest : Progress) → part_in asked around spec j rest ≡ part_of_spelling j spec asked around.tree s rest
   spells s x j rest = ap (λ (s : Spelled). part_of_spelling j spec asked around.tree s rest) x.is
 
   -- an argument with a fault in memory
-  pub fault_in_memory : (errno : Errno) → IsSpelled around.bytes spec.kind (slice_index_or asked.regs spec.register 0) (Fault errno) → IsFaultOf asked around spec errno
+  pub fault_in_memory : (errno : Errno) → IsSpelledBy around.bytes spec.kind (slice_index_or asked.regs spec.register 0) (Fault errno) → IsFaultOf asked around spec errno
   fault_in_memory errno x = record { is = λ j rest. spells (Fault errno) x j rest }
 
-  module _ (text : List ℕ) (spelled : IsSpelled around.bytes spec.kind (slice_index_or asked.regs spec.register 0) (Text text)) where
+  module _ (text : List ℕ) (spelled : IsSpelledBy around.bytes spec.kind (slice_index_or asked.regs spec.register 0) (Text text)) where
     named : spec.kind ≡ kind.Name → (j : ℕ) (rest : Progress) → part_in asked around spec j rest ≡ progress_of_walk j spec (walk.resolve around.tree asked.cwd text (is_followed asked spec)) rest
     named name j rest = spells (Text text) spelled j rest ∙ ap (λ (k : PartKind). part_of_text k j spec asked around.tree text rest) name
 

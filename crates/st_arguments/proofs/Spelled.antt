@@ -6,9 +6,9 @@ use Rattle.st_model.specs.Memory.{word_of}
 use Rattle.st_model.specs.Spelling.{Spelled, Text, Fault, More, spell}
 use Rattle.st_model.specs.declared.limits.TheConstants.{SPACE_WORDS}
 use Rattle.st_law.specs.Arguments.{spelled_in, spelled_on, spelled_within}
-use Rattle.st_translate.specs.Copied.{Copied, asked_word, fault_of, spelled, with_word}
+use Rattle.st_translate.specs.Copied.{Copied, asked_word, copy_fault, spelled_words, with_word}
 use Rattle.st_translate.proofs.Asked.{few_words}
-use Rattle.st_arguments.specs.Parts.{IsSpelled}
+use Rattle.st_arguments.specs.Parts.{IsSpelledBy}
 
 -- if the word at an index is asked for, the spelling goes on with it
 on_more : (further : ℕ → Spelled) (s : Spelled) (place : ℕ) → Some place ≡ asked_word s → spelled_on further s ≡ further place
@@ -40,14 +40,14 @@ module _ (bytes : ℕ → ℕ) (kind : PartKind) (at : ℕ) where
     comes_to = λ left all. let full : left ≡ SPACE_WORDS = omega (arith, all) in ap (λ n. spelled_within n kind at bytes []) full;
   })
 
-  spelled_is : (copied : Copied) → IsCopying bytes kind at copied → spelled copied ≡ spell kind at copied.words
+  spelled_is : (copied : Copied) → IsCopying bytes kind at copied → spelled_words copied ≡ spell kind at copied.words
   spelled_is copied x = ap (λ (k : PartKind). spell k copied.at copied.words) x.kind_is ∙ ap (λ (n : ℕ). spell kind n copied.words) x.at_is
 
   -- few words have been copied if one more is asked for
-  pub few_copied : (copied : Copied) → IsCopying bytes kind at copied → IsSome (asked_word (spelled copied)) → length copied.words ≤ 192
+  pub few_copied : (copied : Copied) → IsCopying bytes kind at copied → IsSome (asked_word (spelled_words copied)) → length copied.words ≤ 192
   few_copied copied x some = few_words copied.kind copied.at copied.words some
 
-  pub copying_on : (copied : Copied) (place word : ℕ) → IsCopying bytes kind at copied → Some place ≡ asked_word (spelled copied) → word ≡ word_of bytes place → IsCopying bytes kind at (with_word copied word)
+  pub copying_on : (copied : Copied) (place word : ℕ) → IsCopying bytes kind at copied → Some place ≡ asked_word (spelled_words copied) → word ≡ word_of bytes place → IsCopying bytes kind at (with_word copied word)
   copying_on copied place word x asked is =
       let more : length (copied.words ++ word ∷ []) ≡ length copied.words + 1 = length-append copied.words (word ∷ []) in
       let few : length copied.words ≤ 192 = few_copied copied x (subst IsSome asked refl) in
@@ -65,7 +65,7 @@ module _ (bytes : ℕ → ℕ) (kind : PartKind) (at : ℕ) where
   end_within zero words e = refl
   end_within (suc left) words e = on_end _ (spell kind at words) e
 
-  pub copying_ended : (copied : Copied) → IsCopying bytes kind at copied → None ≡ asked_word (spelled copied) → IsSpelled bytes kind at (spelled copied)
+  pub copying_ended : (copied : Copied) → IsCopying bytes kind at copied → None ≡ asked_word (spelled_words copied) → IsSpelledBy bytes kind at (spelled_words copied)
   copying_ended copied x quiet = record {
     is =
         let few : length copied.words ≤ 193 = x.few in
@@ -75,12 +75,12 @@ module _ (bytes : ℕ → ℕ) (kind : PartKind) (at : ℕ) where
         ∙ sym (spelled_is copied x);
   }
 
-  -- an argument whose value is in a register is spelled without a word
-  pub spelled_plain : (text : List ℕ) → spell kind at [] ≡ Text text → IsSpelled bytes kind at (Text text)
+  -- an argument whose value is in a register is spelled_words without a word
+  pub spelled_plain : (text : List ℕ) → spell kind at [] ≡ Text text → IsSpelledBy bytes kind at (Text text)
   spelled_plain text e = record { is = end_within SPACE_WORDS [] (ap asked_word e) ∙ e }
 
 -- words with a fault spell that fault
-pub fault_spelled : (s : Spelled) {errno : _} → Some errno ≡ fault_of s → s ≡ Fault errno
+pub fault_spelled : (s : Spelled) {errno : _} → Some errno ≡ copy_fault s → s ≡ Fault errno
 fault_spelled (Text text) e = cc
 fault_spelled (Fault other) e = cc
 fault_spelled (More place) e = cc

@@ -9,11 +9,11 @@ use Rattle.st_model.specs.declared.object.Kind.TheVariants as object_kind
 use Rattle.st_effects.specs.Names.{is_link}
 use Rattle.st_names.specs.Name.{Components}
 use Rattle.st_law.specs.Arguments.{is_link_at, is_link_node, link_along, link_on_way}
-use Rattle.st_tree.specs.Refusals.{IsMade}
+use Rattle.st_tree.specs.Refusals.{IsObjectNumber}
 use Rattle.st_exec_objects.proofs.Objects.{numbered}
 
 -- whether the kind of an object that was made is that of a link
-pub link_of_made : (tree : Tree) (obj : ℕ) → IsMade tree obj → is_link_node (node_of_number tree obj) ≡ is_link (node_with_number tree obj).kind
+pub link_of_made : (tree : Tree) (obj : ℕ) → IsObjectNumber tree obj → is_link_node (node_of_number tree obj) ≡ is_link (node_with_number tree obj).kind
 link_of_made tree obj made = ap is_link_node (numbered tree obj made)
 
 no_link_directory : (kind : Kind) → is_directory kind ≡ true → is_link kind ≡ false
@@ -22,7 +22,7 @@ no_link_directory object_kind.File e = cc
 no_link_directory object_kind.Link e = cc
 
 -- a directory isn't a link
-pub no_link_dir : (tree : Tree) (obj : ℕ) → IsMade tree obj → is_directory (node_with_number tree obj).kind ≡ true → is_link_node (node_of_number tree obj) ≡ false
+pub no_link_dir : (tree : Tree) (obj : ℕ) → IsObjectNumber tree obj → is_directory (node_with_number tree obj).kind ≡ true → is_link_node (node_of_number tree obj) ≡ false
 no_link_dir tree obj made directory = link_of_made tree obj made ∙ no_link_directory (node_with_number tree obj).kind directory
 
 -- ---- the way
@@ -37,14 +37,14 @@ link_from tree follow done rest =
 pub record HasCome (tree : Tree) (follow : Bool) (front : Components) (count obj : ℕ) : Type 0 where
   pub count_is : count ≡ length front
   pub object : object_of tree front ≡ Some obj
-  pub made : IsMade tree obj
+  pub made : IsObjectNumber tree obj
   pub way : (rest : Components) → link_on_way tree follow (front ++ rest) ≡ link_from tree follow front rest
 
 passes : (tree : Tree) (follow : Bool) (done rest : Components) → is_link_at tree done ≡ false → link_from tree follow done rest ≡ link_along tree follow done rest
 passes tree follow done rest none = ap (λ b. cond (b && (follow || not (is_last rest))) (Some done) (link_along tree follow done rest)) none
 
 -- the way begins at the root
-pub come_first : (tree : Tree) (follow : Bool) (root : ℕ) → object_of tree [] ≡ Some root → IsMade tree root → is_directory (node_with_number tree root).kind ≡ true → HasCome tree follow [] 0 root
+pub come_first : (tree : Tree) (follow : Bool) (root : ℕ) → object_of tree [] ≡ Some root → IsObjectNumber tree root → is_directory (node_with_number tree root).kind ≡ true → HasCome tree follow [] 0 root
 come_first tree follow root object made directory = record {
   count_is = refl;
   object = object;
@@ -61,7 +61,7 @@ module _ (tree : Tree) (follow : Bool) (front : Components) (count obj : ℕ) (c
     onward rest none = come.way (part ∷ rest) ∙ passes tree follow front (part ∷ rest) (link_here ∙ sym none)
 
     -- the way goes on to the object of the next component
-    pub come_on : (next : ℕ) → false ≡ is_link_node (node_of_number tree obj) → Some next ≡ object_of tree (front ++ part ∷ []) → IsMade tree next → HasCome tree follow (front ++ part ∷ []) (count + 1) next
+    pub come_on : (next : ℕ) → false ≡ is_link_node (node_of_number tree obj) → Some next ≡ object_of tree (front ++ part ∷ []) → IsObjectNumber tree next → HasCome tree follow (front ++ part ∷ []) (count + 1) next
     come_on next none object made = record {
       count_is = let c = come.count_is in let l : length (front ++ part ∷ []) ≡ length front + 1 = length-append front (part ∷ []) in omega (arith, c, l);
       object = sym object;

@@ -4,6 +4,6 @@ use Rattle.st_arguments.specs.declared.arguments.Arguments.TheVariants as argume
 use Rattle.st_effects.specs.Progress.{Progress, Ready, Stuck}
 
 -- the progress of a call's arguments: all have their texts, or one has a fault
-abbrev pub progress_of : Arguments → Progress
-progress_of (arguments.Ready args) = Ready args
-progress_of (arguments.Stuck errno) = Stuck errno
+abbrev pub arguments_progress : Arguments → Progress
+arguments_progress (arguments.Ready args) = Ready args
+arguments_progress (arguments.Stuck errno) = Stuck errno

@@ -29,7 +29,7 @@ fault_of_walk (walk.Os errno) = fault.Os errno
 fault_of_walk walk.NoMemory = fault.NoMemory
 
 -- what the words of a memory spell, for an argument of this kind that begins at this byte
-pub record IsSpelled (bytes : ℕ → ℕ) (kind : PartKind) (at : ℕ) (spelled : Spelled) : Type 0 where
+pub record IsSpelledBy (bytes : ℕ → ℕ) (kind : PartKind) (at : ℕ) (spelled : Spelled) : Type 0 where
   pub is : spelled_in bytes kind at ≡ spelled
 
 -- the progress of the argument at position j, followed by that of the arguments after it

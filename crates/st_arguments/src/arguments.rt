@@ -1,11 +1,11 @@
 ghost use Rattle.std.specs.Prelude.{◌≡◌, true, IsErrOf, IfOk};
-ghost use Rattle.st_arguments.specs.Arguments.{progress_of};
+ghost use Rattle.st_arguments.specs.Arguments.{arguments_progress};
 ghost use Rattle.st_arguments.specs.Parts.{surroundings};
 ghost use Rattle.st_arguments.specs.declared.fault.ArgFault.TheVariants.{Os};
 ghost use Rattle.st_base.specs.declared.errno.Errno.{Errno};
 ghost use Rattle.st_effects.specs.Progress.{Ready, Stuck};
 ghost use Rattle.st_law.specs.Arguments.{arguments_in};
-ghost use Rattle.st_memory.specs.Memory.{is_live};
+ghost use Rattle.st_memory.specs.Memory.{is_space_live};
 
 use crate::asked::Asked;
 use crate::fault::ArgFault;
@@ -33,7 +33,7 @@ fn texts(
     space: Space,
     asked: &Asked<'_>,
 ) -> Result<Sequence<ArgText>, ArgFault>
-    requires { is_live spaces.now space ≡ true }
+    requires { is_space_live spaces.now space ≡ true }
     ensures args { IfOk result (λ args. arguments_in asked.now (surroundings tree.now spaces.now space) ≡ Ready args) }
     ensures fault { (errno : Errno) → IsErrOf result (Os errno) → arguments_in asked.now (surroundings tree.now spaces.now space) ≡ Stuck errno }
 {
@@ -53,8 +53,8 @@ pub fn arguments_in(
     space: Space,
     asked: &Asked<'_>,
 ) -> Result<Arguments, AllocError>
-    requires { is_live spaces.now space ≡ true }
-    ensures { IfOk result (λ arguments. arguments_in asked.now (surroundings tree.now spaces.now space) ≡ progress_of arguments) }
+    requires { is_space_live spaces.now space ≡ true }
+    ensures { IfOk result (λ arguments. arguments_in asked.now (surroundings tree.now spaces.now space) ≡ arguments_progress arguments) }
 {
     match texts(alloc, tree, spaces, space, asked) {
         Ok(args) => Ok(Arguments::Ready(args)),

@@ -3,7 +3,7 @@ ghost use Rattle.std.specs.Option.{option_map};
 ghost use Rattle.st_law.specs.Arguments.{is_link_node, link_met, link_of_part, link_on_way};
 ghost use Rattle.st_model.specs.Tree.{node_of_number};
 ghost use Rattle.st_names.specs.Name.{components_of};
-ghost use Rattle.st_tree.specs.Refusals.{IsMade};
+ghost use Rattle.st_tree.specs.Refusals.{IsObjectNumber};
 
 use st_base::Obj;
 use st_calls::{ArgText, PartKind, Rule, SysCall, args_of, follows};
@@ -13,7 +13,7 @@ use std::alloc::{AllocError, Global};
 
 // Whether an object is a link.
 fn is_link(tree: &Tree, obj: Obj) -> bool
-    requires { IsMade tree.now obj }
+    requires { IsObjectNumber tree.now obj }
     ensures { result ≡ is_link_node (node_of_number tree.now obj) }
 {
     match tree.node(obj).kind {

@@ -1,13 +1,13 @@
 // An argument in one step: copied from memory, and resolved in the tree, as both are.
 ghost use Rattle.std.specs.Prelude.{◌≡◌, ℕ, true, None, slice_index_or, IsErrOf, IfOk};
-ghost use Rattle.st_arguments.specs.Parts.{is_followed, surroundings, IsArgument, IsFaultOf, IsSpelled};
+ghost use Rattle.st_arguments.specs.Parts.{is_followed, surroundings, IsArgument, IsFaultOf, IsSpelledBy};
 ghost use Rattle.st_arguments.specs.declared.fault.ArgFault.TheVariants.{Os};
 ghost use Rattle.st_base.specs.declared.errno.Errno.{Errno};
-ghost use Rattle.st_memory.specs.Memory.{byte_in, is_live};
+ghost use Rattle.st_memory.specs.Memory.{byte_in, is_space_live};
 ghost use Rattle.st_model.specs.Spelling as spelling;
 ghost use Rattle.st_model.specs.Walk as walk;
 ghost use Rattle.st_names.specs.Name.{Components, printed_name};
-ghost use Rattle.st_translate.specs.Copied.{asked_word, lies_in_memory, spelled};
+ghost use Rattle.st_translate.specs.Copied.{asked_word, lies_in_memory, spelled_words};
 
 use crate::asked::Asked;
 use crate::fault::ArgFault;
@@ -27,10 +27,10 @@ fn copied(
     kind: PartKind,
     at: u64,
 ) -> Result<Copying, AllocError>
-    requires live { is_live spaces.now space ≡ true }
+    requires live { is_space_live spaces.now space ≡ true }
     requires kind { lies_in_memory kind ≡ true }
-    ensures spelled { IfOk result (λ copying. IsSpelled (byte_in spaces.now space) kind at (spelled copying)) }
-    ensures ended { IfOk result (λ copying. asked_word (spelled copying) ≡ None) }
+    ensures spelled { IfOk result (λ copying. IsSpelledBy (byte_in spaces.now space) kind at (spelled_words copying)) }
+    ensures ended { IfOk result (λ copying. asked_word (spelled_words copying) ≡ None) }
 {
     let mut copying = Copying::begin(alloc, kind, at)?;
     while let Some(place) = copying.next_word() {
@@ -50,9 +50,9 @@ fn spelled_text(
     kind: PartKind,
     register: u64,
 ) -> Result<Text, ArgFault>
-    requires { is_live spaces.now space ≡ true }
-    ensures text { IfOk result (λ text. IsSpelled (byte_in spaces.now space) kind register (spelling.Text text)) }
-    ensures fault { (errno : Errno) → IsErrOf result (Os errno) → IsSpelled (byte_in spaces.now space) kind register (spelling.Fault errno) }
+    requires { is_space_live spaces.now space ≡ true }
+    ensures text { IfOk result (λ text. IsSpelledBy (byte_in spaces.now space) kind register (spelling.Text text)) }
+    ensures fault { (errno : Errno) → IsErrOf result (Os errno) → IsSpelledBy (byte_in spaces.now space) kind register (spelling.Fault errno) }
 {
     match kind {
         PartKind::Name | PartKind::Plain | PartKind::Addr | PartKind::Argv => {
@@ -100,7 +100,7 @@ pub(crate) fn argument(
     asked: &Asked<'_>,
     spec: ArgSpec,
 ) -> Result<ArgText, ArgFault>
-    requires { is_live spaces.now space ≡ true }
+    requires { is_space_live spaces.now space ≡ true }
     ensures arg { IfOk result (λ arg. IsArgument asked.now (surroundings tree.now spaces.now space) spec arg) }
     ensures fault { (errno : Errno) → IsErrOf result (Os errno) → IsFaultOf asked.now (surroundings tree.now spaces.now space) spec errno }
 {

@@ -27,10 +27,10 @@ use Rattle.st_law.specs.State.{State, is_live, is_live_by, read_for, snapshot_in
 use Rattle.st_law.specs.Threads.{History, owner_at}
 use Rattle.st_law.proofs.MessageHistory.{closed_stays}
 use Rattle.st_law.proofs.Standing.{Stands, answer_stands}
-use Rattle.st_audit.specs.AuditText.{audit, audit_back, call_line, denied_line, ending_text, line_of}
-use Rattle.st_audit.specs.How.{Decided, args_used, decided_by, decided_in, decided_on, how_denied, how_used, is_logged, number_of, parts_of, seq_told}
+use Rattle.st_audit.specs.AuditText.{audit, audit_back, call_line, denied_line, ending_text, audit_line}
+use Rattle.st_audit.specs.How.{Decided, args_used, decided_by, decided_in, decided_on, how_denied, how_used, is_logged, deciding_number, parts_of, seq_of_decision}
 use Rattle.st_audit.specs.Rows.{entered_at, row_at}
-use Rattle.st_audit.specs.Told.{answer_of, answer_with, audit_told, decided_told, told_back, told_line}
+use Rattle.st_audit.specs.FromHistory.{applied_answer, answer_with, audit_from_history, decided_from_history, text_from_history, line_from_history}
 
 -- ---- answers
 
@@ -43,10 +43,10 @@ record Found (h : History) (q : ℕ) : Type 0 where
   earlier : History
   split : h ≡ later ++ Answered worker copies verdict true ∷ earlier
   number : copies.seq ≡ q
-  newest : answer_of h q ≡ Some (answer_with copies verdict)
+  newest : applied_answer h q ≡ Some (answer_with copies verdict)
 
-behind : (e : Entry) (h : History) (q : ℕ) (x : Found h q) → answer_of (e ∷ h) q ≡ answer_of h q → Found (e ∷ h) q
-behind e h q x same = record {
+following : (e : Entry) (h : History) (q : ℕ) (x : Found h q) → applied_answer (e ∷ h) q ≡ applied_answer h q → Found (e ∷ h) q
+following e h q x same = record {
   later = e ∷ x.later;
   worker = x.worker;
   copies = x.copies;
@@ -68,10 +68,10 @@ answered_here w s v applied h q older true e answered =
       earlier = h;
       split = ap (λ c. Answered w s v c ∷ h) both.1;
       number = eqb-true s.seq q both.0;
-      newest = ap (λ c. cond c (Some (answer_with s v)) (answer_of h q)) e;
+      newest = ap (λ c. cond c (Some (answer_with s v)) (applied_answer h q)) e;
     }
 answered_here w s v applied h q older false e answered =
-    behind (Answered w s v applied) h q (older answered) (ap (λ c. cond c (Some (answer_with s v)) (answer_of h q)) e)
+    following (Answered w s v applied) h q (older answered) (ap (λ c. cond c (Some (answer_with s v)) (applied_answer h q)) e)
 
 -- if a call is open after an entry, it was open before the entry
 was_open : (q : ℕ) (e : Entry) (h : History) → is_closed_at (e ∷ h) q ≡ false → is_closed_at h q ≡ false
@@ -81,26 +81,26 @@ was_open q e h unclosed = by (is_closed_at h q) refl where
   by true is = absurd (true≢false (sym (closed_stays q e h is) ∙ unclosed))
 
 -- another call is made or denied
-kept_open : (q : ℕ) (seq : Option ℕ) (closed : Bool) (h : History) → (is_number q seq || closed) ≡ false → cond (is_number q seq) None (answer_of h q) ≡ answer_of h q
-kept_open q seq closed h unclosed = ap (λ b. cond b None (answer_of h q)) (or_parts (is_number q seq) closed unclosed).0
+kept_open : (q : ℕ) (seq : Option ℕ) (closed : Bool) (h : History) → (is_number q seq || closed) ≡ false → cond (is_number q seq) None (applied_answer h q) ≡ applied_answer h q
+kept_open q seq closed h unclosed = ap (λ b. cond b None (applied_answer h q)) (or_parts (is_number q seq) closed unclosed).0
 
 found : (h : History) (q : ℕ) → is_answered_at h q ≡ true → is_closed_at h q ≡ false → Found h q
 found [] q answered unclosed = absurd (cc)
 found (Answered w s v applied ∷ h) q answered unclosed =
     answered_here w s v applied h q (λ older. found h q older unclosed) ((s.seq == q) && applied) refl answered
-found (Stored u place word ∷ h) q answered unclosed = behind (Stored u place word) h q (found h q answered unclosed) refl
-found (Entered u call regs way ∷ h) q answered unclosed = behind (Entered u call regs way) h q (found h q answered unclosed) refl
-found (Claimed w p ∷ h) q answered unclosed = behind (Claimed w p) h q (found h q answered unclosed) refl
-found (Copied p part place word ∷ h) q answered unclosed = behind (Copied p part place word) h q (found h q answered unclosed) refl
-found (Looked p part name seen ∷ h) q answered unclosed = behind (Looked p part name seen) h q (found h q answered unclosed) refl
-found (Faulted p errno ∷ h) q answered unclosed = behind (Faulted p errno) h q (found h q answered unclosed) refl
+found (Stored u place word ∷ h) q answered unclosed = following (Stored u place word) h q (found h q answered unclosed) refl
+found (Entered u call regs way ∷ h) q answered unclosed = following (Entered u call regs way) h q (found h q answered unclosed) refl
+found (Claimed w p ∷ h) q answered unclosed = following (Claimed w p) h q (found h q answered unclosed) refl
+found (Copied p part place word ∷ h) q answered unclosed = following (Copied p part place word) h q (found h q answered unclosed) refl
+found (Looked p part name seen ∷ h) q answered unclosed = following (Looked p part name seen) h q (found h q answered unclosed) refl
+found (Faulted p errno ∷ h) q answered unclosed = following (Faulted p errno) h q (found h q answered unclosed) refl
 found (Used u seq call regs args ids result changes ∷ h) q answered unclosed =
-    behind (Used u seq call regs args ids result changes) h q (found h q answered (was_open q (Used u seq call regs args ids result changes) h unclosed)) (kept_open q seq (fold (is_renewed_by q) (is_closed_at h q) changes) h unclosed)
+    following (Used u seq call regs args ids result changes) h q (found h q answered (was_open q (Used u seq call regs args ids result changes) h unclosed)) (kept_open q seq (fold (is_renewed_by q) (is_closed_at h q) changes) h unclosed)
 found (Denied u seq errno cause ∷ h) q answered unclosed =
-    behind (Denied u seq errno cause) h q (found h q answered (was_open q (Denied u seq errno cause) h unclosed)) (kept_open q seq (is_closed_at h q) h unclosed)
-found (Ended u ∷ h) q answered unclosed = behind (Ended u) h q (found h q answered unclosed) refl
-found (Replied p reply n ∷ h) q answered unclosed = behind (Replied p reply n) h q (found h q answered unclosed) refl
-found (Learned p n ∷ h) q answered unclosed = behind (Learned p n) h q (found h q answered unclosed) refl
+    following (Denied u seq errno cause) h q (found h q answered (was_open q (Denied u seq errno cause) h unclosed)) (kept_open q seq (is_closed_at h q) h unclosed)
+found (Ended u ∷ h) q answered unclosed = following (Ended u) h q (found h q answered unclosed) refl
+found (Replied p reply n ∷ h) q answered unclosed = following (Replied p reply n) h q (found h q answered unclosed) refl
+found (Learned p n ∷ h) q answered unclosed = following (Learned p n) h q (found h q answered unclosed) refl
 
 -- the call of a live number is open
 open_by : (head : Option Head) (closed : Bool) (dying : ℕ → Bool) → is_live_by head closed dying ≡ true → closed ≡ false
@@ -113,10 +113,10 @@ verdict_of_answer i [] earlier w s v lawful = lawful.0.verdict_is
 verdict_of_answer i (e ∷ later) earlier w s v lawful = verdict_of_answer i later earlier w s v lawful.1
 
 -- a live number that was answered has the copies of its newest answer, whose verdict is that of the filters that were read
-record IsTold (i : Input) (h : History) (q : ℕ) : Type 0 where
+record IsRecordedOf (i : Input) (h : History) (q : ℕ) : Type 0 where
   copies : Snapshot
   given : Verdict
-  newest : answer_of h q ≡ Some (answer_with copies given)
+  newest : applied_answer h q ≡ Some (answer_with copies given)
   there : snapshot_in (looking_back i h) q ≡ Some copies
   says : given ≡ verdict (read_for i copies.policy copies.rule) copies
 
@@ -124,8 +124,8 @@ module _ (i : Input) (startable : IsStartable i) where
   is_open : (h : History) (q : ℕ) → is_live (looking_back i h) q ≡ true → is_closed_at h q ≡ false
   is_open h q live = let st : State = looking_back i h in open_by (st.messages q).head (st.messages q).closed (λ t. (st.threads t).dying) live
 
-  told : (h : History) (q : ℕ) → IsLawfulBack i h → is_answered_at h q ≡ true → is_live (looking_back i h) q ≡ true → IsTold i h q
-  told h q lawful answered live =
+  printed : (h : History) (q : ℕ) → IsLawfulBack i h → is_answered_at h q ≡ true → is_live (looking_back i h) q ≡ true → IsRecordedOf i h q
+  printed h q lawful answered live =
       let x : Found h q = found h q answered (is_open h q live) in
       let same : IsLawfulBack i (x.later ++ Answered x.worker x.copies x.verdict true ∷ x.earlier) = subst (IsLawfulBack i) x.split lawful in
       let stands : Stands i (x.later ++ Answered x.worker x.copies x.verdict true ∷ x.earlier) x.copies = answer_stands i startable x.later x.earlier x.worker x.copies x.verdict same in
@@ -142,11 +142,11 @@ module _ (i : Input) (startable : IsStartable i) where
   -- what an audit says of a held call with these copies, by the verdict of the filters that were read
   abbrev said_of : History → Snapshot → Verdict → Decided
   said_of h s v =
-      decided_by i (session_at i h) s (number_of (verdict_or v (verdict_from (suc (length (read_for i s.policy s.rule))) (session_filters (session_at i h) s.policy s.rule) s)))
+      decided_by i (session_at i h) s (deciding_number (verdict_or v (verdict_from (suc (length (read_for i s.policy s.rule))) (session_filters (session_at i h) s.policy s.rule) s)))
 
-  same_decided : (h : History) (q : ℕ) → IsLawfulBack i h → is_answered_at h q ≡ true → is_live (looking_back i h) q ≡ true → decided_told i (session_at i h) (answer_of h q) ≡ decided_in i (looking_back i h) q
-  same_decided h q lawful answered live = let x : IsTold i h q = told h q lawful answered live in
-      ap (decided_told i (session_at i h)) x.newest
+  same_decided : (h : History) (q : ℕ) → IsLawfulBack i h → is_answered_at h q ≡ true → is_live (looking_back i h) q ≡ true → decided_from_history i (session_at i h) (applied_answer h q) ≡ decided_in i (looking_back i h) q
+  same_decided h q lawful answered live = let x : IsRecordedOf i h q = printed h q lawful answered live in
+      ap (decided_from_history i (session_at i h)) x.newest
       ∙ (λ k. Some (said_of h x.copies (x.says k)))
       ∙ sym (ap (λ o. option_map (λ s. said_of h s (verdict (read_for i s.policy s.rule) s)) o) x.there)
 
@@ -154,18 +154,18 @@ module _ (i : Input) (startable : IsStartable i) where
 
   -- what the entries say of held calls, and what the law says
   abbrev by_entries : History → ℕ → Option Decided
-  by_entries h q = decided_told i (session_at i h) (answer_of h q)
+  by_entries h q = decided_from_history i (session_at i h) (applied_answer h q)
 
   abbrev by_law : History → ℕ → Option Decided
   by_law h q = decided_in i (looking_back i h) q
 
   used_same : (h : History) (u : ℕ) (seq : Option ℕ) (call : SysCall) (regs : List ℕ) (args : List ArgText) (ids : Ids) (result : CallResult) (changes : List Change)
-      → decided_on (by_entries h) seq ≡ decided_on (by_law h) seq → told_line i h (Used u seq call regs args ids result changes) ≡ line_of i h (Used u seq call regs args ids result changes)
+      → decided_on (by_entries h) seq ≡ decided_on (by_law h) seq → line_from_history i h (Used u seq call regs args ids result changes) ≡ audit_line i h (Used u seq call regs args ids result changes)
   used_same h u seq call regs args ids result changes e =
       ap (λ d. call_line i (row_at i h) (owner_at i h u) u call regs (ending_text (args_used seq args) (how_used seq d ids) result (is_logged d))) e
 
   denied_same : (h : History) (u : ℕ) (seq : Option ℕ) (errno : Errno) (cause : Cause)
-      → decided_on (by_entries h) (seq_told seq cause) ≡ decided_on (by_law h) (seq_told seq cause) → told_line i h (Denied u seq errno cause) ≡ line_of i h (Denied u seq errno cause)
+      → decided_on (by_entries h) (seq_of_decision seq cause) ≡ decided_on (by_law h) (seq_of_decision seq cause) → line_from_history i h (Denied u seq errno cause) ≡ audit_line i h (Denied u seq errno cause)
   denied_same h u seq errno cause e =
       ap (λ d. denied_line i (row_at i h) (owner_at i h u) u (entered_at i h u) (ending_text (parts_of d) (how_denied seq cause) (Failed errno) (is_logged d))) e
 
@@ -173,19 +173,19 @@ module _ (i : Input) (startable : IsStartable i) where
   judged_same h q s lawful judged live = same_decided h q lawful judged.answered live
 
   cause_same : (h : History) (u q : ℕ) (errno : Errno) (cause : Cause) → IsLawfulBack i h → IsDeniedHeld i (looking_back i h) u q errno cause
-      → decided_on (by_entries h) (seq_told (Some q) cause) ≡ decided_on (by_law h) (seq_told (Some q) cause)
+      → decided_on (by_entries h) (seq_of_decision (Some q) cause) ≡ decided_on (by_law h) (seq_of_decision (Some q) cause)
   cause_same h u q errno (Filter n) lawful y = judged_same h q y.cause_is.0 lawful y.cause_is.1 y.held.live
   cause_same h u q errno NoFilter lawful y = judged_same h q y.cause_is.0 lawful y.cause_is.1 y.held.live
   cause_same h u q errno Fault lawful y = refl
   cause_same h u q errno (Link name) lawful y = judged_same h q y.cause_is.0 lawful y.cause_is.2.judged y.held.live
 
-  barred_same : (h : History) (cause : Cause) → decided_on (by_entries h) (seq_told None cause) ≡ decided_on (by_law h) (seq_told None cause)
+  barred_same : (h : History) (cause : Cause) → decided_on (by_entries h) (seq_of_decision None cause) ≡ decided_on (by_law h) (seq_of_decision None cause)
   barred_same h (Filter n) = refl
   barred_same h NoFilter = refl
   barred_same h Fault = refl
   barred_same h (Link name) = refl
 
-  line_same : (h : History) (e : Entry) → IsLawfulBack i (e ∷ h) → told_line i h e ≡ line_of i h e
+  line_same : (h : History) (e : Entry) → IsLawfulBack i (e ∷ h) → line_from_history i h e ≡ audit_line i h e
   line_same h (Used u None call regs args ids result changes) lawful = used_same h u None call regs args ids result changes refl
   line_same h (Used u (Some q) call regs args ids result changes) lawful =
       let y : IsUsedHeld i (looking_back i h) u q call regs args ids result changes = lawful.0 in
@@ -203,9 +203,9 @@ module _ (i : Input) (startable : IsStartable i) where
   line_same h (Replied q reply n) lawful = refl
   line_same h (Learned q n) lawful = refl
 
-  audit_back_same : (h : History) → IsLawfulBack i h → told_back i h ≡ audit_back i h
+  audit_back_same : (h : History) → IsLawfulBack i h → text_from_history i h ≡ audit_back i h
   audit_back_same [] lawful = refl
   audit_back_same (e ∷ h) lawful = λ k. audit_back_same h lawful.1 k ++ line_same h e lawful k
 
-  pub audit_same : (trace : List Entry) → Lawful i trace → audit_told i trace ≡ audit i trace
+  pub audit_same : (trace : List Entry) → Lawful i trace → audit_from_history i trace ≡ audit i trace
   audit_same trace lawful = audit_back_same (reverse trace) lawful

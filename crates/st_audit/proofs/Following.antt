@@ -17,9 +17,9 @@ use Rattle.st_trace.specs.declared.entry.Entry.{Entry}
 use Rattle.st_trace.specs.declared.entry.Entry.TheVariants.{Stored, Entered, Claimed, Copied, Looked, Faulted, Answered, Used, Denied, Ended, Replied, Learned}
 use Rattle.st_audit.specs.AuditText.{call_line, ending_text, line_by}
 use Rattle.st_audit.specs.How.{Decided, args_used, decided_on, how_used, is_logged}
-use Rattle.st_audit.specs.Ledger.{IsLedger, answer_in, entered_after, entered_in, kept_line, owner_in, row_in}
+use Rattle.st_audit.specs.Ledger.{IsLedger, recorded_answer, entered_after, entered_in, kept_line, owner_in, row_in}
 use Rattle.st_audit.specs.Rows.{Row, entered_at, row_after, row_at}
-use Rattle.st_audit.specs.Told.{answer_after, answer_of, audit_told, decided_told, tells_of_call, told_back, told_line}
+use Rattle.st_audit.specs.FromHistory.{answer_after, applied_answer, audit_from_history, decided_from_history, concerns_call, text_from_history, line_from_history}
 use Rattle.st_audit.specs.declared.entered.EnteredCall.{EnteredCall}
 use Rattle.st_audit.specs.declared.how.How.{How}
 use Rattle.st_audit.specs.declared.ledger.Ledger.{Ledger}
@@ -30,7 +30,7 @@ pub record Follows (i : Input) (old new : Ledger) (e : Entry) : Type 0 where
   pub owners : (t : ℕ) → owner_in i new.owners t ≡ owner_after t (owner_in i old.owners t) (changes_of e)
   pub rows : (p : ℕ) → row_in i new.rows p ≡ row_after (row_in i old.rows (owner_in i old.owners (thread_of e))) (owner_in i old.owners (thread_of e)) p (row_in i old.rows p) (changes_of e)
   pub entered : (t : ℕ) → entered_in new.entered t ≡ entered_after e t (entered_in old.entered t)
-  pub answers : (q : ℕ) → answer_in new.answers q ≡ answer_after e q (answer_in old.answers q)
+  pub answers : (q : ℕ) → recorded_answer new.answers q ≡ answer_after e q (recorded_answer old.answers q)
 
 pub followed : (i : Input) (old new : Ledger) (e : Entry) (h : History) → Follows i old new e → IsLedger i old h → IsLedger i new (e ∷ h)
 followed i old new e h f is = record {
@@ -51,10 +51,10 @@ printing_adds_nothing i h (Replied q reply n) owners rows entered decided = refl
 printing_adds_nothing i h _ owners rows entered decided = refl
 
 -- what an entry prints by a ledger and by the session after the entry is what it prints by the entries before it
-pub line_told : (i : Input) (session : List SessionFilter) (ledger : Ledger) (h : History) (e : Entry) → session ≡ session_at i (e ∷ h) → IsLedger i ledger h → kept_line i session ledger e ≡ told_line i h e
-line_told i session ledger h e same is =
-    (λ k. line_by i (λ t. is.owners t k) (λ p. is.rows p k) (λ t. is.entered t k) (λ q. decided_told i (same k) (is.answers q k)) e)
-    ∙ printing_adds_nothing i h e (owner_at i h) (row_at i h) (entered_at i h) (λ session q. decided_told i session (answer_of h q))
+pub line_printed : (i : Input) (session : List SessionFilter) (ledger : Ledger) (h : History) (e : Entry) → session ≡ session_at i (e ∷ h) → IsLedger i ledger h → kept_line i session ledger e ≡ line_from_history i h e
+line_printed i session ledger h e same is =
+    (λ k. line_by i (λ t. is.owners t k) (λ p. is.rows p k) (λ t. is.entered t k) (λ q. decided_from_history i (same k) (is.answers q k)) e)
+    ∙ printing_adds_nothing i h e (owner_at i h) (row_at i h) (entered_at i h) (λ session q. decided_from_history i session (applied_answer h q))
 
 -- the rows after the changes of a call, by its entry
 pub rows_noted : (i : Input) (owners : BTreeMap ℕ ℕ) (old new : BTreeMap ℕ Row) (e : Entry) (t pid : ℕ) (changes : List Change) → thread_of e ≡ t → changes_of e ≡ changes → pid ≡ owner_in i owners t
@@ -69,7 +69,7 @@ rows_noted i owners old new e t pid changes thread all same noted p =
 
 module _ (i : Input) (ledger : Ledger) where
   -- a step in between leaves the ledger as it is
-  pub kept_still : (h : History) (e : Entry) → tells_of_call e ≡ false → IsLedger i ledger h → IsLedger i ledger (e ∷ h)
+  pub kept_still : (h : History) (e : Entry) → concerns_call e ≡ false → IsLedger i ledger h → IsLedger i ledger (e ∷ h)
   kept_still h (Stored t place word) none is = record { owners = is.owners; rows = is.rows; entered = is.entered; answers = is.answers }
   kept_still h (Claimed w q) none is = record { owners = is.owners; rows = is.rows; entered = is.entered; answers = is.answers }
   kept_still h (Copied q part place word) none is = record { owners = is.owners; rows = is.rows; entered = is.entered; answers = is.answers }
@@ -85,7 +85,7 @@ module _ (i : Input) (ledger : Ledger) where
 
 module _ (i : Input) (session : List SessionFilter) (ledger : Ledger) where
   -- a step in between prints nothing
-  prints_nothing : (e : Entry) → tells_of_call e ≡ false → kept_line i session ledger e ≡ []
+  prints_nothing : (e : Entry) → concerns_call e ≡ false → kept_line i session ledger e ≡ []
   prints_nothing (Stored t place word) none = refl
   prints_nothing (Claimed w q) none = refl
   prints_nothing (Copied q part place word) none = refl
@@ -99,7 +99,7 @@ module _ (i : Input) (session : List SessionFilter) (ledger : Ledger) where
   prints_nothing (Used t seq call regs args ids result changes) none = cc
   prints_nothing (Denied t seq errno cause) none = cc
 
-  pub printed_still : (e : Entry) (text : List ℕ) → tells_of_call e ≡ false → text ≡ text ++ kept_line i session ledger e
+  pub printed_still : (e : Entry) (text : List ℕ) → concerns_call e ≡ false → text ≡ text ++ kept_line i session ledger e
   printed_still e text none = sym (append-nil text) ∙ ap (λ line. text ++ line) (sym (prints_nothing e none))
 
 -- ---- one more entry
@@ -111,20 +111,20 @@ module _ (i : Input) (trace : List Entry) (e : Entry) where
   pub kept_more : (old new : Ledger) → IsLedger i old (reverse trace) → ((h : History) → IsLedger i old h → IsLedger i new (e ∷ h)) → IsLedger i new (reverse (trace ++ e ∷ []))
   kept_more old new kept noted = subst (IsLedger i new) (sym newest_first) (noted (reverse trace) kept)
 
-  pub audit_more : (session : List SessionFilter) (ledger : Ledger) (text new : List ℕ) → session ≡ session_at i (reverse (trace ++ e ∷ [])) → text ≡ audit_told i trace → IsLedger i ledger (reverse trace) → new ≡ text ++ kept_line i session ledger e → new ≡ audit_told i (trace ++ e ∷ [])
+  pub audit_more : (session : List SessionFilter) (ledger : Ledger) (text new : List ℕ) → session ≡ session_at i (reverse (trace ++ e ∷ [])) → text ≡ audit_from_history i trace → IsLedger i ledger (reverse trace) → new ≡ text ++ kept_line i session ledger e → new ≡ audit_from_history i (trace ++ e ∷ [])
   audit_more session ledger text new same written kept more =
-      more ∙ ap (λ line. text ++ line) (line_told i session ledger (reverse trace) e (same ∙ ap (session_at i) newest_first) kept)
-      ∙ ap (λ front. front ++ told_line i (reverse trace) e) written ∙ sym (ap (told_back i) newest_first)
+      more ∙ ap (λ line. text ++ line) (line_printed i session ledger (reverse trace) e (same ∙ ap (session_at i) newest_first) kept)
+      ∙ ap (λ front. front ++ line_from_history i (reverse trace) e) written ∙ sym (ap (text_from_history i) newest_first)
 
 -- what a call that was made prints, by what is known of it
 pub used_line : (i : Input) (session : List SessionFilter) (ledger : Ledger) (e : Entry) (t : ℕ) (seq : Option ℕ) (call : SysCall) (regs : List ℕ) (args : List ArgText) (ids : Ids) (result : CallResult) (changes : List Change)
-    (text new : List ℕ) (slice told : List ArgText) (how : How) (log : Bool) (decided : Option Decided)
+    (text new : List ℕ) (slice printed : List ArgText) (how : How) (log : Bool) (decided : Option Decided)
     → e ≡ Used t seq call regs args ids result changes
-    → decided ≡ decided_on (λ q. decided_told i session (answer_in ledger.answers q)) seq
-    → slice ≡ args → told ≡ args_used seq slice → how ≡ how_used seq decided ids → log ≡ is_logged decided
-    → new ≡ text ++ call_line i (row_in i ledger.rows) (owner_in i ledger.owners t) t call regs (ending_text told how result log)
+    → decided ≡ decided_on (λ q. decided_from_history i session (recorded_answer ledger.answers q)) seq
+    → slice ≡ args → printed ≡ args_used seq slice → how ≡ how_used seq decided ids → log ≡ is_logged decided
+    → new ≡ text ++ call_line i (row_in i ledger.rows) (owner_in i ledger.owners t) t call regs (ending_text printed how result log)
     → new ≡ text ++ kept_line i session ledger e
-used_line i session ledger e t seq call regs args ids result changes text new slice told how log decided is same all those went marked last =
+used_line i session ledger e t seq call regs args ids result changes text new slice printed how log decided is same all those went marked last =
     last
     ∙ (λ k. text ++ call_line i (row_in i ledger.rows) (owner_in i ledger.owners t) t call regs
     (ending_text ((those ∙ ap (args_used seq) all) k) ((went ∙ ap (λ d. how_used seq d ids) same) k) result ((marked ∙ ap is_logged same) k)))

@@ -11,20 +11,20 @@ use Rattle.st_trace.specs.declared.entry.Entry.TheVariants.{Stored, Entered, Cla
 use Rattle.st_trace.specs.declared.start.Instr.{Instr}
 use Rattle.st_law.specs.Threads.{PendingCall, pending_after}
 use Rattle.st_audit.specs.Ledger.{entered_after}
-use Rattle.st_audit.specs.Rows.{Row, changes_row, entered_call, row_after, row_after_change, row_of}
+use Rattle.st_audit.specs.Rows.{Row, changes_row, entered_call, row_after, row_after_change, printed_row}
 
 -- ---- rows
 
-either_row : (b : Bool) (p q : Process) → row_of (cond b p q) ≡ cond b (row_of p) (row_of q)
+either_row : (b : Bool) (p q : Process) → printed_row (cond b p q) ≡ cond b (printed_row p) (printed_row q)
 either_row true p q = refl
 either_row false p q = refl
 
-same_row : (b : Bool) (p q : Process) → row_of p ≡ row_of q → row_of (cond b p q) ≡ row_of q
+same_row : (b : Bool) (p q : Process) → printed_row p ≡ printed_row q → printed_row (cond b p q) ≡ printed_row q
 same_row true p q e = e
 same_row false p q e = refl
 
 module _ (processes : ℕ → Process) (m p : ℕ) where
-  row_changed : (before : Process) (c : Change) → row_of (process_after_change processes m p before c) ≡ row_after_change (row_of (processes m)) m p (row_of before) c
+  row_changed : (before : Process) (c : Change) → printed_row (process_after_change processes m p before c) ≡ row_after_change (printed_row (processes m)) m p (printed_row before) c
   row_changed before (Forked pid space tid) = either_row (pid == p) (record (processes m) { space = space }) before
   row_changed before (Execed binary space) = same_row (m == p) (record before { space = space }) before refl
   row_changed before (SetIds ids) = same_row (m == p) (record before { ids = ids }) before refl
@@ -42,12 +42,12 @@ module _ (processes : ℕ → Process) (m p : ℕ) where
   row_changed before (Dying pid) = refl
   row_changed before (Renewed old new) = refl
 
-  rows_changed : (before : Process) (changes : List Change) → row_of (fold (process_after_change processes m p) before changes) ≡ row_after (row_of (processes m)) m p (row_of before) changes
+  rows_changed : (before : Process) (changes : List Change) → printed_row (fold (process_after_change processes m p) before changes) ≡ row_after (printed_row (processes m)) m p (printed_row before) changes
   rows_changed before [] = refl
   rows_changed before (c ∷ changes) =
-      rows_changed (process_after_change processes m p before c) changes ∙ ap (λ row. row_after (row_of (processes m)) m p row changes) (row_changed before c)
+      rows_changed (process_after_change processes m p before c) changes ∙ ap (λ row. row_after (printed_row (processes m)) m p row changes) (row_changed before c)
 
-pub row_of_changed : (processes : ℕ → Process) (m p : ℕ) (changes : List Change) → row_of (process_after processes m p changes) ≡ row_after (row_of (processes m)) m p (row_of (processes p)) changes
+pub row_of_changed : (processes : ℕ → Process) (m p : ℕ) (changes : List Change) → printed_row (process_after processes m p changes) ≡ row_after (printed_row (processes m)) m p (printed_row (processes p)) changes
 row_of_changed processes m p changes = rows_changed processes m p (processes p) changes
 
 -- changes that give no process another row leave each row as it is

@@ -152,9 +152,9 @@ a_logged_reply = refl
 abbrev asker_with_a_policy : Input
 asker_with_a_policy = record (asker (reply "/bin/cat" passwd_only ∷ [])) { policies = policy "/bin/cat" (logged (granting (Some 7) None (reads_only "/etc/motd")) ∷ []) ∷ [] }
 
-behind_those_read : audited asker_with_a_policy (rest ∷ []) ≡ codes "1.1 \"/bin/cat\" native-fsread filename=\"/etc/passwd\" permit#2 = 3\n"
+after_those_read : audited asker_with_a_policy (rest ∷ []) ≡ codes "1.1 \"/bin/cat\" native-fsread filename=\"/etc/passwd\" permit#2 = 3\n"
 unfolding digits
-behind_those_read = refl
+after_those_read = refl
 
 -- ---- marks
 

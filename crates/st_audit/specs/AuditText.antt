@@ -15,7 +15,7 @@ use Rattle.st_law.specs.declared.input.Input.{Input}
 use Rattle.st_law.specs.History.{looking_back}
 use Rattle.st_law.specs.Threads.{History, owner_at}
 use Rattle.st_audit.specs.declared.how.How.{How}
-use Rattle.st_audit.specs.How.{Decided, args_used, decided_in, decided_on, how_denied, how_text, how_used, is_logged, parts_of, seq_told}
+use Rattle.st_audit.specs.How.{Decided, args_used, decided_in, decided_on, how_denied, how_text, how_used, is_logged, parts_of, seq_of_decision}
 use Rattle.st_audit.specs.Rows.{Row, entered_at, row_at}
 use Rattle.st_report.specs.TraceText.{result_text}
 use Rattle.st_audit.specs.declared.entered.EnteredCall.{EnteredCall}
@@ -23,8 +23,8 @@ use Rattle.st_audit.specs.declared.entered.EnteredCall.{EnteredCall}
 -- ---- a line
 
 -- a blank, and an argument as label="text" or label[N]="text"
-abbrev pub told_arg : ArgText → List ℕ
-told_arg arg = codes " " ++ name_of_label arg.label ++ index_text arg.index ++ codes "=" ++ quoted arg.text
+abbrev pub printed_arg : ArgText → List ℕ
+printed_arg arg = codes " " ++ name_of_label arg.label ++ index_text arg.index ++ codes "=" ++ quoted arg.text
 
 -- PID.TID "POLICY" native-RULE
 abbrev pub caller_text : ℕ → ℕ → List ℕ → Rule → List ℕ
@@ -37,7 +37,7 @@ log_text false = []
 
 -- what a line says after its caller:{ ARG} HOW = RESULT[ log], and a newline
 abbrev pub ending_text : List ArgText → How → CallResult → Bool → List ℕ
-ending_text args how result log = flat_map told_arg args ++ codes " " ++ how_text how ++ codes " = " ++ result_text result ++ log_text log ++ codes "\n"
+ending_text args how result log = flat_map printed_arg args ++ codes " " ++ how_text how ++ codes " = " ++ result_text result ++ log_text log ++ codes "\n"
 
 -- the line of a call of a traced process; none for another process
 abbrev pub traced_line : Row → ℕ → ℕ → Rule → List ℕ → List ℕ
@@ -62,17 +62,17 @@ line_by i owners rows entered decided (Used t seq call regs args ids result chan
     (ending_text (args_used seq args) (how_used seq (decided_on decided seq) ids) result (is_logged (decided_on decided seq)))
 line_by i owners rows entered decided (Denied t seq errno cause) =
     denied_line i rows (owners t) t (entered t)
-    (ending_text (parts_of (decided_on decided (seq_told seq cause))) (how_denied seq cause) (Failed errno) (is_logged (decided_on decided (seq_told seq cause))))
+    (ending_text (parts_of (decided_on decided (seq_of_decision seq cause))) (how_denied seq cause) (Failed errno) (is_logged (decided_on decided (seq_of_decision seq cause))))
 line_by i owners rows entered decided _ = []
 
 -- what an entry after a history prints
-abbrev pub line_of : Input → History → Entry → List ℕ
-line_of i h e = line_by i (owner_at i h) (row_at i h) (entered_at i h) (decided_in i (looking_back i h)) e
+abbrev pub audit_line : Input → History → Entry → List ℕ
+audit_line i h e = line_by i (owner_at i h) (row_at i h) (entered_at i h) (decided_in i (looking_back i h)) e
 
 -- the audit of a history: the lines of its entries, the oldest first
 abbrev pub audit_back : Input → History → List ℕ
 audit_back i [] = []
-audit_back i (e ∷ h) = audit_back i h ++ line_of i h e
+audit_back i (e ∷ h) = audit_back i h ++ audit_line i h e
 
 -- the audit of a trace: the lines of its entries, in order
 abbrev pub audit : Input → List Entry → List ℕ
@@ -82,7 +82,7 @@ audit i trace = audit_back i (reverse trace)
 
 -- a text has another as its prefix
 abbrev pub BeginsWith : List ℕ → List ℕ → Type 0
-BeginsWith text front = (behind : List ℕ) × (text ≡ front ++ behind)
+BeginsWith text front = (following : List ℕ) × (text ≡ front ++ following)
 
 -- the audit of a longer run begins with that of the shorter one
 abbrev pub GrowsWithTheRun : Type 0

@@ -39,10 +39,10 @@ how_text (Link name) = codes "link " ++ quoted name
 -- ---- what decided on a held call
 
 -- the number of the filter that decides; 0 if none does
-abbrev pub number_of : Verdict → ℕ
-number_of (verdicts.Permit n ids) = n
-number_of (verdicts.Refuse n errno) = n
-number_of verdicts.Unmatched = 0
+abbrev pub deciding_number : Verdict → ℕ
+deciding_number (verdicts.Permit n ids) = n
+deciding_number (verdicts.Refuse n errno) = n
+deciding_number verdicts.Unmatched = 0
 
 -- the filter with a number, among those read for a policy and a rule and, after them, those of the session
 abbrev pub filter_numbered : Input → List SessionFilter → List ℕ → Rule → ℕ → Option FilterValue
@@ -69,7 +69,7 @@ decided_by i session s n = decided_with s.parts n (marks_of (filter_numbered i s
 
 -- the held call with a number, and what its filters decide now
 abbrev pub decided_in : Input → State → ℕ → Option Decided
-decided_in i st q = option_map (λ s. decided_by i st.session s (number_of (decision_in i st s))) (snapshot_in st q)
+decided_in i st q = option_map (λ s. decided_by i st.session s (deciding_number (decision_in i st s))) (snapshot_in st q)
 
 -- the held call with a number, if there is one
 abbrev pub decided_on : (ℕ → Option Decided) → Option ℕ → Option Decided
@@ -124,8 +124,8 @@ how_denied seq cause.Fault = Fault
 how_denied seq (cause.Link name) = Link (printed_name name)
 
 -- the number of the message whose copies are printed; none after a fault
-abbrev pub seq_told : Option ℕ → Cause → Option ℕ
-seq_told seq (cause.Filter n) = seq
-seq_told seq cause.NoFilter = seq
-seq_told seq cause.Fault = None
-seq_told seq (cause.Link name) = seq
+abbrev pub seq_of_decision : Option ℕ → Cause → Option ℕ
+seq_of_decision seq (cause.Filter n) = seq
+seq_of_decision seq cause.NoFilter = seq
+seq_of_decision seq cause.Fault = None
+seq_of_decision seq (cause.Link name) = seq

@@ -11,8 +11,8 @@ use Rattle.st_law.specs.Threads.{History, first_owner, owner_at}
 use Rattle.st_audit.specs.declared.entered.EnteredCall.{EnteredCall}
 use Rattle.st_audit.specs.declared.ledger.Ledger.{Ledger}
 use Rattle.st_audit.specs.AuditText.{line_by}
-use Rattle.st_audit.specs.Rows.{Row, entered_at, row_at, row_of}
-use Rattle.st_audit.specs.Told.{Answer, answer_of, decided_told}
+use Rattle.st_audit.specs.Rows.{Row, entered_at, row_at, printed_row}
+use Rattle.st_audit.specs.FromHistory.{Answer, applied_answer, decided_from_history}
 
 -- what a map has for a number, otherwise what was there at first
 abbrev pub found_or : {X : Type 0} → X → Option X → X
@@ -29,7 +29,7 @@ owner_in i owners t = found_or (first_owner i t) (get nat_cmp owners t)
 
 -- the row of a process; the map has the rows that were changed
 abbrev pub row_in : Input → BTreeMap ℕ Row → ℕ → Row
-row_in i rows p = found_or (row_of (first_process i p)) (get nat_cmp rows p)
+row_in i rows p = found_or (printed_row (first_process i p)) (get nat_cmp rows p)
 
 -- ---- the calls that threads have entered
 
@@ -47,8 +47,8 @@ entered_in entered t = get nat_cmp entered t
 -- ---- answers
 
 -- what the map has for a number
-abbrev pub answer_in : BTreeMap ℕ Answer → ℕ → Option Answer
-answer_in answers q = get nat_cmp answers q
+abbrev pub recorded_answer : BTreeMap ℕ Answer → ℕ → Option Answer
+recorded_answer answers q = get nat_cmp answers q
 
 -- ---- all of it
 
@@ -57,10 +57,10 @@ pub record IsLedger (i : Input) (ledger : Ledger) (h : History) : Type 0 where
   pub owners : (t : ℕ) → owner_in i ledger.owners t ≡ owner_at i h t
   pub rows : (p : ℕ) → row_in i ledger.rows p ≡ row_at i h p
   pub entered : (t : ℕ) → entered_in ledger.entered t ≡ entered_at i h t
-  pub answers : (q : ℕ) → answer_in ledger.answers q ≡ answer_of h q
+  pub answers : (q : ℕ) → recorded_answer ledger.answers q ≡ applied_answer h q
 
 -- what an entry prints, by a session and by a ledger
 abbrev pub kept_line : Input → List SessionFilter → Ledger → Entry → List ℕ
 kept_line i session ledger e =
     line_by i (owner_in i ledger.owners) (row_in i ledger.rows) (entered_in ledger.entered)
-    (λ q. decided_told i session (answer_in ledger.answers q)) e
+    (λ q. decided_from_history i session (recorded_answer ledger.answers q)) e

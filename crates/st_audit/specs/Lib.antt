@@ -4,4 +4,4 @@ pub mod Ledger
 pub mod PolicyText
 pub mod Recording
 pub mod Rows
-pub mod Told
+pub mod FromHistory

@@ -19,12 +19,12 @@ abbrev pub row_with : Bool → List ℕ → Row
 row_with traced policy = record { traced = traced; policy = policy }
 
 -- the row of a process
-abbrev pub row_of : Process → Row
-row_of process = row_with process.traced process.policy
+abbrev pub printed_row : Process → Row
+printed_row process = row_with process.traced process.policy
 
 -- the row of the process with a number
 abbrev pub row_at : Input → History → ℕ → Row
-row_at i h p = row_of (process_at i h p)
+row_at i h p = printed_row (process_at i h p)
 
 -- whether a change gives a process another row
 abbrev pub changes_row : Change → Bool

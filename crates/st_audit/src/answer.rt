@@ -1,6 +1,6 @@
 ghost use Rattle.std.specs.Prelude.{◌≡◌, ℕ, OnOk};
-ghost use Rattle.st_audit.specs.Ledger.{answer_in};
-ghost use Rattle.st_audit.specs.Told.{answer_after};
+ghost use Rattle.st_audit.specs.Ledger.{recorded_answer};
+ghost use Rattle.st_audit.specs.FromHistory.{answer_after};
 
 use st_base::{Seq, Shared};
 use st_calls::{Snapshot, Verdict};
@@ -17,7 +17,7 @@ pub struct Answer {
 }
 
 impl Model for Answer {
-    ghost use Rattle.st_audit.specs.Told.{Answer, answer_with};
+    ghost use Rattle.st_audit.specs.FromHistory.{Answer, answer_with};
 
     ghost Value = { Answer };
 
@@ -47,7 +47,7 @@ pub fn note_answer(
     answers: &mut BTreeMap<Seq, Answer>,
     entry: &Entry,
 ) -> Result<(), AllocError>
-    ensures { OnOk result ((q : ℕ) → answer_in answers.new q ≡ answer_after entry.now q (answer_in answers.old q)) }
+    ensures { OnOk result ((q : ℕ) → recorded_answer answers.new q ≡ answer_after entry.now q (recorded_answer answers.old q)) }
 {
     match entry {
         Entry::Answered {

@@ -5,17 +5,17 @@ ghost use Rattle.st_law.specs.Lawful.{Lawful};
 ghost use Rattle.st_law.specs.declared.input.Input.{Input};
 ghost use Rattle.st_trace.specs.declared.entry.Entry.{Entry};
 ghost use Rattle.st_audit.specs.AuditText.{GrowsWithTheRun, audit, call_line, ending_text};
-ghost use Rattle.st_audit.specs.How.{args_used, is_logged, parts_of, seq_told};
+ghost use Rattle.st_audit.specs.How.{args_used, is_logged, parts_of, seq_of_decision};
 ghost use Rattle.st_audit.specs.Ledger.{kept_line, owner_in, row_in};
 ghost use Rattle.st_audit.specs.Recording.{IsAuditOf};
-ghost use Rattle.st_audit.specs.Told.{audit_told};
+ghost use Rattle.st_audit.specs.FromHistory.{audit_from_history};
 
 use crate::entered::EnteredCall;
 use crate::how::How;
 use crate::ledger::{Decided, Ledger};
 use crate::line::{Caller, Ending, append_call_line};
 use crate::process::{owner_of, row_of};
-use crate::telling::tells_of_call;
+use crate::telling::concerns_call;
 use st_base::{Seq, Text, Tid};
 use st_calls::{ArgText, Rule};
 use st_law::Input;
@@ -55,8 +55,8 @@ fn is_logged(decided: &Option<Decided<'_>>) -> bool
 }
 
 // The number of the message whose copies are printed; `None` after a fault.
-fn seq_told(seq: Option<Seq>, cause: &Cause) -> Option<Seq>
-    ensures { result ≡ seq_told seq cause.now }
+fn seq_printed(seq: Option<Seq>, cause: &Cause) -> Option<Seq>
+    ensures { result ≡ seq_of_decision seq cause.now }
 {
     match cause {
         Cause::Fault => None,
@@ -131,7 +131,7 @@ fn append_line(
             cause,
         } => match ledger.entered.get(tid) {
             Some(called) => {
-                let decided = ledger.decided(input, session, seq_told(*seq, cause));
+                let decided = ledger.decided(input, session, seq_printed(*seq, cause));
                 let ending = Ending {
                     args: parts_of(&decided),
                     how: How::denied(alloc, *seq, cause)?,
@@ -168,7 +168,7 @@ impl AuditRecorder {
 
     /// The audit of the run whose entries were recorded.
     pub fn into_text(self) -> Text
-        ensures told { (i : Input) (trace : List Entry) → IsAuditOf self i trace → result ≡ audit_told i trace }
+        ensures printed { (i : Input) (trace : List Entry) → IsAuditOf self i trace → result ≡ audit_from_history i trace }
         ensures audit { (i : Input) (trace : List Entry) → IsAuditOf self i trace → IsStartable i → Lawful i trace → result ≡ audit i trace }
     {
         self.text
@@ -185,7 +185,7 @@ impl Recorder for AuditRecorder {
         session: &Session,
         entry: &Entry,
     ) -> Result<(), AllocError> {
-        if !tells_of_call(entry) {
+        if !concerns_call(entry) {
             return Ok(());
         }
         append_line(alloc, &mut self.text, input, session, &self.ledger, entry)?;

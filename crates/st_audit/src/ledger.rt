@@ -3,10 +3,10 @@ ghost use Rattle.st_calls.specs.declared.judged.Verdict.TheVariants.{Unmatched};
 ghost use Rattle.st_effects.specs.Changes.{owner_after};
 ghost use Rattle.st_law.specs.Threads.{History, changes_of, thread_of};
 ghost use Rattle.st_law.specs.declared.input.Input.{Input};
-ghost use Rattle.st_audit.specs.How.{decided_by, decided_on, decided_with, filter_numbered, marks_of, number_of};
-ghost use Rattle.st_audit.specs.Ledger.{IsLedger, answer_in, owner_in, row_in};
+ghost use Rattle.st_audit.specs.How.{decided_by, decided_on, decided_with, filter_numbered, marks_of, deciding_number};
+ghost use Rattle.st_audit.specs.Ledger.{IsLedger, recorded_answer, owner_in, row_in};
 ghost use Rattle.st_audit.specs.Rows.{row_after};
-ghost use Rattle.st_audit.specs.Told.{answer_with, decided_told, decision_told};
+ghost use Rattle.st_audit.specs.FromHistory.{answer_with, decided_from_history, decision_from_history};
 
 use crate::answer::{Answer, note_answer};
 use crate::entered::{EnteredCall, note_entered};
@@ -120,13 +120,13 @@ fn filter_numbered<'s>(
         return Some(filter);
     }
     // In a lawful run that filter was read, so only other traces get here.
-    let behind = u64::from(number).checked_sub(read_count(policy, copies.rule))?;
-    session_filter(session, copies.policy.get().bytes(), copies.rule, behind)
+    let following = u64::from(number).checked_sub(read_count(policy, copies.rule))?;
+    session_filter(session, copies.policy.get().bytes(), copies.rule, following)
 }
 
 // What an audit says of a held call with these copies, if no filter that was read decides.
 fn decided_by_session<'c>(input: &Input, session: &Session, copies: &'c Snapshot) -> Decided<'c>
-    ensures { result ≡ decided_by input.now session.now.filters copies.now (number_of (decision_told input.now session.now.filters (answer_with copies.now Unmatched))) }
+    ensures { result ≡ decided_by input.now session.now.filters copies.now (deciding_number (decision_from_history input.now session.now.filters (answer_with copies.now Unmatched))) }
 {
     let Some((number, filter)) = session.deciding(copies) else {
         return Decided::by(copies, 0, None);
@@ -155,7 +155,7 @@ impl Ledger {
 
     /// What an audit says of a held call under this session, if the call has this number and was answered.
     pub fn decided(&self, input: &Input, session: &Session, seq: Option<Seq>) -> Option<Decided<'_>>
-        ensures { result ≡ decided_on (λ q. decided_told input.now session.now.filters (answer_in self.now.answers q)) seq }
+        ensures { result ≡ decided_on (λ q. decided_from_history input.now session.now.filters (recorded_answer self.now.answers q)) seq }
     {
         let answer = self.answers.get(&seq?)?;
         let copies = answer.copies();

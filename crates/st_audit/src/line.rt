@@ -1,5 +1,5 @@
 ghost use Rattle.std.specs.Prelude.{◌≡◌, ◌++◌, flat_map, OnOk};
-ghost use Rattle.st_audit.specs.AuditText.{caller_text, ending_text, log_text, told_arg};
+ghost use Rattle.st_audit.specs.AuditText.{caller_text, ending_text, log_text, printed_arg};
 
 use crate::how::{How, append_how};
 use st_base::{Pid, Text, Tid};
@@ -40,8 +40,8 @@ fn append_caller(text: &mut Text, caller: &Caller<'_>) -> Result<(), AllocError>
 }
 
 // Appends a blank and an argument.
-fn append_told_arg(text: &mut Text, arg: &ArgText) -> Result<(), AllocError>
-    ensures { OnOk result (text.new ≡ text.old ++ told_arg arg.now) }
+fn append_printed_arg(text: &mut Text, arg: &ArgText) -> Result<(), AllocError>
+    ensures { OnOk result (text.new ≡ text.old ++ printed_arg arg.now) }
 {
     text.push(b' ')?;
     text.append(arg.label.word())?;
@@ -51,11 +51,11 @@ fn append_told_arg(text: &mut Text, arg: &ArgText) -> Result<(), AllocError>
 }
 
 // Appends arguments, each after a blank.
-fn append_told_args(text: &mut Text, args: &[ArgText]) -> Result<(), AllocError>
-    ensures { OnOk result (text.new ≡ text.old ++ flat_map told_arg args.now) }
+fn append_printed_args(text: &mut Text, args: &[ArgText]) -> Result<(), AllocError>
+    ensures { OnOk result (text.new ≡ text.old ++ flat_map printed_arg args.now) }
 {
     for arg in args {
-        append_told_arg(text, arg)?;
+        append_printed_arg(text, arg)?;
     }
     Ok(())
 }
@@ -70,7 +70,7 @@ fn log_word(log: bool) -> &'static [u8]
 fn append_ending(text: &mut Text, ending: &Ending<'_>) -> Result<(), AllocError>
     ensures { OnOk result (text.new ≡ text.old ++ ending_text ending.now.args.now ending.now.how ending.now.outcome ending.now.log) }
 {
-    append_told_args(text, ending.args)?;
+    append_printed_args(text, ending.args)?;
     text.push(b' ')?;
     append_how(text, &ending.how)?;
     text.append(b" = ")?;

@@ -5,7 +5,7 @@ ghost use Rattle.st_effects.specs.Changes.{owner_after, owner_after_change};
 ghost use Rattle.st_law.specs.Processes.{first_process};
 ghost use Rattle.st_law.specs.Threads.{first_owner};
 ghost use Rattle.st_audit.specs.Ledger.{owner_in, row_in};
-ghost use Rattle.st_audit.specs.Rows.{changes_row, row_after, row_after_change, row_of};
+ghost use Rattle.st_audit.specs.Rows.{changes_row, row_after, row_after_change, printed_row};
 
 use st_base::{Pid, Text, Tid};
 use st_law::Input;
@@ -102,7 +102,7 @@ fn first_owner(input: &Input, tid: Tid) -> Pid
 
 // The row of a process before the first entry.
 fn first_row(input: &Input, pid: Pid) -> Row<'_>
-    ensures { result ≡ row_of (first_process input.now pid) }
+    ensures { result ≡ printed_row (first_process input.now pid) }
 {
     match item_at_number(input.start.processes.as_slice(), pid) {
         Some(row) => Row {

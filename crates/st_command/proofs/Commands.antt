@@ -7,8 +7,8 @@ use Rattle.std.specs.List.{list_all}
 use Rattle.std.specs.Str.{bytes_eq}
 use Rattle.st_command.specs.Words.{Word, has_dash}
 use Rattle.st_command.specs.Given.{GivenOption, PolicyFile, ModeIs, Inherits, Unaliased, IdsAre, WorkersAre, PrintIs, all_spelled, AreWithin, count_of, options_in}
-use Rattle.st_command.specs.Command.{CheckWords, step_of, single_kinds, may_be_given, step_with, step_in, check_with, check_in}
-use Rattle.st_command.specs.Grammar.{MayBeGiven, SpellsStep, ids_spelled, IdsFit, maybe_word, MayBeOperand, SpellsCheck, Spells}
+use Rattle.st_command.specs.Command.{CheckWords, step_words, single_kinds, may_be_given, step_with, step_in, check_with, check_in}
+use Rattle.st_command.specs.Grammar.{MayBeGiven, SpellsStep, ids_spelled, IdsFit, maybe_word, MayBeOperand, SpellsCheck, SpellsCommand}
 use Rattle.st_command.specs.Reading.{command_in}
 use Rattle.st_command.specs.declared.command.Command.{Command}
 use Rattle.st_command.specs.declared.command.Command.TheVariants as command
@@ -65,10 +65,10 @@ to_may given may =
 and_three : (a b c : Bool) → a ≡ false → b ≡ false → c ≡ true → (not a && (not b && c)) ≡ true
 and_three a b c x y z = rw (x, y, z) refl
 
-step_read : (given : List GivenOption) (script schedule : Word) → AreWithin given → MayBeGiven given → has_dash script ≡ false → has_dash schedule ≡ false → command_in (codes "step" ∷ (all_spelled given ++ script ∷ schedule ∷ [])) ≡ Some (command.Step (step_of given script schedule))
+step_read : (given : List GivenOption) (script schedule : Word) → AreWithin given → MayBeGiven given → has_dash script ≡ false → has_dash schedule ≡ false → command_in (codes "step" ∷ (all_spelled given ++ script ∷ schedule ∷ [])) ≡ Some (command.Step (step_words given script schedule))
 step_read given script schedule within may one two =
     ap (λ taken. option_map command.Step (step_in taken)) (all_options given script (schedule ∷ []) within one) ∙
-    ap (λ (b : Bool). option_map command.Step (if b then Some (step_of given script schedule) else None)) (and_three (has_dash script) (has_dash schedule) (may_be_given given) one two (may_from given may))
+    ap (λ (b : Bool). option_map command.Step (if b then Some (step_words given script schedule) else None)) (and_three (has_dash script) (has_dash schedule) (may_be_given given) one two (may_from given may))
 
 ids_given : Option (ℕ × ℕ) → List GivenOption
 ids_given None = []
@@ -87,7 +87,7 @@ check_read None policy script fit one two =
 check_read (Some ids) policy script fit one two =
     ap (λ taken. option_map command.Check (check_in taken)) (all_options (IdsAre ids.0 ids.1 ∷ []) policy (maybe_word script) (fit, tt) one) ∙ ap (option_map command.Check) (with_read (Some ids) policy script one two)
 
-read_of_spelled : (words : List Word) (c : Command) → Spells words c → command_in words ≡ Some c
+read_of_spelled : (words : List Word) (c : Command) → SpellsCommand words c → command_in words ≡ Some c
 read_of_spelled words (command.Step step) is =
     ap command_in is.words_are ∙ step_read is.given step.script step.schedule is.within is.together is.script is.schedule ∙ ap (λ s. Some (command.Step s)) (sym is.asked)
 read_of_spelled words (command.Check check) is =
@@ -107,7 +107,7 @@ step_spelled : (given : List GivenOption) (rest words : List Word) → words ≡
 step_spelled given [] words are within = tt
 step_spelled given (a ∷ []) words are within = tt
 step_spelled given (script ∷ schedule ∷ []) words are within =
-    if_some (SpellsStep (codes "step" ∷ words)) (not (has_dash script) && (not (has_dash schedule) && may_be_given given)) (Some (step_of given script schedule)) (λ all.
+    if_some (SpellsStep (codes "step" ∷ words)) (not (has_dash script) && (not (has_dash schedule) && may_be_given given)) (Some (step_words given script schedule)) (λ all.
     let p : ((not (has_dash script) ≡ true) × ((not (has_dash schedule) && may_be_given given) ≡ true)) = and_parts (not (has_dash script)) (not (has_dash schedule) && may_be_given given) all in
     let q : ((not (has_dash schedule) ≡ true) × (may_be_given given ≡ true)) = and_parts (not (has_dash schedule)) (may_be_given given) p.1 in
     record {
@@ -146,16 +146,16 @@ check_spelled (a ∷ b ∷ given) rest words are within = tt
 named : (name known : Word) (words : List Word) (P : List Word → Type 0) → bytes_eq name known ≡ true → P (known ∷ words) → P (name ∷ words)
 named name known words P same p = subst (λ w. P (w ∷ words)) (sym ((bytes_eq-Decides name known).0 same)) p
 
-pub read_is_spelled : (words : List Word) → IfSome (command_in words) (Spells words)
+pub read_is_spelled : (words : List Word) → IfSome (command_in words) (SpellsCommand words)
 read_is_spelled [] = tt
 read_is_spelled (name ∷ words) =
     let taken = options_in words in
     let were : WereTaken words taken = options_were_taken words in
-    let P = Spells (name ∷ words) in
+    let P = SpellsCommand (name ∷ words) in
     pick P (bytes_eq name (codes "check")) _ _ (λ same. if_mapped command.Check (SpellsCheck (codes "check" ∷ words)) P (check_in taken)
     (λ check is. named name (codes "check") words (λ ws. SpellsCheck ws check) same is) (check_spelled taken.given taken.rest words were.words_are were.within)) (
     pick P (bytes_eq name (codes "step")) _ _ (λ same. if_mapped command.Step (SpellsStep (codes "step" ∷ words)) P (step_in taken)
     (λ step is. named name (codes "step") words (λ ws. SpellsStep ws step) same is) (step_spelled taken.given taken.rest words were.words_are were.within)) tt)
 
-pub spelled_exactly : (words : List Word) (c : Command) → (Spells words c → command_in words ≡ Some c) × (command_in words ≡ Some c → Spells words c)
-spelled_exactly words c = (read_of_spelled words c, λ is. subst (λ o. IfSome o (Spells words)) is (read_is_spelled words))
+pub spelled_exactly : (words : List Word) (c : Command) → (SpellsCommand words c → command_in words ≡ Some c) × (command_in words ≡ Some c → SpellsCommand words c)
+spelled_exactly words c = (read_of_spelled words c, λ is. subst (λ o. IfSome o (SpellsCommand words)) is (read_is_spelled words))

@@ -5,7 +5,7 @@ use Rattle.std.specs.Prelude.{IfSome}
 use Rattle.st_command.specs.Words.{Word}
 use Rattle.st_command.specs.Given.{GivenOption, PolicyFile, ModeIs, Inherits, Unaliased, IdsAre, WorkersAre, PrintIs, AreWithin, count_of}
 use Rattle.st_command.specs.Command.{policies_of, workers_of}
-use Rattle.st_command.specs.Grammar.{Spells}
+use Rattle.st_command.specs.Grammar.{SpellsCommand}
 use Rattle.st_command.specs.Reading.{command_in, IsWithinLimits}
 use Rattle.st_command.specs.declared.command.Command.{Command}
 use Rattle.st_command.specs.declared.command.Command.TheVariants as command
@@ -32,7 +32,7 @@ workers_within (IdsAre uid gid ∷ given) within = workers_within given within.1
 workers_within (WorkersAre count ∷ given) within = within.0
 workers_within (PrintIs print ∷ given) within = workers_within given within.1
 
-spelled_within : (words : List Word) (c : Command) → Spells words c → IsWithinLimits c
+spelled_within : (words : List Word) (c : Command) → SpellsCommand words c → IsWithinLimits c
 spelled_within words (command.Step step) is =
     let count = policies_counted is.given in
     let workers = workers_within is.given is.within in
@@ -45,4 +45,4 @@ weaken P Q None f p = tt
 
 pub limits_kept : (words : List Word) (found : Option Command) → found ≡ command_in words → IfSome found IsWithinLimits
 limits_kept words found is =
-    subst (λ o. IfSome o IsWithinLimits) (sym is) (weaken (Spells words) IsWithinLimits (command_in words) (spelled_within words) (read_is_spelled words))
+    subst (λ o. IfSome o IsWithinLimits) (sym is) (weaken (SpellsCommand words) IsWithinLimits (command_in words) (spelled_within words) (read_is_spelled words))

@@ -7,12 +7,12 @@ use Rattle.std.specs.Str.{bytes_eq}
 use Rattle.st_law.specs.declared.input.Mode.{Mode}
 use Rattle.st_law.specs.declared.input.Mode.TheVariants.{Enforce, Learn, AskText}
 use Rattle.st_command.specs.Words.{Word, has_dash, ids_in, workers_in}
-use Rattle.st_command.specs.Given.{GivenOption, PolicyFile, ModeIs, Inherits, Unaliased, IdsAre, WorkersAre, PrintIs, mode_word, print_word, spelled, all_spelled, IsWithin, AreWithin, alone, print_in, valued, Taken, with_option, none_taken, options_in, next_option}
+use Rattle.st_command.specs.Given.{GivenOption, PolicyFile, ModeIs, Inherits, Unaliased, IdsAre, WorkersAre, PrintIs, mode_word, print_word, option_words, all_spelled, IsOptionWithin, AreWithin, alone, print_in, valued, TakenOptions, with_option, none_taken, options_in, next_option}
 use Rattle.st_command.specs.declared.given.Print.{Print}
 use Rattle.st_command.specs.declared.given.Print.TheVariants.{Audit, Trace, Schedule, Policy}
 use Rattle.st_command.proofs.Numbers.{AreIds, ids_in-decimal, ids_in-sound, AreWorkers, workers_in-decimal, workers_in-sound}
 
--- ---- what is spelled is read
+-- ---- what is option_words is read
 
 pub print_in-word : (print : Print) → print_in (print_word print) ≡ Some print
 print_in-word Audit = refl
@@ -21,7 +21,7 @@ print_in-word Schedule = refl
 print_in-word Policy = refl
 
 -- what is taken from two words on, by the option that the first is alone and the option that both are
-abbrev from_two : Word → Word → List Word → Option GivenOption → Option GivenOption → Taken
+abbrev from_two : Word → Word → List Word → Option GivenOption → Option GivenOption → TakenOptions
 from_two word value words o p =
     elim o [
       | Some option ↦ with_option option (options_in (value ∷ words))
@@ -32,7 +32,7 @@ from_two word value words o p =
     ]
 
 -- what is taken from the last word, by the option that it is alone
-abbrev from_one_word : Word → Option GivenOption → Taken
+abbrev from_one_word : Word → Option GivenOption → TakenOptions
 from_one_word word o = elim o [ Some option ↦ with_option option (none_taken []) | None ↦ none_taken (word ∷ []) ]
 
 -- one more word after an option without a value
@@ -49,7 +49,7 @@ mode_alone Learn = refl
 mode_alone AskText = refl
 
 -- an option is read from its words
-spelled_first : (option : GivenOption) (words : List Word) → IsWithin option → options_in (spelled option ++ words) ≡ with_option option (options_in words)
+spelled_first : (option : GivenOption) (words : List Word) → IsOptionWithin option → options_in (option_words option ++ words) ≡ with_option option (options_in words)
 spelled_first (PolicyFile name) words within = valued_more (codes "-f") name words (PolicyFile name) refl refl
 spelled_first (ModeIs mode) words within = alone_more (mode_word mode) words (ModeIs mode) (mode_alone mode)
 spelled_first Inherits words within = alone_more (codes "-i") words Inherits refl
@@ -62,14 +62,14 @@ spelled_first (PrintIs print) words within =
     valued_more (codes "--print") (print_word print) words (PrintIs print) refl (ap (option_map PrintIs) (print_in-word print))
 
 -- options added before what is taken
-abbrev pub with_options : List GivenOption → Taken → Taken
+abbrev pub with_options : List GivenOption → TakenOptions → TakenOptions
 with_options given taken = record { given = given ++ taken.given; rest = taken.rest }
 
 -- options are read from their words
 pub all_spelled_first : (given : List GivenOption) (words : List Word) → AreWithin given → options_in (all_spelled given ++ words) ≡ with_options given (options_in words)
 all_spelled_first [] words within = refl
 all_spelled_first (option ∷ given) words within =
-    ap options_in (append_assoc (spelled option) (all_spelled given) words) ∙
+    ap options_in (append_assoc (option_words option) (all_spelled given) words) ∙
     spelled_first option (all_spelled given ++ words) within.0 ∙
     ap (with_option option) (all_spelled_first given words within.1)
 
@@ -101,13 +101,13 @@ no_option_first word (value ∷ words) h =
 pub all_options : (given : List GivenOption) (word : Word) (words : List Word) → AreWithin given → has_dash word ≡ false → options_in (all_spelled given ++ word ∷ words) ≡ record { given = given; rest = word ∷ words }
 all_options given word words within h =
     all_spelled_first given (word ∷ words) within ∙ ap (with_options given) (no_option_first word words h) ∙
-    ap (λ (options : List GivenOption). let taken : Taken = record { given = options; rest = word ∷ words } in taken) (append_nil given)
+    ap (λ (options : List GivenOption). let taken : TakenOptions = record { given = options; rest = word ∷ words } in taken) (append_nil given)
 
--- ---- what is read was spelled
+-- ---- what is read was option_words
 
 -- an option is within its bounds, and these are its words
 abbrev IsSpelled : List Word → GivenOption → Type 0
-IsSpelled words option = (spelled option ≡ words) × IsWithin option
+IsSpelled words option = (option_words option ≡ words) × IsOptionWithin option
 
 pub pick : {A : Type 0} (P : A → Type 0) (b : Bool) (x y : Option A) → (b ≡ true → IfSome x P) → IfSome y P → IfSome (if b then x else y) P
 pick P true x y f p = f refl
@@ -152,15 +152,15 @@ valued_sound word value =
     (λ print is. (two (codes "--print") word _ value (same_word word (codes "--print") same) is, tt)) (print_sound value)) tt)))
 
 -- words are those of the options that were taken, followed by the rest
-pub record WereTaken (words : List Word) (taken : Taken) : Type 0 where
+pub record WereTaken (words : List Word) (taken : TakenOptions) : Type 0 where
   pub words_are : words ≡ all_spelled taken.given ++ taken.rest
   pub within : AreWithin taken.given
 
-taken_more : (option : GivenOption) (front words : List Word) (taken : Taken) → IsSpelled front option → WereTaken words taken → WereTaken (front ++ words) (with_option option taken)
+taken_more : (option : GivenOption) (front words : List Word) (taken : TakenOptions) → IsSpelled front option → WereTaken words taken → WereTaken (front ++ words) (with_option option taken)
 taken_more option front words taken is before = record {
   words_are =
-      ap (λ f. f ++ words) (sym is.0) ∙ ap (λ ws. spelled option ++ ws) before.words_are ∙
-      sym (append_assoc (spelled option) (all_spelled taken.given) taken.rest);
+      ap (λ f. f ++ words) (sym is.0) ∙ ap (λ ws. option_words option ++ ws) before.words_are ∙
+      sym (append_assoc (option_words option) (all_spelled taken.given) taken.rest);
   within = (is.1, before.within);
 }
 
@@ -171,7 +171,7 @@ by_alone : (word : Word) (o : Option GivenOption) → IfSome o (IsSpelled (word 
 by_alone word (Some option) is = taken_more option (word ∷ []) [] (none_taken []) is (none_were_taken [])
 by_alone word None is = none_were_taken (word ∷ [])
 
-by_both : (word value : Word) (words : List Word) (o p : Option GivenOption) → IfSome o (IsSpelled (word ∷ [])) → IfSome p (IsSpelled (word ∷ value ∷ [])) → (one two : Taken) → WereTaken (value ∷ words) one → WereTaken words two →
+by_both : (word value : Word) (words : List Word) (o p : Option GivenOption) → IfSome o (IsSpelled (word ∷ [])) → IfSome p (IsSpelled (word ∷ value ∷ [])) → (one two : TakenOptions) → WereTaken (value ∷ words) one → WereTaken words two →
     WereTaken (word ∷ value ∷ words) (elim o [
       | Some option ↦ with_option option one
       | None ↦ elim p [
@@ -179,9 +179,9 @@ by_both : (word value : Word) (words : List Word) (o p : Option GivenOption) →
         | None ↦ none_taken (word ∷ value ∷ words)
       ]
     ])
-by_both word value words (Some option) p is_one is_two one two behind_one behind_two = taken_more option (word ∷ []) (value ∷ words) one is_one behind_one
-by_both word value words None (Some option) is_one is_two one two behind_one behind_two = taken_more option (word ∷ value ∷ []) words two is_two behind_two
-by_both word value words None None is_one is_two one two behind_one behind_two = none_were_taken (word ∷ value ∷ words)
+by_both word value words (Some option) p is_one is_two one two after_one after_two = taken_more option (word ∷ []) (value ∷ words) one is_one after_one
+by_both word value words None (Some option) is_one is_two one two after_one after_two = taken_more option (word ∷ value ∷ []) words two is_two after_two
+by_both word value words None None is_one is_two one two after_one after_two = none_were_taken (word ∷ value ∷ words)
 
 pub options_were_taken : (words : List Word) → WereTaken words (options_in words)
 options_were_taken [] = none_were_taken []
@@ -193,15 +193,15 @@ options_were_taken (word ∷ value ∷ words) =
 -- ---- option by option
 
 -- what is taken after the first option, or nothing if there is none
-abbrev pub behind_next : Option (GivenOption × List Word) → List Word → Taken
-behind_next (Some next) words = with_option next.0 (options_in next.1)
-behind_next None words = none_taken words
+abbrev pub after_next : Option (GivenOption × List Word) → List Word → TakenOptions
+after_next (Some next) words = with_option next.0 (options_in next.1)
+after_next None words = none_taken words
 
-pub options_by_next : (words : List Word) → options_in words ≡ behind_next (next_option words) words
+pub options_by_next : (words : List Word) → options_in words ≡ after_next (next_option words) words
 options_by_next [] = refl
 options_by_next (word ∷ []) = one (alone word)
   where
-    one : (o : Option GivenOption) → elim o [ Some option ↦ with_option option (none_taken []) | None ↦ none_taken (word ∷ []) ] ≡ behind_next (option_map (λ option. (option, [])) o) (word ∷ [])
+    one : (o : Option GivenOption) → elim o [ Some option ↦ with_option option (none_taken []) | None ↦ none_taken (word ∷ []) ] ≡ after_next (option_map (λ option. (option, [])) o) (word ∷ [])
     one (Some option) = refl
     one None = refl
 options_by_next (word ∷ value ∷ words) = both (alone word) (valued word value)
@@ -213,19 +213,19 @@ options_by_next (word ∷ value ∷ words) = both (alone word) (valued word valu
             | Some option ↦ with_option option (options_in words)
             | None ↦ none_taken (word ∷ value ∷ words)
           ]
-        ] ≡ behind_next (elim o [ Some option ↦ Some (option, value ∷ words) | None ↦ option_map (λ option. (option, words)) p ]) (word ∷ value ∷ words)
+        ] ≡ after_next (elim o [ Some option ↦ Some (option, value ∷ words) | None ↦ option_map (λ option. (option, words)) p ]) (word ∷ value ∷ words)
     both (Some option) p = refl
     both None (Some option) = refl
     both None None = refl
 
-pub next_taken : (words : List Word) (option : GivenOption) (behind : List Word) → Some (option, behind) ≡ next_option words → options_in words ≡ with_option option (options_in behind)
-next_taken words option behind next = options_by_next words ∙ ap (λ o. behind_next o words) (sym next)
+pub next_taken : (words : List Word) (option : GivenOption) (following : List Word) → Some (option, following) ≡ next_option words → options_in words ≡ with_option option (options_in following)
+next_taken words option following next = options_by_next words ∙ ap (λ o. after_next o words) (sym next)
 
 pub no_next_taken : (words : List Word) → None ≡ next_option words → options_in words ≡ none_taken words
-no_next_taken words next = options_by_next words ∙ ap (λ o. behind_next o words) (sym next)
+no_next_taken words next = options_by_next words ∙ ap (λ o. after_next o words) (sym next)
 
-pub one_more : (given : List GivenOption) (option : GivenOption) (taken : Taken) → with_options (given ++ option ∷ []) taken ≡ with_options given (with_option option taken)
-one_more given option taken = ap (λ (options : List GivenOption). let more : Taken = record { given = options; rest = taken.rest } in more) (append_assoc given (option ∷ []) taken.given)
+pub one_more : (given : List GivenOption) (option : GivenOption) (taken : TakenOptions) → with_options (given ++ option ∷ []) taken ≡ with_options given (with_option option taken)
+one_more given option taken = ap (λ (options : List GivenOption). let more : TakenOptions = record { given = options; rest = taken.rest } in more) (append_assoc given (option ∷ []) taken.given)
 
 pub no_more : (given : List GivenOption) (words : List Word) → with_options given (none_taken words) ≡ record { given = given; rest = words }
-no_more given words = ap (λ (options : List GivenOption). let taken : Taken = record { given = options; rest = words } in taken) (append_nil given)
+no_more given words = ap (λ (options : List GivenOption). let taken : TakenOptions = record { given = options; rest = words } in taken) (append_nil given)

@@ -5,7 +5,7 @@ use Rattle.st_law.specs.declared.input.Mode.{Mode}
 use Rattle.st_law.specs.declared.input.Mode.TheVariants.{Enforce}
 use Rattle.st_law.specs.declared.input.Options.{Options}
 use Rattle.st_command.specs.Words.{Word, has_dash}
-use Rattle.st_command.specs.Given.{GivenOption, PolicyFile, ModeIs, IdsAre, WorkersAre, PrintIs, count_of, Taken}
+use Rattle.st_command.specs.Given.{GivenOption, PolicyFile, ModeIs, IdsAre, WorkersAre, PrintIs, count_of, TakenOptions}
 use Rattle.st_command.specs.declared.given.Kind.{Kind}
 use Rattle.st_command.specs.declared.given.Kind.TheVariants as kind
 use Rattle.st_command.specs.declared.given.Print.{Print}
@@ -27,13 +27,13 @@ pub record CheckWords : Type 0 where
 
 -- ---- what options say
 
-abbrev pub policy_of : GivenOption → Option Word
-policy_of (PolicyFile name) = Some name
-policy_of _ = None
+abbrev pub option_policy : GivenOption → Option Word
+option_policy (PolicyFile name) = Some name
+option_policy _ = None
 
 abbrev pub policies_of : List GivenOption → List Word
 policies_of [] = []
-policies_of (option ∷ options) = elim (policy_of option) [ Some name ↦ name ∷ policies_of options | None ↦ policies_of options ]
+policies_of (option ∷ options) = elim (option_policy option) [ Some name ↦ name ∷ policies_of options | None ↦ policies_of options ]
 
 abbrev pub mode_of : List GivenOption → Option Mode
 mode_of [] = None
@@ -50,10 +50,10 @@ workers_of [] = None
 workers_of (WorkersAre count ∷ options) = Some count
 workers_of (_ ∷ options) = workers_of options
 
-abbrev pub print_of : List GivenOption → Option Print
-print_of [] = None
-print_of (PrintIs print ∷ options) = Some print
-print_of (_ ∷ options) = print_of options
+abbrev pub option_print : List GivenOption → Option Print
+option_print [] = None
+option_print (PrintIs print ∷ options) = Some print
+option_print (_ ∷ options) = option_print options
 
 -- the options of a run: without a mode it denies what no filter decides, and it has one worker unless an option says otherwise
 abbrev pub options_of : List GivenOption → Options
@@ -66,13 +66,13 @@ options_of given = record {
 }
 
 -- what `step` is asked to do by these options and operands; the audit is printed unless an option says otherwise
-abbrev pub step_of : List GivenOption → Word → Word → StepWords
-step_of given script schedule = record {
+abbrev pub step_words : List GivenOption → Word → Word → StepWords
+step_words given script schedule = record {
   policies = policies_of given;
   script = script;
   schedule = schedule;
   options = options_of given;
-  print = unwrap_or (print_of given) Audit;
+  print = unwrap_or (option_print given) Audit;
 }
 
 -- ---- the words after the command's name
@@ -88,11 +88,11 @@ may_be_given given = nat_le (count_of kind.Policy given) 8 && list_all (λ kind.
 -- what `step` is asked to do by the words after its options
 abbrev pub step_with : List GivenOption → List Word → Option StepWords
 step_with given (script ∷ schedule ∷ []) =
-    if not (has_dash script) && (not (has_dash schedule) && may_be_given given) then Some (step_of given script schedule) else None
+    if not (has_dash script) && (not (has_dash schedule) && may_be_given given) then Some (step_words given script schedule) else None
 step_with given _ = None
 
 -- what `step` is asked to do by its options and the words after them
-abbrev pub step_in : Taken → Option StepWords
+abbrev pub step_in : TakenOptions → Option StepWords
 step_in taken = step_with taken.given taken.rest
 
 -- the ids of `check`, which has no other option
@@ -109,7 +109,7 @@ check_with ids (policy ∷ script ∷ []) =
 check_with ids _ = None
 
 -- what `check` is asked to do by its options and the words after them
-abbrev pub check_in : Taken → Option CheckWords
+abbrev pub check_in : TakenOptions → Option CheckWords
 check_in taken = elim (check_ids taken.given) [ Some ids ↦ check_with ids taken.rest | None ↦ None ]
 
 -- the options that the script of `check` is read with: the defaults, except for the ids

@@ -19,7 +19,7 @@ pub data GivenOption : Type 0 where
   WorkersAre : ℕ → GivenOption
   PrintIs : Print → GivenOption
 
--- ---- how options are spelled
+-- ---- how options are option_words
 
 abbrev pub mode_word : Mode → Word
 mode_word Enforce = codes "-a"
@@ -33,48 +33,48 @@ print_word Schedule = codes "schedule"
 print_word Policy = codes "policy"
 
 -- the words of an option
-abbrev pub spelled : GivenOption → List Word
-spelled (PolicyFile name) = codes "-f" ∷ name ∷ []
-spelled (ModeIs mode) = mode_word mode ∷ []
-spelled Inherits = codes "-i" ∷ []
-spelled Unaliased = codes "-u" ∷ []
-spelled (IdsAre uid gid) = codes "-c" ∷ (decimal uid ++ (codes ":" ++ decimal gid)) ∷ []
-spelled (WorkersAre count) = codes "-w" ∷ decimal count ∷ []
-spelled (PrintIs print) = codes "--print" ∷ print_word print ∷ []
+abbrev pub option_words : GivenOption → List Word
+option_words (PolicyFile name) = codes "-f" ∷ name ∷ []
+option_words (ModeIs mode) = mode_word mode ∷ []
+option_words Inherits = codes "-i" ∷ []
+option_words Unaliased = codes "-u" ∷ []
+option_words (IdsAre uid gid) = codes "-c" ∷ (decimal uid ++ (codes ":" ++ decimal gid)) ∷ []
+option_words (WorkersAre count) = codes "-w" ∷ decimal count ∷ []
+option_words (PrintIs print) = codes "--print" ∷ print_word print ∷ []
 
 -- the words of options in order
 abbrev pub all_spelled : List GivenOption → List Word
 all_spelled [] = []
-all_spelled (option ∷ options) = spelled option ++ all_spelled options
+all_spelled (option ∷ options) = option_words option ++ all_spelled options
 
 -- an option's value is within its bounds
-abbrev pub IsWithin : GivenOption → Type 0
-IsWithin (IdsAre uid gid) = (uid < 2 ^ 32) × (gid < 2 ^ 32)
-IsWithin (WorkersAre count) = (1 ≤ count) × (count ≤ 8)
-IsWithin _ = Unit {0}
+abbrev pub IsOptionWithin : GivenOption → Type 0
+IsOptionWithin (IdsAre uid gid) = (uid < 2 ^ 32) × (gid < 2 ^ 32)
+IsOptionWithin (WorkersAre count) = (1 ≤ count) × (count ≤ 8)
+IsOptionWithin _ = Unit {0}
 
 -- the values of all these options are within their bounds
 abbrev pub AreWithin : List GivenOption → Type 0
 AreWithin [] = Unit {0}
-AreWithin (option ∷ options) = IsWithin option × AreWithin options
+AreWithin (option ∷ options) = IsOptionWithin option × AreWithin options
 
 -- ---- how often options are given
 
 -- whether an option is of a kind
-abbrev pub is_of : Kind → GivenOption → Bool
-is_of kind.Policy (PolicyFile name) = true
-is_of kind.Mode (ModeIs mode) = true
-is_of kind.Inherit Inherits = true
-is_of kind.Unaliased Unaliased = true
-is_of kind.Ids (IdsAre uid gid) = true
-is_of kind.Workers (WorkersAre count) = true
-is_of kind.Print (PrintIs print) = true
-is_of _ _ = false
+abbrev pub is_option_of : Kind → GivenOption → Bool
+is_option_of kind.Policy (PolicyFile name) = true
+is_option_of kind.Mode (ModeIs mode) = true
+is_option_of kind.Inherit Inherits = true
+is_option_of kind.Unaliased Unaliased = true
+is_option_of kind.Ids (IdsAre uid gid) = true
+is_option_of kind.Workers (WorkersAre count) = true
+is_option_of kind.Print (PrintIs print) = true
+is_option_of _ _ = false
 
 -- how many options of a kind there are
 abbrev pub count_of : Kind → List GivenOption → ℕ
 count_of kind [] = 0
-count_of kind (option ∷ options) = (if is_of kind option then 1 else 0) + count_of kind options
+count_of kind (option ∷ options) = (if is_option_of kind option then 1 else 0) + count_of kind options
 
 -- ---- the options at the beginning of words
 
@@ -107,18 +107,18 @@ valued word value =
     else None
 
 -- the options at the beginning of words, and the words after them
-pub record Taken : Type 0 where
+pub record TakenOptions : Type 0 where
   pub given : List GivenOption
   pub rest : List Word
 
-abbrev pub with_option : GivenOption → Taken → Taken
+abbrev pub with_option : GivenOption → TakenOptions → TakenOptions
 with_option option taken = record { given = option ∷ taken.given; rest = taken.rest }
 
-abbrev pub none_taken : List Word → Taken
+abbrev pub none_taken : List Word → TakenOptions
 none_taken words = record { given = []; rest = words }
 
 -- all options at the beginning of words, one after the other, and the words after them
-abbrev pub options_in : List Word → Taken
+abbrev pub options_in : List Word → TakenOptions
 options_in [] = none_taken []
 options_in (word ∷ []) = elim (alone word) [ Some option ↦ with_option option (none_taken []) | None ↦ none_taken (word ∷ []) ]
 options_in (word ∷ value ∷ words) =

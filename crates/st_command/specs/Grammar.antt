@@ -4,8 +4,8 @@
 --     step {OPTION} SCRIPT SCHEDULE
 use Rattle.std.specs.Prelude.{◌≡◌, ◌≢◌, ℕ, ◌<◌, ◌≤◌, ◌^◌, false, List, [], ◌∷◌, ◌++◌, codes, Option, Some, None}
 use Rattle.st_command.specs.Words.{Word, has_dash}
-use Rattle.st_command.specs.Given.{GivenOption, IdsAre, spelled, all_spelled, AreWithin, count_of}
-use Rattle.st_command.specs.Command.{StepWords, CheckWords, step_of}
+use Rattle.st_command.specs.Given.{GivenOption, IdsAre, option_words, all_spelled, AreWithin, count_of}
+use Rattle.st_command.specs.Command.{StepWords, CheckWords, step_words}
 use Rattle.st_command.specs.declared.command.Command.{Command}
 use Rattle.st_command.specs.declared.command.Command.TheVariants as command
 use Rattle.st_command.specs.declared.given.Kind.{Kind}
@@ -24,12 +24,12 @@ pub record SpellsStep (words : List Word) (step : StepWords) : Type 0 where
   pub script : has_dash step.script ≡ false
   pub schedule : has_dash step.schedule ≡ false
   pub words_are : words ≡ codes "step" ∷ (all_spelled given ++ step.script ∷ step.schedule ∷ [])
-  pub asked : step ≡ step_of given step.script step.schedule
+  pub asked : step ≡ step_words given step.script step.schedule
 
 -- the words of ids, if they are given
 abbrev pub ids_spelled : Option (ℕ × ℕ) → List Word
 ids_spelled None = []
-ids_spelled (Some ids) = spelled (IdsAre ids.0 ids.1)
+ids_spelled (Some ids) = option_words (IdsAre ids.0 ids.1)
 
 -- ids are within their bounds
 abbrev pub IdsFit : Option (ℕ × ℕ) → Type 0
@@ -53,6 +53,6 @@ pub record SpellsCheck (words : List Word) (check : CheckWords) : Type 0 where
   pub words_are : words ≡ codes "check" ∷ (ids_spelled check.ids ++ check.policy ∷ maybe_word check.script)
 
 -- words spell a command
-abbrev pub Spells : List Word → Command → Type 0
-Spells words (command.Step step) = SpellsStep words step
-Spells words (command.Check check) = SpellsCheck words check
+abbrev pub SpellsCommand : List Word → Command → Type 0
+SpellsCommand words (command.Step step) = SpellsStep words step
+SpellsCommand words (command.Check check) = SpellsCheck words check

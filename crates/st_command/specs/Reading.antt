@@ -11,8 +11,8 @@ use Rattle.st_command.specs.declared.given.Given.{Given}
 use Rattle.st_command.specs.declared.given.Given.TheVariants as given
 
 -- the command of this name that the words after the name spell
-abbrev pub command_behind : Word → List Word → Option Command
-command_behind name words =
+abbrev pub command_after : Word → List Word → Option Command
+command_after name words =
     if bytes_eq name (codes "check") then option_map command.Check (check_in (options_in words))
     else if bytes_eq name (codes "step") then option_map command.Step (step_in (options_in words))
     else None
@@ -20,7 +20,7 @@ command_behind name words =
 -- the command that words spell, if they spell one
 abbrev pub command_in : List Word → Option Command
 command_in [] = None
-command_in (name ∷ words) = command_behind name words
+command_in (name ∷ words) = command_after name words
 
 -- the limits that every command that words spell keeps to
 abbrev pub IsWithinLimits : Command → Type 0
@@ -28,15 +28,15 @@ IsWithinLimits (command.Step step) = (length step.policies ≤ 8) × (1 ≤ step
 IsWithinLimits (command.Check check) = Unit {0}
 
 -- an option of the code as its abstract value
-abbrev pub shown : Given → GivenOption
-shown (given.Policy name) = PolicyFile name.now
-shown (given.Mode mode) = ModeIs mode
-shown given.Inherit = Inherits
-shown given.Unaliased = Unaliased
-shown (given.Ids uid gid) = IdsAre uid gid
-shown (given.Workers count) = WorkersAre count
-shown (given.Print print) = PrintIs print
+abbrev pub option_value : Given → GivenOption
+option_value (given.Policy name) = PolicyFile name.now
+option_value (given.Mode mode) = ModeIs mode
+option_value given.Inherit = Inherits
+option_value given.Unaliased = Unaliased
+option_value (given.Ids uid gid) = IdsAre uid gid
+option_value (given.Workers count) = WorkersAre count
+option_value (given.Print print) = PrintIs print
 
 -- the abstract values of an option of the code and of the words after it
 abbrev pub shown_next : Given × Bor (List Word) → GivenOption × List Word
-shown_next next = (shown next.0, next.1.now)
+shown_next next = (option_value next.0, next.1.now)

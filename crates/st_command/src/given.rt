@@ -1,7 +1,7 @@
 ghost use Rattle.std.specs.Prelude.{◌≡◌, map, option_map, IfOk};
-ghost use Rattle.st_command.specs.Given.{alone, valued, print_in, is_of, count_of};
-ghost use Rattle.st_command.specs.Command.{policies_of, mode_of, ids_of, workers_of, print_of};
-ghost use Rattle.st_command.specs.Reading.{shown};
+ghost use Rattle.st_command.specs.Given.{alone, valued, print_in, is_option_of, count_of};
+ghost use Rattle.st_command.specs.Command.{policies_of, mode_of, ids_of, workers_of, option_print};
+ghost use Rattle.st_command.specs.Reading.{option_value};
 
 use crate::words::{ids_in, workers_in};
 use st_base::{Sequence, Text};
@@ -47,7 +47,7 @@ pub enum Given<'a> {
 
 /// The option that this word is without a value.
 pub(crate) fn alone<'a>(word: &[u8]) -> Option<Given<'a>>
-    ensures { option_map shown result ≡ alone word.now }
+    ensures { option_map option_value result ≡ alone word.now }
 {
     if word == b"-A".as_slice() {
         Some(Given::Mode(Mode::Learn))
@@ -82,7 +82,7 @@ fn print_in(word: &[u8]) -> Option<Print>
 
 /// The option that this word is with this value.
 pub(crate) fn valued<'a>(word: &[u8], value: &'a Text) -> Option<Given<'a>>
-    ensures { option_map shown result ≡ valued word.now value.now }
+    ensures { option_map option_value result ≡ valued word.now value.now }
 {
     if word == b"-f".as_slice() {
         Some(Given::Policy(value))
@@ -101,7 +101,7 @@ pub(crate) fn valued<'a>(word: &[u8], value: &'a Text) -> Option<Given<'a>>
 }
 
 fn is_of(kind: Kind, option: &Given<'_>) -> bool
-    ensures { result ≡ is_of kind (shown option.now) }
+    ensures { result ≡ is_option_of kind (option_value option.now) }
 {
     match option {
         Given::Policy(_) => matches!(kind, Kind::Policy),
@@ -116,7 +116,7 @@ fn is_of(kind: Kind, option: &Given<'_>) -> bool
 
 /// How many options of a kind there are.
 pub(crate) fn count_of(kind: Kind, options: &[Given<'_>]) -> usize
-    ensures { result ≡ count_of kind (map shown options.now) }
+    ensures { result ≡ count_of kind (map option_value options.now) }
 {
     let mut count = 0;
     for option in options {
@@ -132,7 +132,7 @@ pub(crate) fn policies_of<'a>(
     alloc: Global,
     options: &[Given<'a>],
 ) -> Result<Sequence<&'a Text>, AllocError>
-    ensures { IfOk result (λ names. map (λ name. name.now) names ≡ policies_of (map shown options.now)) }
+    ensures { IfOk result (λ names. map (λ name. name.now) names ≡ policies_of (map option_value options.now)) }
 {
     let mut names = Sequence::new(alloc);
     for option in options {
@@ -145,7 +145,7 @@ pub(crate) fn policies_of<'a>(
 
 /// The first mode.
 pub(crate) fn mode_of(options: &[Given<'_>]) -> Option<Mode>
-    ensures { result ≡ mode_of (map shown options.now) }
+    ensures { result ≡ mode_of (map option_value options.now) }
 {
     for option in options {
         if let Given::Mode(mode) = option {
@@ -157,7 +157,7 @@ pub(crate) fn mode_of(options: &[Given<'_>]) -> Option<Mode>
 
 /// The first ids.
 pub(crate) fn ids_of(options: &[Given<'_>]) -> Option<(u32, u32)>
-    ensures { result ≡ ids_of (map shown options.now) }
+    ensures { result ≡ ids_of (map option_value options.now) }
 {
     for option in options {
         if let Given::Ids(uid, gid) = option {
@@ -169,7 +169,7 @@ pub(crate) fn ids_of(options: &[Given<'_>]) -> Option<(u32, u32)>
 
 /// The first number of workers.
 pub(crate) fn workers_of(options: &[Given<'_>]) -> Option<u32>
-    ensures { result ≡ workers_of (map shown options.now) }
+    ensures { result ≡ workers_of (map option_value options.now) }
 {
     for option in options {
         if let Given::Workers(count) = option {
@@ -181,7 +181,7 @@ pub(crate) fn workers_of(options: &[Given<'_>]) -> Option<u32>
 
 /// What is printed, by the first option that says it.
 pub(crate) fn print_of(options: &[Given<'_>]) -> Option<Print>
-    ensures { result ≡ print_of (map shown options.now) }
+    ensures { result ≡ option_print (map option_value options.now) }
 {
     for option in options {
         if let Given::Print(print) = option {

@@ -1,7 +1,7 @@
 ghost use Rattle.std.specs.Prelude.{◌≡◌, ◌<◌, length, map, option_map, IfOk, IfSome};
 ghost use Rattle.st_command.specs.Given.{next_option, options_in};
-ghost use Rattle.st_command.specs.Command.{may_be_given, options_of, step_of, step_with, check_ids, check_with};
-ghost use Rattle.st_command.specs.Reading.{shown, shown_next, command_behind, command_in, IsWithinLimits};
+ghost use Rattle.st_command.specs.Command.{may_be_given, options_of, step_words, step_with, check_ids, check_with};
+ghost use Rattle.st_command.specs.Reading.{option_value, shown_next, command_after, command_in, IsWithinLimits};
 
 use crate::command::{CheckWords, Command, StepWords};
 use crate::given::{
@@ -20,13 +20,13 @@ fn next_option<'a>(words: &'a [Text]) -> Option<(Given<'a>, &'a [Text])>
     ensures is { option_map shown_next result ≡ next_option words.now }
     ensures shorter { IfSome result (λ next. length next.1.now < length words.now) }
 {
-    let (word, behind) = words.split_first()?;
+    let (word, following) = words.split_first()?;
     if let Some(option) = alone(word.bytes()) {
-        return Some((option, behind));
+        return Some((option, following));
     }
-    let (value, behind) = behind.split_first()?;
+    let (value, following) = following.split_first()?;
     let option = valued(word.bytes(), value)?;
-    Some((option, behind))
+    Some((option, following))
 }
 
 // The options at the beginning of words, and the words after them.
@@ -34,20 +34,20 @@ fn options_in<'a>(
     alloc: Global,
     words: &'a [Text],
 ) -> Result<(Sequence<Given<'a>>, &'a [Text]), AllocError>
-    ensures { IfOk result (λ taken. record { given = map shown taken.0; rest = taken.1.now } ≡ options_in words.now) }
+    ensures { IfOk result (λ taken. record { given = map option_value taken.0; rest = taken.1.now } ≡ options_in words.now) }
 {
     let mut given = Sequence::new(alloc);
     let mut rest = words;
-    while let Some((option, behind)) = next_option(rest) {
+    while let Some((option, following)) = next_option(rest) {
         given.push(option)?;
-        rest = behind;
+        rest = following;
     }
     Ok((given, rest))
 }
 
 // Whether options may be given together: at most eight policy files, and each other kind at most once.
 fn may_be_given(given: &[Given<'_>]) -> bool
-    ensures { result ≡ may_be_given (map shown given.now) }
+    ensures { result ≡ may_be_given (map option_value given.now) }
 {
     count_of(Kind::Policy, given) <= MOST_POLICIES
         && count_of(Kind::Mode, given) <= 1
@@ -59,7 +59,7 @@ fn may_be_given(given: &[Given<'_>]) -> bool
 }
 
 fn options_of(given: &[Given<'_>]) -> Options
-    ensures { result ≡ options_of (map shown given.now) }
+    ensures { result ≡ options_of (map option_value given.now) }
 {
     Options {
         mode: mode_of(given).unwrap_or(Mode::Enforce),
@@ -76,7 +76,7 @@ fn step_of<'a>(
     script: &'a Text,
     schedule: &'a Text,
 ) -> Result<StepWords<'a>, AllocError>
-    ensures { IfOk result (λ step. step ≡ step_of (map shown given.now) script.now schedule.now) }
+    ensures { IfOk result (λ step. step ≡ step_words (map option_value given.now) script.now schedule.now) }
 {
     Ok(StepWords {
         policies: policies_of(alloc, given)?,
@@ -93,7 +93,7 @@ fn step_with<'a>(
     given: &[Given<'a>],
     operands: &'a [Text],
 ) -> Result<Option<StepWords<'a>>, AllocError>
-    ensures { IfOk result (λ step. step ≡ step_with (map shown given.now) operands.now) }
+    ensures { IfOk result (λ step. step ≡ step_with (map option_value given.now) operands.now) }
 {
     let [script, schedule] = operands else {
         return Ok(None);
@@ -107,7 +107,7 @@ fn step_with<'a>(
 
 // The ids of `check`, which has no other option.
 fn check_ids(given: &[Given<'_>]) -> Option<Option<(u32, u32)>>
-    ensures { result ≡ check_ids (map shown given.now) }
+    ensures { result ≡ check_ids (map option_value given.now) }
 {
     match given {
         [] => Some(None),
@@ -136,12 +136,12 @@ fn check_with<'a>(ids: Option<(u32, u32)>, operands: &'a [Text]) -> Option<Check
 }
 
 // The command of this name that the words after the name spell.
-fn command_behind<'a>(
+fn command_after<'a>(
     alloc: Global,
     name: &[u8],
     words: &'a [Text],
 ) -> Result<Option<Command<'a>>, AllocError>
-    ensures { IfOk result (λ command. command ≡ command_behind name.now words.now) }
+    ensures { IfOk result (λ command. command ≡ command_after name.now words.now) }
 {
     let (given, operands) = options_in(alloc, words)?;
     if name == b"check".as_slice() {
@@ -161,7 +161,7 @@ fn command_in(alloc: Global, words: &[Text]) -> Result<Option<Command<'_>>, Allo
     ensures { IfOk result (λ command. command ≡ command_in words.now) }
 {
     match words.split_first() {
-        Some((name, behind)) => command_behind(alloc, name.bytes(), behind),
+        Some((name, following)) => command_after(alloc, name.bytes(), following),
         None => Ok(None),
     }
 }

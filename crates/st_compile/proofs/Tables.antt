@@ -19,7 +19,7 @@ use Rattle.st_filter.specs.Formula.{FilterValue}
 use Rattle.st_filter.specs.Policies.{filters_of, policy_of, read_filters}
 use Rattle.st_filter.specs.declared.set.BinaryPolicy.{BinaryPolicy}
 use Rattle.st_filter.proofs.Entries.{is_key, same_key}
-use Rattle.st_compile.specs.Table.{AnswersEntry, AreTables, BinaryAnswers, Gains, IsTableOf, answers_in, answers_of, first_answers, shown_entry, shown_table}
+use Rattle.st_compile.specs.Table.{AnswersEntry, AreTables, BinaryAnswers, Gains, IsTableOf, binary_answers, answers_of, first_answers, answers_of_entry, represented_table}
 
 -- ---- lookups
 
@@ -31,11 +31,11 @@ chosen true v o other e = refl
 chosen false v o other e = e
 
 -- what the map has for a binary
-pub answers_kept : (es : List AnswersEntry) (binary : List ℕ) → items_of (lookup (is_key binary) es) ≡ answers_in (shown_table es) binary
+pub answers_kept : (es : List AnswersEntry) (binary : List ℕ) → items_of (lookup (is_key binary) es) ≡ binary_answers (represented_table es) binary
 answers_kept [] binary = refl
 answers_kept (e ∷ es) binary =
-    chosen (bytes_eq binary e.0.items) e.1 (lookup (is_key binary) es) (answers_in (shown_table es) binary) (answers_kept es binary)
-    ∙ ap (λ b. cond b (Some e.1.items) (answers_in (shown_table es) binary)) (nat_list_eq_equiv.symm binary e.0.items)
+    chosen (bytes_eq binary e.0.items) e.1 (lookup (is_key binary) es) (binary_answers (represented_table es) binary) (answers_kept es binary)
+    ∙ ap (λ b. cond b (Some e.1.items) (binary_answers (represented_table es) binary)) (nat_list_eq_equiv.symm binary e.0.items)
 
 none_kept : (o : Option (Vec (Option FastAnswer) Global)) → is_some o ≡ false → items_of o ≡ None
 none_kept None e = refl
@@ -50,11 +50,11 @@ found_length true e v o whole later is = ap (λ (w : Vec (Option FastAnswer) Glo
 found_length false e v o whole later is = later is
 
 -- answers that are found have one for each rule
-pub lookup_length : (es : List AnswersEntry) (binary : List ℕ) (v : Vec (Option FastAnswer) Global) → AreTables (shown_table es) → lookup (is_key binary) es ≡ Some v → length v.items ≡ length every_rule
+pub lookup_length : (es : List AnswersEntry) (binary : List ℕ) (v : Vec (Option FastAnswer) Global) → AreTables (represented_table es) → lookup (is_key binary) es ≡ Some v → length v.items ≡ length every_rule
 lookup_length [] binary v whole is = cc
 lookup_length (e ∷ es) binary v whole is =
-    found_length (bytes_eq binary e.0.items) e.1 v (lookup (is_key binary) es) (All-head (λ row. length row.answers ≡ length every_rule) (shown_entry e) (shown_table es) whole)
-    (lookup_length es binary v (All-tail (λ row. length row.answers ≡ length every_rule) (shown_entry e) (shown_table es) whole)) is
+    found_length (bytes_eq binary e.0.items) e.1 v (lookup (is_key binary) es) (All-head (λ row. length row.answers ≡ length every_rule) (answers_of_entry e) (represented_table es) whole)
+    (lookup_length es binary v (All-tail (λ row. length row.answers ≡ length every_rule) (answers_of_entry e) (represented_table es) whole)) is
 
 -- ---- the answer for a rule
 
@@ -84,7 +84,7 @@ no_answers [] binary e = refl
 no_answers (policy ∷ policies) binary e =
     none_by (bytes_eq policy.binary binary) policy.filters (policy_of policies binary) (answers_of policies binary) e (no_answers policies binary)
 
-module _ (policies : List BinaryPolicy) (es : List AnswersEntry) (binary : List ℕ) (rule : Rule) (table : IsTableOf policies (shown_table es)) where
+module _ (policies : List BinaryPolicy) (es : List AnswersEntry) (binary : List ℕ) (rule : Rule) (table : IsTableOf policies (represented_table es)) where
   pub found : (v : Vec (Option FastAnswer) Global) (d : Option FastAnswer) → lookup (is_key binary) es ≡ Some v → get_or v.items (index_of_rule rule) d ≡ first_answer (read_filters policies binary rule)
   found v d e =
       let is : answers_of policies binary ≡ Some v.items = sym (table binary) ∙ sym (answers_kept es binary) ∙ ap items_of e in
@@ -98,58 +98,58 @@ module _ (policies : List BinaryPolicy) (es : List AnswersEntry) (binary : List 
 -- ---- answers that are added
 
 -- what comes after the first row still comes after it
-behind : (b : Bool) (answers : List (Option FastAnswer)) (rest more : Option (List (Option FastAnswer))) → cond b (Some answers) (option_or rest more) ≡ option_or (cond b (Some answers) rest) more
-behind true answers rest more = refl
-behind false answers rest more = refl
+following : (b : Bool) (answers : List (Option FastAnswer)) (rest more : Option (List (Option FastAnswer))) → cond b (Some answers) (option_or rest more) ≡ option_or (cond b (Some answers) rest) more
+following true answers rest more = refl
+following false answers rest more = refl
 
-gained_by : (b : Bool) (e : AnswersEntry) (es : List AnswersEntry) (key : Vec ℕ Global) (v : Vec (Option FastAnswer) Global) (other : List ℕ) → b ≡ bytes_eq e.0.items key.items → answers_in (shown_table (e ∷ es)) key.items ≡ None
-    → (answers_in (shown_table es) key.items ≡ None → answers_in (shown_table (insert_entry same_key es key v)) other ≡ option_or (answers_in (shown_table es) other) (cond (bytes_eq key.items other) (Some v.items) None))
-    → answers_in (shown_table (cond b ((e.0, v) ∷ es) (e ∷ insert_entry same_key es key v))) other ≡ option_or (answers_in (shown_table (e ∷ es)) other) (cond (bytes_eq key.items other) (Some v.items) None)
-gained_by true e es key v other is none later = absurd (clash ((λ k. cond (is k) (Some e.1.items) (answers_in (shown_table es) key.items)) ∙ none)) where
+gained_by : (b : Bool) (e : AnswersEntry) (es : List AnswersEntry) (key : Vec ℕ Global) (v : Vec (Option FastAnswer) Global) (other : List ℕ) → b ≡ bytes_eq e.0.items key.items → binary_answers (represented_table (e ∷ es)) key.items ≡ None
+    → (binary_answers (represented_table es) key.items ≡ None → binary_answers (represented_table (insert_entry same_key es key v)) other ≡ option_or (binary_answers (represented_table es) other) (cond (bytes_eq key.items other) (Some v.items) None))
+    → binary_answers (represented_table (cond b ((e.0, v) ∷ es) (e ∷ insert_entry same_key es key v))) other ≡ option_or (binary_answers (represented_table (e ∷ es)) other) (cond (bytes_eq key.items other) (Some v.items) None)
+gained_by true e es key v other is none later = absurd (clash ((λ k. cond (is k) (Some e.1.items) (binary_answers (represented_table es) key.items)) ∙ none)) where
   clash : Some e.1.items ≡ None → ⊥
   clash f = cc
 gained_by false e es key v other is none later =
-    ap (λ o. cond (bytes_eq e.0.items other) (Some e.1.items) o) (later ((λ k. cond (is k) (Some e.1.items) (answers_in (shown_table es) key.items)) ∙ none))
-    ∙ behind (bytes_eq e.0.items other) e.1.items (answers_in (shown_table es) other) (cond (bytes_eq key.items other) (Some v.items) None)
+    ap (λ o. cond (bytes_eq e.0.items other) (Some e.1.items) o) (later ((λ k. cond (is k) (Some e.1.items) (binary_answers (represented_table es) key.items)) ∙ none))
+    ∙ following (bytes_eq e.0.items other) e.1.items (binary_answers (represented_table es) other) (cond (bytes_eq key.items other) (Some v.items) None)
 
 -- a binary that has no answers yet gets some
-inserted : (es : List AnswersEntry) (key : Vec ℕ Global) (v : Vec (Option FastAnswer) Global) → answers_in (shown_table es) key.items ≡ None → Gains (shown_table es) key.items v.items (shown_table (insert_entry same_key es key v))
+inserted : (es : List AnswersEntry) (key : Vec ℕ Global) (v : Vec (Option FastAnswer) Global) → binary_answers (represented_table es) key.items ≡ None → Gains (represented_table es) key.items v.items (represented_table (insert_entry same_key es key v))
 inserted [] key v none other = refl
 inserted (e ∷ es) key v none other =
     gained_by (bytes_eq key.items e.0.items) e es key v other (nat_list_eq_equiv.symm key.items e.0.items) none (λ more. inserted es key v more other)
 
 pub gains : (es : List AnswersEntry) (key : Vec ℕ Global) (v : Vec (Option FastAnswer) Global) (binary : List ℕ) (answers : List (Option FastAnswer)) → is_some (lookup (is_key binary) es) ≡ false → key.items ≡ binary → v.items ≡ answers
-    → Gains (shown_table es) binary answers (shown_table (insert_entry same_key es key v))
+    → Gains (represented_table es) binary answers (represented_table (insert_entry same_key es key v))
 gains es key v binary answers none key_is answers_are other =
-    inserted es key v (ap (answers_in (shown_table es)) key_is ∙ sym (answers_kept es binary) ∙ none_kept (lookup (is_key binary) es) none) other
-    ∙ (λ k. option_or (answers_in (shown_table es) other) (cond (bytes_eq (key_is k) other) (Some (answers_are k)) None))
+    inserted es key v (ap (binary_answers (represented_table es)) key_is ∙ sym (answers_kept es binary) ∙ none_kept (lookup (is_key binary) es) none) other
+    ∙ (λ k. option_or (binary_answers (represented_table es) other) (cond (bytes_eq (key_is k) other) (Some (answers_are k)) None))
 
 -- a binary that has answers keeps them
-had_by : (rows : List BinaryAnswers) (binary other : List ℕ) (own answers : List (Option FastAnswer)) → answers_in rows binary ≡ Some own → (b : Bool) → bytes_eq binary other ≡ b
-    → answers_in rows other ≡ option_or (answers_in rows other) (cond b (Some answers) None)
+had_by : (rows : List BinaryAnswers) (binary other : List ℕ) (own answers : List (Option FastAnswer)) → binary_answers rows binary ≡ Some own → (b : Bool) → bytes_eq binary other ≡ b
+    → binary_answers rows other ≡ option_or (binary_answers rows other) (cond b (Some answers) None)
 had_by rows binary other own answers is true same =
-    let there : answers_in rows other ≡ Some own = ap (answers_in rows) (sym ((bytes_eq-Decides binary other).0 same)) ∙ is in
+    let there : binary_answers rows other ≡ Some own = ap (binary_answers rows) (sym ((bytes_eq-Decides binary other).0 same)) ∙ is in
     there ∙ ap (λ o. option_or o (Some answers)) (sym there)
-had_by rows binary other own answers is false same = by (answers_in rows other) where
+had_by rows binary other own answers is false same = by (binary_answers rows other) where
   by : (o : Option (List (Option FastAnswer))) → o ≡ option_or o None
   by None = refl
   by (Some xs) = refl
 
-pub had : (es : List AnswersEntry) (binary : List ℕ) (answers : List (Option FastAnswer)) → is_some (lookup (is_key binary) es) ≡ true → Gains (shown_table es) binary answers (shown_table es)
+pub had : (es : List AnswersEntry) (binary : List ℕ) (answers : List (Option FastAnswer)) → is_some (lookup (is_key binary) es) ≡ true → Gains (represented_table es) binary answers (represented_table es)
 had es binary answers some other =
     let own : (xs : List (Option FastAnswer)) × (items_of (lookup (is_key binary) es) ≡ Some xs) = some_kept (lookup (is_key binary) es) some in
-    had_by (shown_table es) binary other own.0 answers (sym (answers_kept es binary) ∙ own.1) (bytes_eq binary other) refl
+    had_by (represented_table es) binary other own.0 answers (sym (answers_kept es binary) ∙ own.1) (bytes_eq binary other) refl
 
 -- each binary still has an answer for each rule
-whole_by : (b : Bool) (e : AnswersEntry) (es : List AnswersEntry) (key : Vec ℕ Global) (v : Vec (Option FastAnswer) Global) → length v.items ≡ length every_rule → AreTables (shown_table (e ∷ es)) → AreTables (shown_table (insert_entry same_key es key v))
-    → AreTables (shown_table (cond b ((e.0, v) ∷ es) (e ∷ insert_entry same_key es key v)))
-whole_by true e es key v whole all later = All-cons (λ row. length row.answers ≡ length every_rule) (shown_entry (e.0, v)) (shown_table es) whole (All-tail (λ row. length row.answers ≡ length every_rule) (shown_entry e) (shown_table es) all)
-whole_by false e es key v whole all later = All-cons (λ row. length row.answers ≡ length every_rule) (shown_entry e) (shown_table (insert_entry same_key es key v)) (All-head (λ row. length row.answers ≡ length every_rule) (shown_entry e) (shown_table es) all) later
+whole_by : (b : Bool) (e : AnswersEntry) (es : List AnswersEntry) (key : Vec ℕ Global) (v : Vec (Option FastAnswer) Global) → length v.items ≡ length every_rule → AreTables (represented_table (e ∷ es)) → AreTables (represented_table (insert_entry same_key es key v))
+    → AreTables (represented_table (cond b ((e.0, v) ∷ es) (e ∷ insert_entry same_key es key v)))
+whole_by true e es key v whole all later = All-cons (λ row. length row.answers ≡ length every_rule) (answers_of_entry (e.0, v)) (represented_table es) whole (All-tail (λ row. length row.answers ≡ length every_rule) (answers_of_entry e) (represented_table es) all)
+whole_by false e es key v whole all later = All-cons (λ row. length row.answers ≡ length every_rule) (answers_of_entry e) (represented_table (insert_entry same_key es key v)) (All-head (λ row. length row.answers ≡ length every_rule) (answers_of_entry e) (represented_table es) all) later
 
-pub inserted_whole : (es : List AnswersEntry) (key : Vec ℕ Global) (v : Vec (Option FastAnswer) Global) → length v.items ≡ length every_rule → AreTables (shown_table es) → AreTables (shown_table (insert_entry same_key es key v))
-inserted_whole [] key v whole all = All-cons (λ row. length row.answers ≡ length every_rule) (shown_entry (key, v)) [] whole (All-nil (λ row. length row.answers ≡ length every_rule))
+pub inserted_whole : (es : List AnswersEntry) (key : Vec ℕ Global) (v : Vec (Option FastAnswer) Global) → length v.items ≡ length every_rule → AreTables (represented_table es) → AreTables (represented_table (insert_entry same_key es key v))
+inserted_whole [] key v whole all = All-cons (λ row. length row.answers ≡ length every_rule) (answers_of_entry (key, v)) [] whole (All-nil (λ row. length row.answers ≡ length every_rule))
 inserted_whole (e ∷ es) key v whole all =
-    whole_by (bytes_eq key.items e.0.items) e es key v whole all (inserted_whole es key v whole (All-tail (λ row. length row.answers ≡ length every_rule) (shown_entry e) (shown_table es) all))
+    whole_by (bytes_eq key.items e.0.items) e es key v whole all (inserted_whole es key v whole (All-tail (λ row. length row.answers ≡ length every_rule) (answers_of_entry e) (represented_table es) all))
 
 -- ---- one policy after the other
 
@@ -160,7 +160,7 @@ next_of (policy ∷ policies) zero binary filters is are other =
     λ k. cond (bytes_eq (same_Some policy.binary binary is k) other) (Some (first_answers (same_Some policy.filters filters are k))) None
 next_of (policy ∷ policies) (suc i) binary filters is are other =
     ap (λ o. cond (bytes_eq policy.binary other) (Some (first_answers policy.filters)) o) (next_of policies i binary filters is are other)
-    ∙ behind (bytes_eq policy.binary other) (first_answers policy.filters) (answers_of (take i policies) other) (cond (bytes_eq binary other) (Some (first_answers filters)) None)
+    ∙ following (bytes_eq policy.binary other) (first_answers policy.filters) (answers_of (take i policies) other) (cond (bytes_eq binary other) (Some (first_answers filters)) None)
 
 -- if rows gain the answers under the next policy, they are the table of one more policy
 pub table_next : (policies : List BinaryPolicy) (i : ℕ) (binary : List ℕ) (filters : List FilterValue) (old new : List BinaryAnswers) → option_map (λ (p : BinaryPolicy). p.binary) (slice_get policies i) ≡ Some binary → option_map (λ (p : BinaryPolicy). p.filters) (slice_get policies i) ≡ Some filters

@@ -21,9 +21,9 @@ abbrev pub first_answers : List FilterValue → List (Option FastAnswer)
 first_answers filters = map (λ rule. first_answer (filters_of rule filters)) every_rule
 
 -- the answers in the first row of a binary
-abbrev pub answers_in : List BinaryAnswers → List ℕ → Option (List (Option FastAnswer))
-answers_in [] binary = None
-answers_in (row ∷ rows) binary = if bytes_eq row.binary binary then Some row.answers else answers_in rows binary
+abbrev pub binary_answers : List BinaryAnswers → List ℕ → Option (List (Option FastAnswer))
+binary_answers [] binary = None
+binary_answers (row ∷ rows) binary = if bytes_eq row.binary binary then Some row.answers else binary_answers rows binary
 
 -- the answers under the first policy of a binary
 abbrev pub answers_of : List BinaryPolicy → List ℕ → Option (List (Option FastAnswer))
@@ -33,11 +33,11 @@ answers_of (policy ∷ policies) binary = if bytes_eq policy.binary binary then 
 -- the new rows also have these answers for a binary, unless it had some
 abbrev pub Gains : List BinaryAnswers → List ℕ → List (Option FastAnswer) → List BinaryAnswers → Type 0
 Gains old binary answers new =
-    (other : List ℕ) → answers_in new other ≡ option_or (answers_in old other) (if bytes_eq binary other then Some answers else None)
+    (other : List ℕ) → binary_answers new other ≡ option_or (binary_answers old other) (if bytes_eq binary other then Some answers else None)
 
 -- the rows have, for each binary, the answers under its policy
 abbrev pub IsTableOf : List BinaryPolicy → List BinaryAnswers → Type 0
-IsTableOf policies rows = (binary : List ℕ) → answers_in rows binary ≡ answers_of policies binary
+IsTableOf policies rows = (binary : List ℕ) → binary_answers rows binary ≡ answers_of policies binary
 
 -- ---- the table as it is stored
 
@@ -46,12 +46,12 @@ abbrev pub AnswersEntry : Type 0
 AnswersEntry = Vec ℕ Global × Vec (Option FastAnswer) Global
 
 -- the row that an entry of the map represents
-abbrev pub shown_entry : AnswersEntry → BinaryAnswers
-shown_entry e = record { binary = e.0.items; answers = e.1.items }
+abbrev pub answers_of_entry : AnswersEntry → BinaryAnswers
+answers_of_entry e = record { binary = e.0.items; answers = e.1.items }
 
 -- the rows that the map represents, in its order
-abbrev pub shown_table : List AnswersEntry → List BinaryAnswers
-shown_table entries = map shown_entry entries
+abbrev pub represented_table : List AnswersEntry → List BinaryAnswers
+represented_table entries = map answers_of_entry entries
 
 -- each binary has an answer for each rule
 abbrev pub AreTables : List BinaryAnswers → Type 0

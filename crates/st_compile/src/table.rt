@@ -22,13 +22,13 @@ pub struct FastTable {
 
 impl Model for FastTable {
     ghost use Rattle.std.specs.Prelude.{List};
-    ghost use Rattle.st_compile.specs.Table.{shown_table, AreTables, BinaryAnswers};
+    ghost use Rattle.st_compile.specs.Table.{represented_table, AreTables, BinaryAnswers};
 
     ghost Value = { List BinaryAnswers };
 
-    ghost view = { λ t. shown_table t.tables.entries };
+    ghost view = { λ t. represented_table t.tables.entries };
 
-    ghost invariant = { λ t. AreTables (shown_table t.tables.entries) };
+    ghost invariant = { λ t. AreTables (represented_table t.tables.entries) };
 }
 
 // The answers under the filters of one binary.

@@ -137,9 +137,9 @@ read_goes_on : (made (after_calls world ((Read, [], 1 ∷ 8 ∷ 1 ∷ []) ∷ []
     ≡ (Put 6 8 (codes "c") ∷ []) ∷ [] ∷ [] ∷ []
 read_goes_on = refl
 
-read_behind_the_end :
+read_after_the_end :
     (after_calls world ((Lseek, [], 1 ∷ 100 ∷ 0 ∷ []) ∷ (Read, [], 1 ∷ 8 ∷ 9 ∷ []) ∷ [])).descriptors ≡ reader_at 100
-read_behind_the_end = refl
+read_after_the_end = refl
 
 -- the reasons: not open, or not open for writing; a socket; a buffer outside memory; no room
 write_refusals : results Write (

@@ -45,10 +45,10 @@ name_ends : spell kind.Name 8 (0 ∷ []) ∷
     Text [] ∷ Text (codes "ab") ∷ Text (codes "1234567") ∷ Text [] ∷ []
 name_ends = refl
 
-name_goes_on_behind_memory : spell kind.Name 65528 (words_of 1 (codes "12345678")) ∷ spell kind.Name 65535 (words_of 1 (codes "12345678")) ∷
+name_goes_on_after_memory : spell kind.Name 65528 (words_of 1 (codes "12345678")) ∷ spell kind.Name 65535 (words_of 1 (codes "12345678")) ∷
     spell kind.Name 65520 (words_of 1 (codes "12345678")) ∷ [] ≡
     Fault EFAULT ∷ Fault EFAULT ∷ More 8191 ∷ []
-name_goes_on_behind_memory = refl
+name_goes_on_after_memory = refl
 
 -- a name has up to 1,024 bytes, from whichever byte of a word
 name_of_1024_bytes : map (spelled_from kind.Name (replicate 1024 97)) eight ≡ replicate 8 (Text (replicate 1024 97))

@@ -1,7 +1,7 @@
 -- The descriptors of a process at its start and at its end.
 use Rattle.std.proofs.Common.{◌≡◌, true, false, [], ◌∷◌, ◌++◌, Some, None, refl, replicate}
 use Rattle.st_model.specs.Descriptors.{Table}
-use Rattle.st_model.specs.DescriptorCalls.{table_after_start, table_after_copy, table_after_uncopy, table_after_close_all}
+use Rattle.st_model.specs.DescriptorCalls.{table_after_start, table_after_copy, table_after_entry_removed, table_after_close_all}
 use Rattle.st_model.specs.declared.open_file.FileKind.TheVariants as file
 use Rattle.st_effects.proofs.World.{descriptors}
 use Rattle.st_effects.proofs.Outcomes.{file_for, table_with}
@@ -28,5 +28,5 @@ process_that_ends : table_after_close_all descriptors 1 ≡ table_with (replicat
 process_that_ends = refl
 
 -- a fork that is undone leaves the table as it was before
-fork_that_is_taken_back : table_after_uncopy (table_after_copy descriptors 1 5) 5 ≡ descriptors
+fork_that_is_taken_back : table_after_entry_removed (table_after_copy descriptors 1 5) 5 ≡ descriptors
 fork_that_is_taken_back = refl

@@ -48,9 +48,9 @@ no_looks : map (λ text. stats text []) (
     means (codes "/w") ∷ means (codes "/") ∷ means (codes "/") ∷ means (codes "/") ∷ means (codes "/") ∷ []
 no_looks = refl
 
-looks_behind_two_dots : map (λ text. stats text []) (codes "../a" ∷ codes ".././../a" ∷ codes "/../a" ∷ codes "../../../a" ∷ []) ≡
+looks_after_two_dots : map (λ text. stats text []) (codes "../a" ∷ codes ".././../a" ∷ codes "/../a" ∷ codes "../../../a" ∷ []) ≡
     looks (codes "/w/a") ∷ looks (codes "/a") ∷ looks (codes "/a") ∷ looks (codes "/a") ∷ []
-looks_behind_two_dots = refl
+looks_after_two_dots = refl
 
 -- after a directory the next component is looked up; a component that isn't last has to be a directory
 components_in_order : map (λ lookups. stats (codes "/a/b") lookups) (
@@ -99,12 +99,12 @@ targets_that_end : map (λ target. stats (codes "/a/b") (Dir ∷ Link target ∷
     means (codes "/a") ∷ means (codes "/") ∷ means (codes "/") ∷ means (codes "/") ∷ []
 targets_that_end = refl
 
-behind_a_link : map (λ lookups. stats (codes "/a/b") (Link (codes "/e/f") ∷ lookups)) (
+after_a_link : map (λ lookups. stats (codes "/a/b") (Link (codes "/e/f") ∷ lookups)) (
     [] ∷ (Dir ∷ []) ∷ (Dir ∷ Dir ∷ []) ∷ (Dir ∷ Dir ∷ Missing ∷ []) ∷ (Missing ∷ []) ∷ (Dir ∷ Missing ∷ []) ∷ (Dir ∷ File ∷ []) ∷
     (Dir ∷ Link (codes "g") ∷ []) ∷ []) ≡
     looks (codes "/e") ∷ looks (codes "/e/f") ∷ looks (codes "/e/f/b") ∷ means (codes "/e/f/b") ∷ Stuck ENOENT ∷ Stuck ENOENT ∷ Stuck ENOTDIR ∷
     looks (codes "/e/g") ∷ []
-behind_a_link = refl
+after_a_link = refl
 
 -- the last component of a target is last if no component comes after the link
 last_of_a_target : map (λ lookups. stats (codes "/a") (Link (codes "/e/f") ∷ Dir ∷ lookups)) (

@@ -224,15 +224,15 @@ chmod_outcome system request =
     (success system 0 (Moded object.number (low_mode (register request 1)) ∷ []))))
 
 -- whether a number is too large for an id
-abbrev pub is_no_id : ℕ → Bool
-is_no_id number = nat_le (2 ^ 32) number
+abbrev pub exceeds_ids : ℕ → Bool
+exceeds_ids number = nat_le (2 ^ 32) number
 
 -- the outcome of chown(name, uid, gid)
 abbrev pub chown_outcome : System → Request → Outcome
 chown_outcome system request =
     let name = arg_name_at request 0 in
     unless_refused system (
-    error_if (is_no_id (register request 1) || is_no_id (register request 2)) EINVAL ∷
+    error_if (exceeds_ids (register request 1) || exceeds_ids (register request 2)) EINVAL ∷
     walk_error system.tree request.ids name ∷ [])
     (on_object system name (λ object.
     unless_refused system (error_if (not (request.ids.euid == 0)) EPERM ∷ [])

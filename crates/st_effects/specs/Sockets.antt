@@ -29,8 +29,8 @@ abbrev pub port_in : List ℕ → ℕ
 port_in text = fold (λ n byte. if byte == colon then 0 else 10 * n + (byte - 48)) 0 text
 
 -- the least port that every user may bind
-abbrev pub first_free_port : ℕ
-first_free_port = 1024
+abbrev pub least_unprivileged_port : ℕ
+least_unprivileged_port = 1024
 
 -- the outcome of bind(fd, addr)
 abbrev pub bind_outcome : System → Request → Outcome
@@ -39,7 +39,7 @@ bind_outcome system request =
     let fd = register request 0 in
     unless_refused system (
     bind_refused_at (file_at system.descriptors request.pid fd) port false ∷
-    error_if (nat_lt port first_free_port && not (request.ids.euid == 0)) EACCES ∷
+    error_if (nat_lt port least_unprivileged_port && not (request.ids.euid == 0)) EACCES ∷
     bind_refused system.descriptors request.pid fd port ∷ [])
     (success_with_table 0 [] (table_after_bind system.descriptors request.pid fd port))
 

@@ -5,7 +5,7 @@ ghost use Rattle.st_effects.specs.Descriptors.{close_outcome, dup_outcome, lseek
 ghost use Rattle.st_fds.specs.Table.{KeepsTables};
 ghost use Rattle.st_model.specs.Descriptors.{has_table};
 ghost use Rattle.st_model.specs.Tree.{Tree};
-ghost use Rattle.st_request.specs.Ready.{IsReal, IsRealFile};
+ghost use Rattle.st_request.specs.Ready.{AreValidOpenFiles, IsValidOpenFile};
 ghost use Rattle.st_request.specs.Outcome.{outcome_of, with_descriptors, with_tree};
 
 use st_base::Errno;
@@ -20,7 +20,7 @@ pub fn close(fds: &mut Fds, alloc: Global, request: &Request<'_>) -> Outcome
     requires { has_table fds.old request.now.pid ≡ true }
     ensures outcome { (system : effects.System) → outcome_of result fds.new ≡ close_outcome (with_descriptors system fds.old) request.now }
     ensures tables { KeepsTables fds.old fds.new }
-    ensures real { (tree : Tree) → IsReal tree fds.old → IsReal tree fds.new }
+    ensures real { (tree : Tree) → AreValidOpenFiles tree fds.old → AreValidOpenFiles tree fds.new }
 {
     match fds.close(request.pid, request.register(0)) {
         Ok(()) => Outcome::value(alloc, 0),
@@ -33,7 +33,7 @@ pub fn dup(fds: &mut Fds, alloc: Global, request: &Request<'_>) -> Outcome
     requires { has_table fds.old request.now.pid ≡ true }
     ensures outcome { (system : effects.System) → outcome_of result fds.new ≡ dup_outcome (with_descriptors system fds.old) request.now }
     ensures tables { KeepsTables fds.old fds.new }
-    ensures real { (tree : Tree) → IsReal tree fds.old → IsReal tree fds.new }
+    ensures real { (tree : Tree) → AreValidOpenFiles tree fds.old → AreValidOpenFiles tree fds.new }
 {
     match fds.dup(request.pid, request.register(0)) {
         Ok(fd) => Outcome::value(alloc, u64::from(fd)),
@@ -59,7 +59,7 @@ fn place_in_file(base: u64, offset: u64) -> Option<u64>
 
 // The offset that lseek(2) moves to; `None` if there is no such offset, or if the open file isn't that of a file.
 fn seek_offset(tree: &Tree, request: &Request<'_>, file: &OpenFile) -> Option<u64>
-    requires { IsRealFile tree.now file.now }
+    requires { IsValidOpenFile tree.now file.now }
     ensures { result ≡ seek_offset tree.now request.now file.now file.now.kind }
 {
     let FileKind::Node(obj) = file.kind else {
@@ -81,10 +81,10 @@ fn seek_offset(tree: &Tree, request: &Request<'_>, file: &OpenFile) -> Option<u6
 /// lseek(fd, offset, whence): moves the offset of a descriptor's open file. Takes no memory.
 pub fn lseek(tree: &Tree, fds: &mut Fds, alloc: Global, request: &Request<'_>) -> Outcome
     requires table { has_table fds.old request.now.pid ≡ true }
-    requires real { IsReal tree.now fds.old }
+    requires real { AreValidOpenFiles tree.now fds.old }
     ensures outcome { (system : effects.System) → outcome_of result fds.new ≡ lseek_outcome (with_descriptors (with_tree system tree.now) fds.old) request.now }
     ensures tables { KeepsTables fds.old fds.new }
-    ensures real { IsReal tree.now fds.new }
+    ensures real { AreValidOpenFiles tree.now fds.new }
 {
     let Some(file) = fds.get(request.pid, request.register(0)) else {
         return Outcome::failure(alloc, Errno::EBADF);

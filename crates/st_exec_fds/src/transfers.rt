@@ -5,16 +5,16 @@ ghost use Rattle.st_effects.specs.System as effects;
 ghost use Rattle.st_effects.specs.Changes.{memory_after, tree_after};
 ghost use Rattle.st_effects.specs.Descriptors.{buffer_fault, bytes_read, is_open_directory, is_socket, put_changes, read_outcome, write_offset, write_outcome};
 ghost use Rattle.st_fds.specs.Table.{KeepsTables};
-ghost use Rattle.st_memory.specs.Memory.{byte_in, is_live, KeepsSpaces};
+ghost use Rattle.st_memory.specs.Memory.{byte_in, is_space_live, KeepsSpaces};
 ghost use Rattle.st_model.specs.Descriptors.{has_table};
 ghost use Rattle.st_model.specs.Memory.{bytes_from};
 ghost use Rattle.st_model.specs.Processes.{IsPid, process_at};
 ghost use Rattle.st_model.specs.Tree as model;
 ghost use Rattle.st_tree.specs.Answers.{KeepsKinds};
-ghost use Rattle.st_tree.specs.Refusals.{IsFile, IsMade};
+ghost use Rattle.st_tree.specs.Refusals.{IsFile, IsObjectNumber};
 ghost use Rattle.st_model.specs.declared.limits.TheConstants.{LONGEST_FILE, SPACE_BYTES};
-ghost use Rattle.st_request.specs.Ready.{IsReal, IsRealFile};
-ghost use Rattle.st_request.specs.Outcome.{outcome_of, system_of};
+ghost use Rattle.st_request.specs.Ready.{AreValidOpenFiles, IsValidOpenFile};
+ghost use Rattle.st_request.specs.Outcome.{outcome_of, assembled_system};
 ghost use Rattle.st_exec_fds.specs.Transfers.{IsPlainFile, bytes_moved, read_refused, write_refused};
 
 use st_base::{Errno, Obj, Space, Text};
@@ -47,7 +47,7 @@ fn is_socket(file: &OpenFile) -> bool
 
 // Whether an open file is that of a directory.
 fn is_open_directory(tree: &Tree, file: &OpenFile) -> bool
-    requires { IsRealFile tree.now file.now }
+    requires { IsValidOpenFile tree.now file.now }
     ensures { result ≡ is_open_directory tree.now file.now.kind }
 {
     match file.kind {
@@ -69,7 +69,7 @@ fn test_buffer(at: u64, count: u64) -> Result<(), Errno>
 
 // The open file, if `count` bytes can be read from it to byte `at` of memory; otherwise the error of the call.
 fn file_to_read(tree: &Tree, file: Option<OpenFile>, at: u64, count: u64) -> Result<OpenFile, Errno>
-    requires { IfSome file (IsRealFile tree.now) }
+    requires { IfSome file (IsValidOpenFile tree.now) }
     ensures file { IfOk result (λ found. file ≡ Some found) }
     ensures plain { IfOk result (λ found. IsPlainFile tree.now found.kind) }
     ensures inside { OnOk result (at + count ≤ SPACE_BYTES) }
@@ -92,7 +92,7 @@ fn file_to_read(tree: &Tree, file: Option<OpenFile>, at: u64, count: u64) -> Res
 // The open file, if `count` bytes can be written to it from byte `at` of memory; otherwise the error of the call.
 fn file_to_write(file: Option<OpenFile>, at: u64, count: u64) -> Result<OpenFile, Errno>
     ensures file { IfOk result (λ found. file ≡ Some found) }
-    ensures plain { (tree : model.Tree) → IfSome file (IsRealFile tree) → IfOk result (λ found. IsPlainFile tree found.kind) }
+    ensures plain { (tree : model.Tree) → IfSome file (IsValidOpenFile tree) → IfOk result (λ found. IsPlainFile tree found.kind) }
     ensures no_socket { IfOk result (λ found. is_socket found.kind ≡ false) }
     ensures inside { OnOk result (at + count ≤ SPACE_BYTES) }
     ensures refused { result_err result ≡ write_refused file at count }
@@ -139,7 +139,7 @@ fn put(
     at: u64,
     bytes: Text,
 ) -> Result<Outcome, AllocError>
-    requires live { is_live spaces.old space ≡ true }
+    requires live { is_space_live spaces.old space ≡ true }
     requires inside { at + length bytes ≤ SPACE_BYTES }
     ensures result { IfOk result (λ outcome. outcome.result ≡ CallResult.Value (length bytes)) }
     ensures changes { IfOk result (λ outcome. outcome.changes ≡ put_changes space at bytes) }
@@ -166,13 +166,13 @@ pub fn read(
 ) -> Result<Outcome, AllocError>
     requires table { has_table fds.old request.now.pid ≡ true }
     requires process { IsPid procs.now request.now.pid }
-    requires space { is_live spaces.old (process_at procs.now request.now.pid).space ≡ true }
-    requires real { IsReal tree.now fds.old }
-    ensures outcome { IfOk result (λ outcome. (system : effects.System) → outcome_of outcome fds.new ≡ read_outcome (system_of system tree.now fds.old procs.now spaces.old) request.now) }
+    requires space { is_space_live spaces.old (process_at procs.now request.now.pid).space ≡ true }
+    requires real { AreValidOpenFiles tree.now fds.old }
+    ensures outcome { IfOk result (λ outcome. (system : effects.System) → outcome_of outcome fds.new ≡ read_outcome (assembled_system system tree.now fds.old procs.now spaces.old) request.now) }
     ensures memory { IfOk result (λ outcome. (s b : ℕ) → byte_in spaces.new s b ≡ memory_after (process_at procs.now request.now.pid).space (byte_in spaces.old) outcome.changes s b) }
     ensures spaces { KeepsSpaces spaces.old spaces.new }
     ensures tables { KeepsTables fds.old fds.new }
-    ensures real { IsReal tree.now fds.new }
+    ensures real { AreValidOpenFiles tree.now fds.new }
     ensures err_fds { OnErr result (fds.new ≡ fds.old) }
     ensures err_spaces { OnErr result (spaces.new ≡ spaces.old) }
 {
@@ -194,7 +194,7 @@ pub fn read(
 
 // The offset that a write begins at: with append the size of the file, otherwise the offset of the open file.
 fn write_offset(tree: &Tree, obj: Obj, file: &OpenFile) -> u64
-    requires { IsMade tree.now obj }
+    requires { IsObjectNumber tree.now obj }
     ensures { result ≡ write_offset tree.now obj file.now }
 {
     if file.append {
@@ -213,7 +213,7 @@ fn write_object(
     obj: Obj,
     start: u64,
 ) -> Result<Outcome, AllocError>
-    requires live { is_live spaces.now buffer.space ≡ true }
+    requires live { is_space_live spaces.now buffer.space ≡ true }
     requires inside { buffer.at + buffer.count ≤ SPACE_BYTES }
     requires file { IsFile tree.old obj }
     requires fits { start + buffer.count ≤ LONGEST_FILE }
@@ -250,12 +250,12 @@ pub fn write(
 ) -> Result<Outcome, AllocError>
     requires table { has_table fds.old request.now.pid ≡ true }
     requires process { IsPid procs.now request.now.pid }
-    requires space { is_live spaces.now (process_at procs.now request.now.pid).space ≡ true }
-    requires real { IsReal tree.old fds.old }
-    ensures outcome { IfOk result (λ outcome. (system : effects.System) → outcome_of outcome fds.new ≡ write_outcome (system_of system tree.old fds.old procs.now spaces.now) request.now) }
+    requires space { is_space_live spaces.now (process_at procs.now request.now.pid).space ≡ true }
+    requires real { AreValidOpenFiles tree.old fds.old }
+    ensures outcome { IfOk result (λ outcome. (system : effects.System) → outcome_of outcome fds.new ≡ write_outcome (assembled_system system tree.old fds.old procs.now spaces.now) request.now) }
     ensures tree { IfOk result (λ outcome. tree.new ≡ tree_after tree.old outcome.changes) }
     ensures tables { KeepsTables fds.old fds.new }
-    ensures real { IsReal tree.new fds.new }
+    ensures real { AreValidOpenFiles tree.new fds.new }
     ensures err_tree { OnErr result (tree.new ≡ tree.old) }
     ensures err_fds { OnErr result (fds.new ≡ fds.old) }
 {

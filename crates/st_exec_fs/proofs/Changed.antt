@@ -24,7 +24,7 @@ use Rattle.st_effects.specs.System.{System, Request, Outcome, register, success,
 use Rattle.st_trace.specs.declared.entry.CallResult.{CallResult}
 use Rattle.st_trace.specs.declared.entry.Change.{Change}
 use Rattle.st_trace.specs.declared.entry.Change.TheVariants.{Made, Linked, Removed, Renamed, Written, Cut, Moded, Owned, Put, Forked, Execed, SetIds, Cwd, Dying, Renewed, Policy}
-use Rattle.st_exec_fs.specs.Execution.{IsLook, IsOnDescriptors, IsOnNames}
+use Rattle.st_exec_fs.specs.Execution.{IsLookingCall, IsOnDescriptors, IsOnNames}
 
 -- P holds of each of some changes
 abbrev pub Each : (Change → Type 0) → List Change → Type 0
@@ -307,7 +307,7 @@ module _ (system : System) (request : Request) where
   read_changes = reads (file_at system.descriptors request.pid (register request 0))
 
   -- the changes of looks
-  pub looks_change : (call : SysCall) → IsLook call → Makes IsOfMemory (effect system call request)
+  pub looks_change : (call : SysCall) → IsLookingCall call → Makes IsOfMemory (effect system call request)
   looks_change Stat is = search (unless, on, one)
   looks_change Lstat is = search (unless, on, one)
   looks_change Access is = search (unless, on, none)

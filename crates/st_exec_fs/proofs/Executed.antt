@@ -3,7 +3,7 @@ use Rattle.std.proofs.Common.{◌≡◌, ◌<◌, ◌∙◌, ap, refl, subst, sy
 use Rattle.st_calls.specs.declared.call.SysCall.{SysCall}
 use Rattle.st_calls.specs.declared.call.SysCall.TheVariants.{Open, Read, Write, Access, Chdir}
 use Rattle.st_fds.specs.Table.{KeepsTables}
-use Rattle.st_memory.specs.Memory.{Memories, byte_in, is_live, next_space, KeepsSpaces}
+use Rattle.st_memory.specs.Memory.{Memories, byte_in, is_space_live, next_space, KeepsSpaces}
 use Rattle.st_model.specs.Descriptors.{Table}
 use Rattle.st_model.specs.Process.{Process}
 use Rattle.st_model.specs.Processes as model
@@ -14,9 +14,9 @@ use Rattle.st_effects.specs.Effect.{effect}
 use Rattle.st_effects.specs.System as effects
 use Rattle.st_effects.specs.System.{System, Request}
 use Rattle.st_trace.specs.declared.entry.Change.{Change}
-use Rattle.st_exec_fs.specs.Execution.{IsExecuted, IsLook, IsOnDescriptors, IsOnNames}
-use Rattle.st_request.specs.Ready.{IsReady, IsReal}
-use Rattle.st_request.specs.Outcome.{outcome_of, system_of, with_descriptors, with_processes, with_tree}
+use Rattle.st_exec_fs.specs.Execution.{IsFileCallExecuted, IsLookingCall, IsOnDescriptors, IsOnNames}
+use Rattle.st_request.specs.Ready.{IsReady, AreValidOpenFiles}
+use Rattle.st_request.specs.Outcome.{outcome_of, assembled_system, with_descriptors, with_processes, with_tree}
 use Rattle.st_request.specs.Processes.{AreProcessesAfter}
 use Rattle.st_request.specs.declared.outcome.Outcome.{Outcome}
 use Rattle.st_exec_fs.proofs.Changed.{access_changes, chdir_changes, descriptors_change, looks_change, memory_left, memory_left_by_moves, names_change, none_left, open_changes, processes_left, processes_left_by_puts, read_changes, space_left, tree_left_by_moves, tree_left_by_puts, write_changes, Each, IsNone, IsOfDirectory, IsOfMemory, IsOfTree, Makes}
@@ -30,7 +30,7 @@ module _ (request : Request) (tree : Tree) (table : Table) (processes : Processe
     memory = byte_in memories;
     descriptors = table;
     processes = process_at processes;
-    is_live = model.is_live processes;
+    is_live = model.is_process_live processes;
     next_process = next_pid processes;
     next_space = next_space memories;
     next_number = 0;
@@ -42,8 +42,8 @@ module _ (request : Request) (tree : Tree) (table : Table) (processes : Processe
   changed P call given left is makes = let same : given.changes ≡ (effect parts call request).changes = ap (λ (o : effects.Outcome). o.changes) is in subst (Each P) (sym same) makes.changes
 
   -- a call that changes only the tree and descriptors
-  of_tree : (call : SysCall) (given : Outcome) (new : Tree) (left : Table) → ((system : System) → outcome_of given left ≡ effect (system_of system tree table processes memories) call request)
-      → new ≡ tree_after tree given.changes → Makes IsOfTree (effect parts call request) → IsExecuted call request given tree table processes memories new left processes memories
+  of_tree : (call : SysCall) (given : Outcome) (new : Tree) (left : Table) → ((system : System) → outcome_of given left ≡ effect (assembled_system system tree table processes memories) call request)
+      → new ≡ tree_after tree given.changes → Makes IsOfTree (effect parts call request) → IsFileCallExecuted call request given tree table processes memories new left processes memories
   of_tree call given new left is tree_is makes =
       let all : Each IsOfTree given.changes = changed IsOfTree call given left (is parts) makes in record {
         outcome = is;
@@ -53,9 +53,9 @@ module _ (request : Request) (tree : Tree) (table : Table) (processes : Processe
       }
 
   -- a call that changes only memory and descriptors
-  of_memory : (call : SysCall) (given : Outcome) (left : Table) (new : Memories) → ((system : System) → outcome_of given left ≡ effect (system_of system tree table processes memories) call request)
+  of_memory : (call : SysCall) (given : Outcome) (left : Table) (new : Memories) → ((system : System) → outcome_of given left ≡ effect (assembled_system system tree table processes memories) call request)
       → ((s b : ℕ) → byte_in new s b ≡ memory_after (process_at processes request.pid).space (byte_in memories) given.changes s b)
-      → Makes IsOfMemory (effect parts call request) → IsExecuted call request given tree table processes memories tree left processes new
+      → Makes IsOfMemory (effect parts call request) → IsFileCallExecuted call request given tree table processes memories tree left processes new
   of_memory call given left new is memory_is makes =
       let all : Each IsOfMemory given.changes = changed IsOfMemory call given left (is parts) makes in record {
         outcome = is;
@@ -68,47 +68,47 @@ module _ (request : Request) (tree : Tree) (table : Table) (processes : Processe
 
   pub names_executed : {E : Type 0} (call : SysCall) (result : Result Outcome E) (new : Tree) → IsOnNames call
       → IfOk result (λ given. (system : System) → outcome_of given system.descriptors ≡ effect (with_tree system tree) call request) → IfOk result (λ given. new ≡ tree_after tree given.changes)
-      → IfOk result (λ given. IsExecuted call request given tree table processes memories new table processes memories)
-  names_executed call (Ok given) new on is tree_is = of_tree call given new table (λ system. is (system_of system tree table processes memories)) tree_is (names_change parts request call on)
+      → IfOk result (λ given. IsFileCallExecuted call request given tree table processes memories new table processes memories)
+  names_executed call (Ok given) new on is tree_is = of_tree call given new table (λ system. is (assembled_system system tree table processes memories)) tree_is (names_change parts request call on)
   names_executed call (Err error) new on is tree_is = tt
 
   pub open_executed : {E : Type 0} (call : SysCall) (result : Result Outcome E) (new : Tree) (left : Table) → call ≡ Open
       → IfOk result (λ given. (system : System) → outcome_of given left ≡ effect (with_descriptors (with_tree system tree) table) Open request) → IfOk result (λ given. new ≡ tree_after tree given.changes)
-      → IfOk result (λ given. IsExecuted call request given tree table processes memories new left processes memories)
+      → IfOk result (λ given. IsFileCallExecuted call request given tree table processes memories new left processes memories)
   open_executed call (Ok given) new left named is tree_is =
-      let done = of_tree Open given new left (λ system. is (system_of system tree table processes memories)) tree_is (open_changes parts request) in
-      subst (λ (c : SysCall). IsExecuted c request given tree table processes memories new left processes memories) (sym named) done
+      let done = of_tree Open given new left (λ system. is (assembled_system system tree table processes memories)) tree_is (open_changes parts request) in
+      subst (λ (c : SysCall). IsFileCallExecuted c request given tree table processes memories new left processes memories) (sym named) done
   open_executed call (Err error) new left named is tree_is = tt
 
   pub write_executed : {E : Type 0} (call : SysCall) (result : Result Outcome E) (new : Tree) (left : Table) → call ≡ Write
-      → IfOk result (λ given. (system : System) → outcome_of given left ≡ effect (system_of system tree table processes memories) Write request) → IfOk result (λ given. new ≡ tree_after tree given.changes)
-      → IfOk result (λ given. IsExecuted call request given tree table processes memories new left processes memories)
+      → IfOk result (λ given. (system : System) → outcome_of given left ≡ effect (assembled_system system tree table processes memories) Write request) → IfOk result (λ given. new ≡ tree_after tree given.changes)
+      → IfOk result (λ given. IsFileCallExecuted call request given tree table processes memories new left processes memories)
   write_executed call (Ok given) new left named is tree_is =
       let done = of_tree Write given new left is tree_is (write_changes parts request) in
-      subst (λ (c : SysCall). IsExecuted c request given tree table processes memories new left processes memories) (sym named) done
+      subst (λ (c : SysCall). IsFileCallExecuted c request given tree table processes memories new left processes memories) (sym named) done
   write_executed call (Err error) new left named is tree_is = tt
 
   pub read_executed : {E : Type 0} (call : SysCall) (result : Result Outcome E) (left : Table) (new : Memories) → call ≡ Read
-      → IfOk result (λ given. (system : System) → outcome_of given left ≡ effect (system_of system tree table processes memories) Read request)
+      → IfOk result (λ given. (system : System) → outcome_of given left ≡ effect (assembled_system system tree table processes memories) Read request)
       → IfOk result (λ given. (s b : ℕ) → byte_in new s b ≡ memory_after (process_at processes request.pid).space (byte_in memories) given.changes s b)
-      → IfOk result (λ given. IsExecuted call request given tree table processes memories tree left processes new)
+      → IfOk result (λ given. IsFileCallExecuted call request given tree table processes memories tree left processes new)
   read_executed call (Ok given) left new named is memory_is =
       let done = of_memory Read given left new is memory_is (read_changes parts request) in
-      subst (λ (c : SysCall). IsExecuted c request given tree table processes memories tree left processes new) (sym named) done
+      subst (λ (c : SysCall). IsFileCallExecuted c request given tree table processes memories tree left processes new) (sym named) done
   read_executed call (Err error) left new named is memory_is = tt
 
-  pub look_executed : {E : Type 0} (call : SysCall) (result : Result Outcome E) (new : Memories) → IsLook call
+  pub look_executed : {E : Type 0} (call : SysCall) (result : Result Outcome E) (new : Memories) → IsLookingCall call
       → IfOk result (λ given. (system : System) → outcome_of given system.descriptors ≡ effect (with_tree (with_processes system processes) tree) call request)
       → IfOk result (λ given. (s b : ℕ) → byte_in new s b ≡ memory_after (process_at processes request.pid).space (byte_in memories) given.changes s b)
-      → IfOk result (λ given. IsExecuted call request given tree table processes memories tree table processes new)
-  look_executed call (Ok given) new look is memory_is = of_memory call given table new (λ system. is (system_of system tree table processes memories)) memory_is (looks_change parts request call look)
+      → IfOk result (λ given. IsFileCallExecuted call request given tree table processes memories tree table processes new)
+  look_executed call (Ok given) new look is memory_is = of_memory call given table new (λ system. is (assembled_system system tree table processes memories)) memory_is (looks_change parts request call look)
   look_executed call (Err error) new look is memory_is = tt
 
   pub descriptors_executed : (call : SysCall) (given : Outcome) (left : Table) → IsOnDescriptors call
-      → ((system : System) → outcome_of given left ≡ effect (with_descriptors (with_tree system tree) table) call request) → IsExecuted call request given tree table processes memories tree left processes memories
+      → ((system : System) → outcome_of given left ≡ effect (with_descriptors (with_tree system tree) table) call request) → IsFileCallExecuted call request given tree table processes memories tree left processes memories
   descriptors_executed call given left on is =
       let none : given.changes ≡ [] = none_left given.changes (changed IsNone call given left (is parts) (descriptors_change parts request call on)) in record {
-        outcome = λ system. is (system_of system tree table processes memories);
+        outcome = λ system. is (assembled_system system tree table processes memories);
         tree = ap (λ (changes : List Change). tree_after tree changes) (sym none);
         processes = record { processes = λ p. ap (λ (changes : List Change). process_after (process_at processes) request.pid p changes) (sym none); threads = refl; next = refl };
         memory = λ s b. ap (λ (changes : List Change). memory_after (process_at processes request.pid).space (byte_in memories) changes s b) (sym none);
@@ -117,23 +117,23 @@ module _ (request : Request) (tree : Tree) (table : Table) (processes : Processe
   pub chdir_executed : {E : Type 0} (call : SysCall) (result : Result Outcome E) (new : Processes) → call ≡ Chdir
       → IfOk result (λ given. (system : System) → outcome_of given system.descriptors ≡ effect (with_tree system tree) Chdir request)
       → IfOk result (λ given. AreProcessesAfter processes request.pid given.changes new)
-      → IfOk result (λ given. IsExecuted call request given tree table processes memories tree table new memories)
+      → IfOk result (λ given. IsFileCallExecuted call request given tree table processes memories tree table new memories)
   chdir_executed call (Ok given) new named is after =
       let all : Each IsOfDirectory given.changes = changed IsOfDirectory Chdir given table (is parts) (chdir_changes parts request) in
-      let done : IsExecuted Chdir request given tree table processes memories tree table new memories = record {
-        outcome = λ system. is (system_of system tree table processes memories);
+      let done : IsFileCallExecuted Chdir request given tree table processes memories tree table new memories = record {
+        outcome = λ system. is (assembled_system system tree table processes memories);
         tree = sym (tree_left_by_moves tree given.changes all);
         processes = after;
         memory = λ s b. ap (λ (m : ℕ → ℕ → ℕ). m s b) (sym (memory_left_by_moves (process_at processes request.pid).space (byte_in memories) given.changes all));
       } in
-      subst (λ (c : SysCall). IsExecuted c request given tree table processes memories tree table new memories) (sym named) done
+      subst (λ (c : SysCall). IsFileCallExecuted c request given tree table processes memories tree table new memories) (sym named) done
   chdir_executed call (Err error) new named is after = tt
 
   -- ---- calls can still be made for the process
 
   module _ (ready : IsReady tree table processes memories request.pid) where
     -- if open files are real and the same tables and spaces exist
-    pub still_ready : (new_tree : Tree) (left : Table) (new : Memories) → KeepsTables table left → KeepsSpaces memories new → IsReal new_tree left → IsReady new_tree left processes new request.pid
+    pub still_ready : (new_tree : Tree) (left : Table) (new : Memories) → KeepsTables table left → KeepsSpaces memories new → AreValidOpenFiles new_tree left → IsReady new_tree left processes new request.pid
     still_ready new_tree left new tables spaces real = record {
       table = tables request.pid ∙ ready.table;
       process = ready.process;
@@ -143,7 +143,7 @@ module _ (request : Request) (tree : Tree) (table : Table) (processes : Processe
 
     -- after a change of the tree
     pub ready_with_tree : {E : Type 0} (result : Result Outcome E) (new : Tree) → IfOk result (λ given. new ≡ tree_after tree given.changes) → OnErr result (new ≡ tree) → IsReady new table processes memories request.pid
-    ready_with_tree (Ok given) new is err = still_ready new table memories (λ pid. refl) (refl, λ s. refl) (subst (λ (t : Tree). IsReal t table) (sym is) (stay_real tree table given.changes ready.real))
+    ready_with_tree (Ok given) new is err = still_ready new table memories (λ pid. refl) (refl, λ s. refl) (subst (λ (t : Tree). AreValidOpenFiles t table) (sym is) (stay_real tree table given.changes ready.real))
     ready_with_tree (Err error) new is err = subst (λ (t : Tree). IsReady t table processes memories request.pid) (sym err) ready
 
     -- after a change of the process's directory
@@ -156,7 +156,7 @@ module _ (request : Request) (tree : Tree) (table : Table) (processes : Processe
         ap (λ (p : Process). p.space) (after.processes request.pid) ∙ space_left (process_at processes) request.pid request.pid given.changes all in record {
           table = ready.table;
           process = (ready.process.0, subst (λ (n : ℕ). request.pid < n) (sym after.next) ready.process.1);
-          space = ap (λ (s : ℕ). is_live memories s) space ∙ ready.space;
+          space = ap (λ (s : ℕ). is_space_live memories s) space ∙ ready.space;
           real = ready.real;
         }
     ready_with_processes (Err error) new is after err = subst (λ (p : Processes). IsReady tree table p memories request.pid) (sym err) ready

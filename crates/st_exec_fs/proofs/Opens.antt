@@ -13,13 +13,13 @@ use Rattle.st_calls.specs.declared.flags.TheConstants.{O_CREAT, O_EXCL}
 use Rattle.st_model.specs.Descriptors.{Table, least_free}
 use Rattle.st_model.specs.DescriptorCalls.{open_refused, table_after_open}
 use Rattle.st_model.specs.Tree.{Tree, Node, is_directory, node_at, node_with_number, object_of}
-use Rattle.st_tree.specs.Refusals.{IsMade}
+use Rattle.st_tree.specs.Refusals.{IsObjectNumber}
 use Rattle.st_effects.specs.Descriptors.{access_of, is_for_writing, may_open, next_descriptor, open_file_of, open_node_outcome, open_object_outcome, open_outcome, truncation}
 use Rattle.st_effects.specs.NameTests.{Object, object_at, object_numbered, object_with, walk_error}
 use Rattle.st_effects.specs.Names.{is_link}
 use Rattle.st_effects.specs.System as effects
 use Rattle.st_exec_fs.specs.Open.{is_changing, open_changes, opened_object, opened_outcome, IsNoLink}
-use Rattle.st_request.specs.Ready.{IsOpenable, IsReal, KeepsObjects}
+use Rattle.st_request.specs.Ready.{IsOpenable, AreValidOpenFiles, KeepsObjects}
 use Rattle.st_request.specs.Outcome.{outcome_of, with_descriptors, with_tree}
 use Rattle.st_request.specs.declared.outcome.Outcome.{Outcome}
 use Rattle.st_trace.specs.declared.entry.CallResult.TheVariants.{Value}
@@ -28,7 +28,7 @@ use Rattle.st_exec_objects.proofs.Objects.{numbered}
 use Rattle.st_request.proofs.Real.{kept_objects, more}
 
 -- what a name has, by what a walk to it found
-pub found_at : (tree : Tree) (name : Components) (found : Option ℕ) → found ≡ object_of tree name → IfSome found (IsMade tree) → object_at tree name ≡ option_map (object_made tree) found
+pub found_at : (tree : Tree) (name : Components) (found : Option ℕ) → found ≡ object_of tree name → IfSome found (IsObjectNumber tree) → object_at tree name ≡ option_map (object_made tree) found
 found_at tree name None is made = ap (object_numbered tree) (sym is)
 found_at tree name (Some obj) is made = ap (object_numbered tree) (sym is) ∙ ap (object_with obj) (numbered tree obj made)
 
@@ -53,7 +53,7 @@ module _ (system : effects.System) (request : effects.Request) (object : Object)
   opened reason = ap (λ reason. effects.unless_error system reason (open_object_outcome system request object.number (truncation object.number (effects.register request 1)))) (sym reason)
 
 -- an object whose name isn't that of a link
-pub no_link_at : (tree : Tree) (name : Components) (obj : ℕ) → Some obj ≡ object_of tree name → IsMade tree obj → IsNoLink tree name → is_link (node_with_number tree obj).kind ≡ false
+pub no_link_at : (tree : Tree) (name : Components) (obj : ℕ) → Some obj ≡ object_of tree name → IsObjectNumber tree obj → IsNoLink tree name → is_link (node_with_number tree obj).kind ≡ false
 no_link_at tree name obj is made no_link =
     let P : Option Node → Type 0 = λ found. IfSome found (λ node. is_link node.kind ≡ false) in
     subst P (ap (node_at tree) (sym is) ∙ numbered tree obj made) no_link
@@ -78,9 +78,9 @@ module _ (tree : Tree) (table : Table) (request : effects.Request) (found : Opti
   given (Err error) is free now value changes = tt
 
 -- the open files are real afterwards
-pub real_then : (old new : Tree) (table after : Table) (pid obj flags : ℕ) → KeepsObjects old new → after ≡ table_after_open table pid (open_file_of obj flags) → IsOpenable new (is_for_writing flags) obj → IsReal old table → IsReal new after
+pub real_then : (old new : Tree) (table after : Table) (pid obj flags : ℕ) → KeepsObjects old new → after ≡ table_after_open table pid (open_file_of obj flags) → IsOpenable new (is_for_writing flags) obj → AreValidOpenFiles old table → AreValidOpenFiles new after
 real_then old new table after pid obj flags keeps now is real =
-    subst (λ (t : Table). IsReal new t) (sym now) (more new table pid (open_file_of obj flags) (kept_objects old new table keeps real) is)
+    subst (λ (t : Table). AreValidOpenFiles new t) (sym now) (more new table pid (open_file_of obj flags) (kept_objects old new table keeps real) is)
 
 -- a call that didn't run out of memory
 pub had_memory : (result : Result Outcome AllocError) (P : Type 0) → is_err result ≡ false → OnOk result P → P

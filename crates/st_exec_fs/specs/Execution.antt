@@ -9,7 +9,7 @@ use Rattle.st_model.specs.Tree.{Tree}
 use Rattle.st_effects.specs.Changes.{memory_after, tree_after}
 use Rattle.st_effects.specs.Effect.{effect}
 use Rattle.st_effects.specs.System as effects
-use Rattle.st_request.specs.Outcome.{outcome_of, system_of}
+use Rattle.st_request.specs.Outcome.{outcome_of, assembled_system}
 use Rattle.st_request.specs.Processes.{AreProcessesAfter}
 use Rattle.st_request.specs.declared.outcome.Outcome.{Outcome}
 
@@ -21,12 +21,12 @@ IsOnDescriptors Dup = Unit {0}
 IsOnDescriptors _ = ⊥
 
 -- a call that looks at what a name has
-abbrev pub IsLook : SysCall → Type 0
-IsLook Stat = Unit {0}
-IsLook Lstat = Unit {0}
-IsLook Access = Unit {0}
-IsLook Readlink = Unit {0}
-IsLook _ = ⊥
+abbrev pub IsLookingCall : SysCall → Type 0
+IsLookingCall Stat = Unit {0}
+IsLookingCall Lstat = Unit {0}
+IsLookingCall Access = Unit {0}
+IsLookingCall Readlink = Unit {0}
+IsLookingCall _ = ⊥
 
 -- a call that changes what a name has, or whether it has an object
 abbrev pub IsOnNames : SysCall → Type 0
@@ -66,8 +66,8 @@ IsOnFiles Truncate = Unit {0}
 IsOnFiles _ = ⊥
 
 -- a call had its outcome over these parts of the system, and left the parts as its changes say
-pub record IsExecuted (call : SysCall) (request : effects.Request) (given : Outcome) (old_tree : Tree) (old_descriptors : Table) (old_processes : Processes) (old_memories : Memories) (new_tree : Tree) (new_descriptors : Table) (new_processes : Processes) (new_memories : Memories) : Type 0 where
-  pub outcome : (system : effects.System) → outcome_of given new_descriptors ≡ effect (system_of system old_tree old_descriptors old_processes old_memories) call request
+pub record IsFileCallExecuted (call : SysCall) (request : effects.Request) (given : Outcome) (old_tree : Tree) (old_descriptors : Table) (old_processes : Processes) (old_memories : Memories) (new_tree : Tree) (new_descriptors : Table) (new_processes : Processes) (new_memories : Memories) : Type 0 where
+  pub outcome : (system : effects.System) → outcome_of given new_descriptors ≡ effect (assembled_system system old_tree old_descriptors old_processes old_memories) call request
   pub tree : new_tree ≡ tree_after old_tree given.changes
   pub processes : AreProcessesAfter old_processes request.pid given.changes new_processes
   pub memory : (s b : ℕ) → byte_in new_memories s b ≡ memory_after (process_at old_processes request.pid).space (byte_in old_memories) given.changes s b

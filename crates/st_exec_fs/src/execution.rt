@@ -5,12 +5,12 @@ ghost use Rattle.st_effects.specs.System as effects;
 ghost use Rattle.st_effects.specs.Changes.{memory_after, tree_after};
 ghost use Rattle.st_effects.specs.Effect.{effect};
 ghost use Rattle.st_fds.specs.Table.{KeepsTables};
-ghost use Rattle.st_memory.specs.Memory.{byte_in, is_live, KeepsSpaces};
+ghost use Rattle.st_memory.specs.Memory.{byte_in, is_space_live, KeepsSpaces};
 ghost use Rattle.st_model.specs.Descriptors.{has_table};
 ghost use Rattle.st_model.specs.Processes.{IsPid, process_at};
-ghost use Rattle.st_exec_fs.specs.Execution.{IsExecuted, IsLook, IsOnDescriptors, IsOnFiles, IsOnNames};
+ghost use Rattle.st_exec_fs.specs.Execution.{IsFileCallExecuted, IsLookingCall, IsOnDescriptors, IsOnFiles, IsOnNames};
 ghost use Rattle.st_exec_fs.specs.Open.{IsNoLink};
-ghost use Rattle.st_request.specs.Ready.{IsReady, IsReal};
+ghost use Rattle.st_request.specs.Ready.{IsReady, AreValidOpenFiles};
 ghost use Rattle.st_request.specs.Outcome.{outcome_of, with_descriptors, with_processes, with_tree};
 
 use crate::opening::{open, truncate};
@@ -34,9 +34,9 @@ fn look(
     call: SysCall,
     request: &Request<'_>,
 ) -> Result<Outcome, AllocError>
-    requires call { IsLook call }
+    requires call { IsLookingCall call }
     requires process { IsPid procs.now request.now.pid }
-    requires space { is_live spaces.old (process_at procs.now request.now.pid).space ≡ true }
+    requires space { is_space_live spaces.old (process_at procs.now request.now.pid).space ≡ true }
     ensures outcome { IfOk result (λ outcome. (system : effects.System) → outcome_of outcome system.descriptors ≡ effect (with_tree (with_processes system procs.now) tree.now) call request.now) }
     ensures memory { IfOk result (λ outcome. (s b : ℕ) → byte_in spaces.new s b ≡ memory_after (process_at procs.now request.now.pid).space (byte_in spaces.old) outcome.changes s b) }
     ensures spaces { KeepsSpaces spaces.old spaces.new }
@@ -87,10 +87,10 @@ fn move_descriptors(
 ) -> Outcome
     requires call { IsOnDescriptors call }
     requires table { has_table fds.old request.now.pid ≡ true }
-    requires real { IsReal tree.now fds.old }
+    requires real { AreValidOpenFiles tree.now fds.old }
     ensures outcome { (system : effects.System) → outcome_of result fds.new ≡ effect (with_descriptors (with_tree system tree.now) fds.old) call request.now }
     ensures tables { KeepsTables fds.old fds.new }
-    ensures real { IsReal tree.now fds.new }
+    ensures real { AreValidOpenFiles tree.now fds.new }
 {
     match call {
         SysCall::Close => close(fds, alloc, request),
@@ -114,7 +114,7 @@ pub fn execute_fs(
     requires call { IsOnFiles call }
     requires ready { IsReady tree.old fds.old procs.old spaces.old request.now.pid }
     requires no_link { follows call request.now.regs 0 ≡ true → IsNoLink tree.old (effects.arg_name_at request.now 0) }
-    ensures executed { IfOk result (λ outcome. IsExecuted call request.now outcome tree.old fds.old procs.old spaces.old tree.new fds.new procs.new spaces.new) }
+    ensures executed { IfOk result (λ outcome. IsFileCallExecuted call request.now outcome tree.old fds.old procs.old spaces.old tree.new fds.new procs.new spaces.new) }
     ensures spaces { KeepsSpaces spaces.old spaces.new }
     ensures tables { KeepsTables fds.old fds.new }
     ensures ready { IsReady tree.new fds.new procs.new spaces.new request.now.pid }

@@ -18,11 +18,11 @@ ghost use Rattle.st_model.specs.Tree.{is_directory, node_with_number};
 ghost use Rattle.st_calls.specs.declared.flags.TheConstants.{O_CREAT, O_EXCL, O_TRUNC};
 ghost use Rattle.st_tree.specs.Answers.{KeepsKinds};
 ghost use Rattle.st_model.specs.declared.limits.TheConstants.{LONGEST_FILE, MOST_OBJECTS};
-ghost use Rattle.st_tree.specs.Refusals.{add_refused, IsFile, IsMade};
+ghost use Rattle.st_tree.specs.Refusals.{add_refused, IsFile, IsObjectNumber};
 ghost use Rattle.st_exec_fs.specs.Open.{is_changing, open_changes, opened_object, opened_outcome, CanOpen, IsNoLink};
-ghost use Rattle.st_request.specs.Ready.{IsOpenable, IsReal, KeepsObjects};
+ghost use Rattle.st_request.specs.Ready.{IsOpenable, AreValidOpenFiles, KeepsObjects};
 ghost use Rattle.st_request.specs.Outcome.{outcome_of, unless_err, with_descriptors, with_tree};
-ghost use Rattle.st_exec_objects.specs.Walking.{IsPlace};
+ghost use Rattle.st_exec_objects.specs.Walking.{IsPlaceOfName};
 
 use st_base::{Errno, Ids, Obj, Text};
 use st_calls::{O_APPEND, O_CREAT, O_EXCL, O_TRUNC, has_flag};
@@ -121,7 +121,7 @@ pub fn truncate(
     requires { IsNoLink tree.old (effects.arg_name_at request.now 0) }
     ensures outcome { IfOk result (λ outcome. (system : effects.System) → outcome_of outcome system.descriptors ≡ truncate_outcome (with_tree system tree.old) request.now) }
     ensures tree { IfOk result (λ outcome. tree.new ≡ tree_after tree.old outcome.changes) }
-    ensures real { (table : Table) → IsReal tree.old table → IsReal tree.new table }
+    ensures real { (table : Table) → AreValidOpenFiles tree.old table → AreValidOpenFiles tree.new table }
     ensures err { OnErr result (tree.new ≡ tree.old) }
 {
     let name = request.name(alloc, 0)?;
@@ -133,9 +133,9 @@ pub fn truncate(
 
 // Checks that a file may be made under a name that no object has; otherwise gives the error of the call.
 fn may_make(tree: &Tree, request: &Request<'_>, place: Place) -> Result<(), Errno>
-    requires { IfSome place.holder (IsMade tree.now) }
+    requires { IfSome place.holder (IsObjectNumber tree.now) }
     ensures room { OnOk result (length tree.now.objects < MOST_OBJECTS) }
-    ensures refused { (name : Components) → IsPlace tree.now name place → result_err result ≡ first_error (error_if (not (has_flag (effects.register request.now 1) O_CREAT)) ENOENT ∷ parent_not_writable tree.now request.now.ids name ∷ no_space_left tree.now ∷ []) }
+    ensures refused { (name : Components) → IsPlaceOfName tree.now name place → result_err result ≡ first_error (error_if (not (has_flag (effects.register request.now 1) O_CREAT)) ENOENT ∷ parent_not_writable tree.now request.now.ids name ∷ no_space_left tree.now ∷ []) }
 {
     if !has_flag(request.register(1), O_CREAT) {
         return Err(Errno::ENOENT);
@@ -149,7 +149,7 @@ fn may_make(tree: &Tree, request: &Request<'_>, place: Place) -> Result<(), Errn
 
 // Whether the ids have the access that the flags of an open ask for; truncation needs write access.
 fn may_access(tree: &Tree, ids: Ids, obj: Obj, flags: u64) -> bool
-    requires { IsMade tree.now obj }
+    requires { IsObjectNumber tree.now obj }
     ensures { result ≡ may_open (node_with_number tree.now obj) ids flags }
 {
     let may = |want| tree.allowed(obj, ids.euid, ids.egid, want);
@@ -158,7 +158,7 @@ fn may_access(tree: &Tree, ids: Ids, obj: Obj, flags: u64) -> bool
 
 // Checks that an object that exists may be opened; otherwise gives the error of the call.
 fn may_open_object(tree: &Tree, request: &Request<'_>, obj: Obj) -> Result<(), Errno>
-    requires { IsMade tree.now obj }
+    requires { IsObjectNumber tree.now obj }
     ensures exclusive { OnOk result (follows Open request.now.regs 0 ≡ true) }
     ensures no_directory { OnOk result (is_changing (effects.register request.now 1) ≡ true → is_directory (node_with_number tree.now obj).kind ≡ false) }
     ensures refused { let flags = effects.register request.now 1 in let node = node_with_number tree.now obj in result_err result ≡ first_error (error_if (has_flag flags O_CREAT && has_flag flags O_EXCL) EEXIST ∷ error_if (is_directory node.kind && is_changing flags) EISDIR ∷ error_if (not (may_open node request.now.ids flags)) EACCES ∷ []) }
@@ -278,7 +278,7 @@ pub fn open(
     ensures outcome { IfOk result (λ outcome. (system : effects.System) → outcome_of outcome fds.new ≡ open_outcome (with_descriptors (with_tree system tree.old) fds.old) request.now) }
     ensures tree { IfOk result (λ outcome. tree.new ≡ tree_after tree.old outcome.changes) }
     ensures tables { KeepsTables fds.old fds.new }
-    ensures real { IsReal tree.old fds.old → IsReal tree.new fds.new }
+    ensures real { AreValidOpenFiles tree.old fds.old → AreValidOpenFiles tree.new fds.new }
     ensures err_tree { OnErr result (tree.new ≡ tree.old) }
     ensures err_fds { OnErr result (fds.new ≡ fds.old) }
 {

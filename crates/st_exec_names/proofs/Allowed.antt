@@ -11,7 +11,7 @@ use Rattle.st_model.specs.declared.limits.TheConstants.{MOST_OBJECTS}
 use Rattle.st_model.specs.declared.object.Kind.{Kind}
 use Rattle.st_model.specs.declared.object.Kind.TheVariants as kind
 use Rattle.st_model.specs.Tree.{Tree, entry_count, is_directory, node_at, node_with_number, object_of, seen_of, seen_of_kind}
-use Rattle.st_tree.specs.Refusals.{add_refused, has_entries, is_missing, is_no_directory, is_not_dir, link_refused, no_directory, no_object, place_refused, remove_refused, IsMade}
+use Rattle.st_tree.specs.Refusals.{add_refused, has_entries, is_missing, is_no_directory, is_not_dir, link_refused, no_directory, no_object, place_refused, remove_refused, IsObjectNumber}
 use Rattle.st_effects.specs.NameTests.{walk_error}
 use Rattle.st_exec_names.proofs.Looked.{holder_looked, looked}
 use Rattle.st_exec_objects.proofs.Objects.{numbered}
@@ -40,7 +40,7 @@ kind_seen kind.File content = refl
 kind_seen kind.Link content = refl
 
 -- a name that a walk reaches, and that has an object, isn't found missing
-pub object_there : (tree : Tree) (ids : Ids) (name : Components) (number : ℕ) → walk_error tree ids name ≡ None → object_of tree name ≡ Some number → IsMade tree number → no_object tree name ≡ None
+pub object_there : (tree : Tree) (ids : Ids) (name : Components) (number : ℕ) → walk_error tree ids name ≡ None → object_of tree name ≡ Some number → IsObjectNumber tree number → no_object tree name ≡ None
 object_there tree ids name number walked found made =
     ap unseen (looked tree ids name walked ∙ ap (λ object. seen_of (node_at tree object)) found ∙ ap seen_of (numbered tree number made))
     ∙ kind_seen (node_with_number tree number).kind (node_with_number tree number).content
@@ -69,7 +69,7 @@ plain_named tree (part ∷ rest) number root found plain = refl
 -- ---- changes
 
 -- a name without entries below it
-pub removable : (tree : Tree) (ids : Ids) (name : Components) (number : ℕ) → is_root name ≡ false → walk_error tree ids name ≡ None → object_of tree name ≡ Some number → IsMade tree number → entry_count tree number ≡ 0
+pub removable : (tree : Tree) (ids : Ids) (name : Components) (number : ℕ) → is_root name ≡ false → walk_error tree ids name ≡ None → object_of tree name ≡ Some number → IsObjectNumber tree number → entry_count tree number ≡ 0
     → remove_refused tree name ≡ None
 removable tree ids name number named walked found made bare =
     ap (λ root. first_error (error_if root EINVAL ∷ no_object tree name ∷ error_if (has_entries tree (object_of tree name)) ENOTEMPTY ∷ [])) named

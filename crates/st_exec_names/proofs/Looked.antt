@@ -17,8 +17,8 @@ use Rattle.st_effects.specs.NameTests.{search_error, walk_error, walk_error_from
 -- a walk goes on from a directory, and has no error afterwards
 record IsPassed (found : Option Node) (rest : Option Errno) : Type 0 where
   seen : seen_of found ≡ Dir
-  through : (behind : SeenText) → seen_through found behind ≡ behind
-  behind : rest ≡ None
+  through : (following : SeenText) → seen_through found following ≡ following
+  following : rest ≡ None
 
 kind_seen : (kind : Kind) (content : List ℕ) → is_directory kind ≡ true → seen_of_kind kind content ≡ Dir
 kind_seen kind.Dir content is = refl
@@ -28,8 +28,8 @@ kind_seen kind.Link content is = cc
 passed_by : (node : Node) (directory may : Bool) (rest : Option Errno) → is_directory node.kind ≡ directory → (if directory then (if may then rest else Some EACCES) else Some ENOTDIR) ≡ None → IsPassed (Some node) rest
 passed_by node true true rest is none = record {
   seen = kind_seen node.kind node.content is;
-  through = λ behind. rw is refl;
-  behind = none;
+  through = λ following. rw is refl;
+  following = none;
 }
 passed_by node true false rest is none = cc
 passed_by node false may rest is none = cc
@@ -43,7 +43,7 @@ looked_from : (tree : Tree) (ids : Ids) (done rest : Components) → walk_error_
 looked_from tree ids done [] none = ap (λ name. seen_of (node_of tree name)) (sym (append-nil done))
 looked_from tree ids done (part ∷ rest) none =
     let on = passed (node_of tree done) ids (walk_error_from tree ids (done ++ part ∷ []) rest) none in
-    on.through (look_along tree (done ++ part ∷ []) rest) ∙ looked_from tree ids (done ++ part ∷ []) rest on.behind
+    on.through (look_along tree (done ++ part ∷ []) rest) ∙ looked_from tree ids (done ++ part ∷ []) rest on.following
     ∙ ap (λ name. seen_of (node_of tree name)) (append_assoc done (part ∷ []) rest)
 
 pub looked : (tree : Tree) (ids : Ids) (name : Components) → walk_error tree ids name ≡ None → look tree name ≡ seen_of (node_of tree name)
@@ -60,7 +60,7 @@ holder_looked_from tree ids done part [] none = (passed (node_of tree done) ids 
 holder_looked_from tree ids done part (next ∷ rest) none =
     let on = passed (node_of tree done) ids (walk_error_from tree ids (done ++ part ∷ []) (next ∷ rest)) none in
     ap (look_along tree done) (parent-more part next rest) ∙ on.through (look_along tree (done ++ part ∷ []) (parent (next ∷ rest)))
-    ∙ holder_looked_from tree ids (done ++ part ∷ []) next rest on.behind
+    ∙ holder_looked_from tree ids (done ++ part ∷ []) next rest on.following
 
 pub holder_looked : (tree : Tree) (ids : Ids) (part : List ℕ) (rest : Components) → walk_error tree ids (part ∷ rest) ≡ None → look tree (parent (part ∷ rest)) ≡ Dir
 holder_looked tree ids part rest none = holder_looked_from tree ids [] part rest none

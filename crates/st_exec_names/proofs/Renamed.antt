@@ -8,7 +8,7 @@ use Rattle.st_base.specs.declared.errno.Errno.TheVariants.{EINVAL, EISDIR, ENOTD
 use Rattle.st_base.specs.declared.ids.Ids.{Ids}
 use Rattle.st_names.specs.Name.{Components, is_root}
 use Rattle.st_model.specs.Tree.{Tree, entry_count, is_directory, is_proper_prefix, is_same_name, node_with_number, object_of, rename, remove_name, without_name}
-use Rattle.st_tree.specs.Refusals.{is_same_object, no_directory, no_object, rename_refused, replace_refused, tree_after_rename, IsMade}
+use Rattle.st_tree.specs.Refusals.{is_same_object, no_directory, no_object, rename_refused, replace_refused, tree_after_rename, IsObjectNumber}
 use Rattle.st_effects.specs.Changes.{tree_after}
 use Rattle.st_effects.specs.Names.{directory_not_empty, move_outcome, rename_outcome}
 use Rattle.st_effects.specs.NameTests.{Object, object_at, object_numbered, object_with, on_found, on_object, parent_not_writable, walk_error}
@@ -44,7 +44,7 @@ swapped a b false is = ne_eqb b a (λ one. true≢false (sym (eq-eqb a b (sym on
 
 -- ---- renamings that aren't refused
 
-pub movable : (tree : Tree) (ids : Ids) (old new : Components) (number : ℕ) (other : Option ℕ) → (is_root old || (is_root new || is_proper_prefix old new)) ≡ false → walk_error tree ids old ≡ None → object_of tree old ≡ Some number → IsMade tree number
+pub movable : (tree : Tree) (ids : Ids) (old new : Components) (number : ℕ) (other : Option ℕ) → (is_root old || (is_root new || is_proper_prefix old new)) ≡ false → walk_error tree ids old ≡ None → object_of tree old ≡ Some number → IsObjectNumber tree number
     → walk_error tree ids new ≡ None → object_of tree new ≡ other → taken_refused tree number other ≡ None → rename_refused tree old new ≡ None
 movable tree ids old new number other free walked found made walked_new held may =
     let are = are_false (is_root old) (is_root new) (is_proper_prefix old new) free in
@@ -141,13 +141,13 @@ renamed system request old new =
     error_if (is_root old || (is_root new || is_proper_prefix old new)) EINVAL ∷ [])
     (move_outcome system request old new object (object_at system.tree new))))
 
-object_found : (tree : Tree) (name : Components) (number : ℕ) → object_of tree name ≡ Some number → IsMade tree number → object_at tree name ≡ Some (object_made tree number)
+object_found : (tree : Tree) (name : Components) (number : ℕ) → object_of tree name ≡ Some number → IsObjectNumber tree number → object_at tree name ≡ Some (object_made tree number)
 object_found tree name number found made = ap (object_numbered tree) found ∙ ap (object_with number) (numbered tree number made)
 
 -- rename(2) if another object has the new name
 pub replacing : (system : System) (request : Request) (tree : Tree) (ids : Ids) (old new : Components) (number other : ℕ) (same : Bool)
-    → old ≡ arg_name_at request 0 → new ≡ arg_name_at request 1 → ids ≡ request.ids → walk_error tree ids old ≡ None → object_of tree old ≡ Some number → IsMade tree number → walk_error tree ids new ≡ None
-    → (is_root old || (is_root new || is_proper_prefix old new)) ≡ false → object_of tree new ≡ Some other → IsMade tree other → (number == other) ≡ same
+    → old ≡ arg_name_at request 0 → new ≡ arg_name_at request 1 → ids ≡ request.ids → walk_error tree ids old ≡ None → object_of tree old ≡ Some number → IsObjectNumber tree number → walk_error tree ids new ≡ None
+    → (is_root old || (is_root new || is_proper_prefix old new)) ≡ false → object_of tree new ≡ Some other → IsObjectNumber tree other → (number == other) ≡ same
     → rename_outcome (with_tree system tree) request ≡ (if same then success system 0 [] else
     unless_refused system (parent_not_writable tree ids old ∷ parent_not_writable tree ids new ∷ replace_errors tree number other) (success system 0 (change.Removed new ∷ change.Renamed old new ∷ [])))
 replacing system request tree ids old new number other same old_is new_is ids_is walked found made walked_new free held other_made same_is =

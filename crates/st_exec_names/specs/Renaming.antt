@@ -3,11 +3,11 @@ use Rattle.std.specs.Prelude.{◌≡◌, false, ◌||◌, List, [], ◌∷◌, S
 use Rattle.st_base.specs.declared.ids.Ids.{Ids}
 use Rattle.st_names.specs.Name.{Components, is_root}
 use Rattle.st_model.specs.Tree.{Tree, is_proper_prefix}
-use Rattle.st_tree.specs.Refusals.{IsMade}
+use Rattle.st_tree.specs.Refusals.{IsObjectNumber}
 use Rattle.st_effects.specs.NameTests.{walk_error}
 use Rattle.st_trace.specs.declared.entry.Change.{Change}
 use Rattle.st_trace.specs.declared.entry.Change.TheVariants.{Removed, Renamed}
-use Rattle.st_exec_objects.specs.Walking.{IsPlace}
+use Rattle.st_exec_objects.specs.Walking.{IsPlaceOfName}
 use Rattle.st_exec_names.specs.declared.renaming.Both.{Both}
 use Rattle.st_exec_names.specs.declared.renaming.Move.{Move}
 use Rattle.st_exec_names.specs.declared.renaming.Move.TheVariants.{Stays, Free, Replaces}
@@ -21,9 +21,9 @@ changes_of_move Replaces old new = Removed new ∷ Renamed old new ∷ []
 -- what both names have, if the object can be renamed from one to the other
 pub record AreFound (tree : Tree) (ids : Ids) (old new : Components) (both : Both) : Type 0 where
   pub walked : walk_error tree ids old ≡ None
-  pub from : IsPlace tree old both.from
+  pub from : IsPlaceOfName tree old both.from
   pub object : both.from.object ≡ Some both.obj
-  pub made : IsMade tree both.obj
+  pub made : IsObjectNumber tree both.obj
   pub walked_new : walk_error tree ids new ≡ None
-  pub to : IsPlace tree new both.to
+  pub to : IsPlaceOfName tree new both.to
   pub free : (is_root old || (is_root new || is_proper_prefix old new)) ≡ false

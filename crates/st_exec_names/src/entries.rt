@@ -6,7 +6,7 @@ ghost use Rattle.st_effects.specs.Names.{directory_not_empty, rmdir_outcome, unl
 ghost use Rattle.st_effects.specs.System.{arg_name_at, success, System};
 ghost use Rattle.st_model.specs.Tree.{entry_count, remove_name};
 ghost use Rattle.st_trace.specs.declared.entry.CallResult.TheVariants.{Value};
-ghost use Rattle.st_tree.specs.Refusals.{remove_refused, IsMade};
+ghost use Rattle.st_tree.specs.Refusals.{remove_refused, IsObjectNumber};
 ghost use Rattle.st_request.specs.Outcome.{outcome_of, unless_err, with_tree};
 ghost use Rattle.st_exec_objects.specs.Walking.{object_made};
 
@@ -64,7 +64,7 @@ pub fn unlink(tree: &mut Tree, alloc: Global, request: &Request<'_>) -> Result<O
 
 // Checks that an object isn't a directory with entries, and so may be removed; otherwise ENOTEMPTY.
 pub(crate) fn may_take_away(tree: &Tree, obj: Obj) -> Result<(), Errno>
-    requires { IsMade tree.now obj }
+    requires { IsObjectNumber tree.now obj }
     ensures refused { result_err result ≡ directory_not_empty tree.now (object_made tree.now obj) }
     ensures bare { OnOk result (entry_count tree.now obj ≡ 0) }
 {

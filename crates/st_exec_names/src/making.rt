@@ -8,7 +8,7 @@ ghost use Rattle.st_effects.specs.NameTests.{parent_not_writable, walk_error};
 ghost use Rattle.st_effects.specs.System.{arg_name_at, success, System};
 ghost use Rattle.st_model.specs.Tree.{node_of_kind, node_with_number};
 ghost use Rattle.st_model.specs.declared.object.NewKind.{NewKind};
-ghost use Rattle.st_tree.specs.Refusals.{add_refused, link_refused, place_refused, IsMade};
+ghost use Rattle.st_tree.specs.Refusals.{add_refused, link_refused, place_refused, IsObjectNumber};
 ghost use Rattle.st_request.specs.Outcome.{outcome_of, unless_err, with_tree};
 
 use st_base::{Errno, Ids, Obj, Text};
@@ -74,7 +74,7 @@ pub fn make_object(
     ensures result { IfOk result (λ outcome. outcome.result ≡ CallResult.Value value) }
     ensures changes { IfOk result (λ outcome. outcome.changes ≡ Change.Made name (length tree.old.objects + 1) kind ids.euid ids.egid mode ∷ []) }
     ensures tree { IfOk result (λ outcome. tree.new ≡ tree_after tree.old outcome.changes) }
-    ensures made { OnOk result (IsMade tree.new (length tree.old.objects + 1)) }
+    ensures made { OnOk result (IsObjectNumber tree.new (length tree.old.objects + 1)) }
     ensures node { OnOk result (node_with_number tree.new (length tree.old.objects + 1) ≡ node_of_kind kind ids.euid ids.egid mode) }
     ensures err { OnErr result (tree.new ≡ tree.old) }
 {
@@ -147,7 +147,7 @@ pub fn symlink(tree: &mut Tree, alloc: Global, request: &Request<'_>) -> Result<
 fn may_link(tree: &Tree, request: &Request<'_>, old: &AbsName, new: &AbsName) -> Result<Obj, Errno>
     requires old { old.now ≡ arg_name_at request.now 0 }
     requires new { new.now ≡ arg_name_at request.now 1 }
-    ensures made { IfOk result (IsMade tree.now) }
+    ensures made { IfOk result (IsObjectNumber tree.now) }
     ensures outcome { (system : System) → link_outcome (with_tree system tree.now) request.now ≡ unless_err system result (λ obj. success system 0 (Change.Linked new.now obj ∷ [])) }
     ensures may { IfOk result (λ obj. link_refused tree.now obj new.now ≡ None) }
 {

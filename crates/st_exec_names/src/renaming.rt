@@ -9,10 +9,10 @@ ghost use Rattle.st_effects.specs.NameTests.{parent_not_writable};
 ghost use Rattle.st_effects.specs.System.{arg_name_at, failure, success, System};
 ghost use Rattle.st_model.specs.Tree.{is_directory, is_proper_prefix, node_with_number};
 ghost use Rattle.st_names.specs.Name.{is_root, Components};
-ghost use Rattle.st_tree.specs.Refusals.{rename_refused, replace_refused, tree_after_rename, IsMade};
+ghost use Rattle.st_tree.specs.Refusals.{rename_refused, replace_refused, tree_after_rename, IsObjectNumber};
 ghost use Rattle.st_request.specs.Outcome.{outcome_of, unless_err, with_tree};
 ghost use Rattle.st_exec_names.specs.Renaming.{changes_of_move, AreFound};
-ghost use Rattle.st_exec_objects.specs.Walking.{object_made, IsPlace};
+ghost use Rattle.st_exec_objects.specs.Walking.{object_made, IsPlaceOfName};
 
 use crate::entries::may_take_away;
 use st_base::{Errno, Ids, Obj, Sequence};
@@ -66,8 +66,8 @@ fn is_fixed(old: &AbsName, new: &AbsName) -> bool
 
 // Checks that an object may replace another; otherwise gives the error of the call.
 fn may_replace(tree: &Tree, obj: Obj, other: Obj) -> Result<(), Errno>
-    requires object { IsMade tree.now obj }
-    requires other { IsMade tree.now other }
+    requires object { IsObjectNumber tree.now obj }
+    requires other { IsObjectNumber tree.now other }
     ensures refused { let moved = is_directory (node_with_number tree.now obj).kind in let replaced = is_directory (node_with_number tree.now other).kind in result_err result ≡ first_error (error_if (moved && not replaced) ENOTDIR ∷ error_if (replaced && not moved) EISDIR ∷ directory_not_empty tree.now (object_made tree.now other) ∷ []) }
     ensures may { OnOk result (replace_refused tree.now (Some obj) (Some other) ≡ None) }
 {
@@ -109,9 +109,9 @@ fn find_both(
 // Checks that a call may change the entries of the directories of both names; EACCES if the ids may not write one of these
 // directories.
 fn may_write_holders(tree: &Tree, ids: Ids, both: Both) -> Result<(), Errno>
-    requires from { IfSome both.from.holder (IsMade tree.now) }
-    requires to { IfSome both.to.holder (IsMade tree.now) }
-    ensures { (old new : Components) → IsPlace tree.now old both.from → IsPlace tree.now new both.to → result_err result ≡ first_error (parent_not_writable tree.now ids old ∷ parent_not_writable tree.now ids new ∷ []) }
+    requires from { IfSome both.from.holder (IsObjectNumber tree.now) }
+    requires to { IfSome both.to.holder (IsObjectNumber tree.now) }
+    ensures { (old new : Components) → IsPlaceOfName tree.now old both.from → IsPlaceOfName tree.now new both.to → result_err result ≡ first_error (parent_not_writable tree.now ids old ∷ parent_not_writable tree.now ids new ∷ []) }
 {
     walking::may_write_holder(tree, ids, both.from)?;
     walking::may_write_holder(tree, ids, both.to)?;

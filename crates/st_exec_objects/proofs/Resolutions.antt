@@ -6,7 +6,7 @@ use Rattle.st_names.specs.declared.seen.SeenText.{SeenText}
 use Rattle.st_model.specs.Tree.{Tree, look}
 use Rattle.st_model.specs.Walk.{WalkState, Name, Next, Fault, needs_lookup, start_walk, walk_through, resolve, resolve_within, most_lookups}
 use Rattle.st_model.proofs.Endings.{resolve_ends}
-use Rattle.st_resolve.specs.Walk.{asked_name, step_of}
+use Rattle.st_resolve.specs.Walk.{asked_name, walk_step}
 use Rattle.st_resolve.specs.declared.walk.WalkStep.TheVariants as step
 
 -- the state of a walk, as a function of what is seen
@@ -14,13 +14,13 @@ abbrev pub Course : Type 0
 Course = List SeenText → WalkState
 
 -- the course after a look at a name
-abbrev behind : Tree → Course → Components → Course
-behind tree course name more = course (look tree name ∷ more)
+abbrev following : Tree → Course → Components → Course
+following tree course name more = course (look tree name ∷ more)
 
 -- where a course ends after at most that many looks at the tree
 abbrev pub end_of : ℕ → Tree → Course → WalkState
 end_of zero tree course = course []
-end_of (suc looks) tree course = walk_through (λ name. end_of looks tree (behind tree course name)) (course [])
+end_of (suc looks) tree course = walk_through (λ name. end_of looks tree (following tree course name)) (course [])
 
 abbrev counted : (Components → ℕ) → WalkState → ℕ
 counted further (Name name) = 0
@@ -30,7 +30,7 @@ counted further (Fault errno) = 0
 -- how many looks a course makes, of at most that many
 abbrev pub looks_of : ℕ → Tree → Course → ℕ
 looks_of zero tree course = 0
-looks_of (suc looks) tree course = counted (λ name. looks_of looks tree (behind tree course name)) (course [])
+looks_of (suc looks) tree course = counted (λ name. looks_of looks tree (following tree course name)) (course [])
 
 -- ---- courses that agree
 
@@ -47,19 +47,19 @@ counted_same f g (Fault errno) x e h = cc
 end_same : (looks : ℕ) (tree : Tree) (f g : Course) → ((more : List SeenText) → f more ≡ g more) → end_of looks tree f ≡ end_of looks tree g
 end_same zero tree f g h = h []
 end_same (suc looks) tree f g h =
-    through_same _ _ (f []) (g []) (h []) (λ name. end_same looks tree (behind tree f name) (behind tree g name) (λ more. h (look tree name ∷ more)))
+    through_same _ _ (f []) (g []) (h []) (λ name. end_same looks tree (following tree f name) (following tree g name) (λ more. h (look tree name ∷ more)))
 
 looks_same : (looks : ℕ) (tree : Tree) (f g : Course) → ((more : List SeenText) → f more ≡ g more) → looks_of looks tree f ≡ looks_of looks tree g
 looks_same zero tree f g h = refl
 looks_same (suc looks) tree f g h =
-    counted_same _ _ (f []) (g []) (h []) (λ name. looks_same looks tree (behind tree f name) (behind tree g name) (λ more. h (look tree name ∷ more)))
+    counted_same _ _ (f []) (g []) (h []) (λ name. looks_same looks tree (following tree f name) (following tree g name) (λ more. h (look tree name ∷ more)))
 
 -- ---- one more look changes nothing after the course has ended
 
 end_more_at : (looks : ℕ) (tree : Tree) (course : Course) (w : WalkState) → course [] ≡ w →
-    ((name : Components) → needs_lookup (end_of looks tree (behind tree course name)) ≡ false → end_of (suc looks) tree (behind tree course name) ≡ end_of looks tree (behind tree course name)) →
-    needs_lookup (walk_through (λ name. end_of looks tree (behind tree course name)) w) ≡ false →
-    walk_through (λ name. end_of (suc looks) tree (behind tree course name)) w ≡ walk_through (λ name. end_of looks tree (behind tree course name)) w
+    ((name : Components) → needs_lookup (end_of looks tree (following tree course name)) ≡ false → end_of (suc looks) tree (following tree course name) ≡ end_of looks tree (following tree course name)) →
+    needs_lookup (walk_through (λ name. end_of looks tree (following tree course name)) w) ≡ false →
+    walk_through (λ name. end_of (suc looks) tree (following tree course name)) w ≡ walk_through (λ name. end_of looks tree (following tree course name)) w
 end_more_at looks tree course (Name name) e step quiet = refl
 end_more_at looks tree course (Next name) e step quiet = step name quiet
 end_more_at looks tree course (Fault errno) e step quiet = refl
@@ -72,12 +72,12 @@ quiet_at tree course (Fault errno) further e quiet = refl
 end_more : (looks : ℕ) (tree : Tree) (course : Course) → needs_lookup (end_of looks tree course) ≡ false → end_of (suc looks) tree course ≡ end_of looks tree course
 end_more zero tree course quiet = quiet_at tree course (course []) _ refl quiet
 end_more (suc looks) tree course quiet =
-    end_more_at looks tree course (course []) refl (λ name q. end_more looks tree (behind tree course name) q) quiet
+    end_more_at looks tree course (course []) refl (λ name q. end_more looks tree (following tree course name) q) quiet
 
 looks_more_at : (looks : ℕ) (tree : Tree) (course : Course) (w : WalkState) →
-    ((name : Components) → needs_lookup (end_of looks tree (behind tree course name)) ≡ false → looks_of (suc looks) tree (behind tree course name) ≡ looks_of looks tree (behind tree course name)) →
-    needs_lookup (walk_through (λ name. end_of looks tree (behind tree course name)) w) ≡ false →
-    counted (λ name. looks_of (suc looks) tree (behind tree course name)) w ≡ counted (λ name. looks_of looks tree (behind tree course name)) w
+    ((name : Components) → needs_lookup (end_of looks tree (following tree course name)) ≡ false → looks_of (suc looks) tree (following tree course name) ≡ looks_of looks tree (following tree course name)) →
+    needs_lookup (walk_through (λ name. end_of looks tree (following tree course name)) w) ≡ false →
+    counted (λ name. looks_of (suc looks) tree (following tree course name)) w ≡ counted (λ name. looks_of looks tree (following tree course name)) w
 looks_more_at looks tree course (Name name) step quiet = refl
 looks_more_at looks tree course (Next name) step quiet = ap suc (step name quiet)
 looks_more_at looks tree course (Fault errno) step quiet = refl
@@ -90,7 +90,7 @@ none_at (Fault errno) further quiet = refl
 looks_more : (looks : ℕ) (tree : Tree) (course : Course) → needs_lookup (end_of looks tree course) ≡ false → looks_of (suc looks) tree course ≡ looks_of looks tree course
 looks_more zero tree course quiet = none_at (course []) _ quiet
 looks_more (suc looks) tree course quiet =
-    looks_more_at looks tree course (course []) (λ name q. looks_more looks tree (behind tree course name) q) quiet
+    looks_more_at looks tree course (course []) (λ name q. looks_more looks tree (following tree course name) q) quiet
 
 -- ---- a look that is made
 
@@ -100,15 +100,15 @@ pub record IsOnward (tree : Tree) (name : Components) (old new : Course) : Type 
   pub goes_on : (more : List SeenText) → new more ≡ old (look tree name ∷ more)
 
 module _ (tree : Tree) (name : Components) (old new : Course) (onward : IsOnward tree name old new) where
-  end_behind : (looks : ℕ) → end_of (suc looks) tree old ≡ end_of looks tree new
-  end_behind looks =
-      ap (walk_through (λ n. end_of looks tree (behind tree old n))) onward.asks ∙
-      sym (end_same looks tree new (behind tree old name) onward.goes_on)
+  end_after : (looks : ℕ) → end_of (suc looks) tree old ≡ end_of looks tree new
+  end_after looks =
+      ap (walk_through (λ n. end_of looks tree (following tree old n))) onward.asks ∙
+      sym (end_same looks tree new (following tree old name) onward.goes_on)
 
-  looks_behind : (looks : ℕ) → looks_of (suc looks) tree old ≡ suc (looks_of looks tree new)
-  looks_behind looks =
-      ap (counted (λ n. looks_of looks tree (behind tree old n))) onward.asks ∙
-      ap suc (sym (looks_same looks tree new (behind tree old name) onward.goes_on))
+  looks_after : (looks : ℕ) → looks_of (suc looks) tree old ≡ suc (looks_of looks tree new)
+  looks_after looks =
+      ap (counted (λ n. looks_of looks tree (following tree old n))) onward.asks ∙
+      ap suc (sym (looks_same looks tree new (following tree old name) onward.goes_on))
 
   asks_still : needs_lookup (old []) ≡ true
   asks_still = ap needs_lookup onward.asks
@@ -117,16 +117,16 @@ module _ (tree : Tree) (name : Components) (old new : Course) (onward : IsOnward
   pub same_end : (looks : ℕ) → needs_lookup (end_of looks tree old) ≡ false → end_of looks tree new ≡ end_of looks tree old
   same_end zero quiet = let a = asks_still in cc
   same_end (suc looks) quiet =
-      let e = end_behind looks in
+      let e = end_after looks in
       end_more looks tree new (ap needs_lookup (sym e) ∙ quiet) ∙ sym e
 
   -- the new course makes fewer looks
   pub fewer_looks : (looks : ℕ) → needs_lookup (end_of looks tree old) ≡ false → looks_of looks tree new < looks_of looks tree old
   fewer_looks zero quiet = let a = asks_still in cc
   fewer_looks (suc looks) quiet =
-      let e = end_behind looks in
+      let e = end_after looks in
       let m = looks_more looks tree new (ap needs_lookup (sym e) ∙ quiet) in
-      let b = looks_behind looks in
+      let b = looks_after looks in
       omega (arith, m, b)
 
 -- ---- a course that has ended
@@ -168,7 +168,7 @@ asks_name (Name other) name e = cc
 asks_name (Next other) name e = cc
 asks_name (Fault errno) name e = cc
 
-pub fault_if : (w : WalkState) (errno : Errno) → step_of w ≡ step.Fault errno → w ≡ Fault errno
+pub fault_if : (w : WalkState) (errno : Errno) → walk_step w ≡ step.Fault errno → w ≡ Fault errno
 fault_if (Name name) errno e = cc
 fault_if (Next name) errno e = cc
 fault_if (Fault other) errno e = cc
@@ -176,7 +176,7 @@ fault_if (Fault other) errno e = cc
 -- a walk that goes on by what is seen of the name that it asks for
 pub goes_onward : (tree : Tree) (name : Components) (seen : SeenText) (old new : Course) → Some name ≡ asked_name (old []) → seen ≡ look tree name →
     ((more : List SeenText) → new more ≡ old (seen ∷ more)) → IsOnward tree name old new
-goes_onward tree name seen old new asked is told = record {
+goes_onward tree name seen old new asked is known = record {
   asks = asks_name (old []) name asked;
-  goes_on = λ more. told more ∙ ap (λ s. old (s ∷ more)) is;
+  goes_on = λ more. known more ∙ ap (λ s. old (s ∷ more)) is;
 }

@@ -8,15 +8,15 @@ use Rattle.st_names.specs.Name.{Components, is_root}
 use Rattle.st_model.specs.Permission.{allowed}
 use Rattle.st_model.specs.declared.permission.Want.TheVariants.{Search}
 use Rattle.st_model.specs.Tree.{Tree, Node, is_directory, node_of, node_at, node_of_number, object_of}
-use Rattle.st_tree.specs.Refusals.{IsMade}
+use Rattle.st_tree.specs.Refusals.{IsObjectNumber}
 use Rattle.st_tree.proofs.Flat.{parent_push}
 use Rattle.st_effects.specs.NameTests.{search_error, walk_error, walk_error_from}
 use Rattle.st_exec_objects.specs.Walking.{holder_of, IsWalked}
 use Rattle.st_exec_objects.specs.declared.walking.Place.{Place}
 
 -- the node of the object that was reached, if any
-object_behind : (tree : Tree) (name : Components) (held : Option ℕ) → held ≡ object_of tree name → node_of tree name ≡ node_at tree held
-object_behind tree name held is = ap (node_at tree) (sym is)
+object_after : (tree : Tree) (name : Components) (held : Option ℕ) → held ≡ object_of tree name → node_of tree name ≡ node_at tree held
+object_after tree name held is = ap (node_at tree) (sym is)
 
 -- the directory of a name with one more component
 pub holder-push : (tree : Tree) (name : Components) (part : List ℕ) → holder_of tree (name ++ part ∷ []) ≡ object_of tree name
@@ -31,7 +31,7 @@ longer_no_root (first ∷ rest) part = refl
 pub walk_left : (tree : Tree) (ids : Ids) (name done left rest : Components) (part : List ℕ) (place : Place) → IsWalked tree ids name done left place → left ≡ part ∷ rest
     → search_error (node_at tree place.object) ids (walk_error_from tree ids (done ++ part ∷ []) rest) ≡ walk_error tree ids name
 walk_left tree ids name done left rest part place walked is =
-    ap (λ found. search_error found ids (walk_error_from tree ids (done ++ part ∷ []) rest)) (sym (object_behind tree done place.object walked.place.object))
+    ap (λ found. search_error found ids (walk_error_from tree ids (done ++ part ∷ []) rest)) (sym (object_after tree done place.object walked.place.object))
     ∙ ap (walk_error_from tree ids done) (sym is) ∙ walked.error
 
 -- no object has the name so far
@@ -71,7 +71,7 @@ walk_stops tree ids name done left rest part place number errno walked is found 
 
 -- an object is reached from which the walk goes on
 pub walk_on : (tree : Tree) (ids : Ids) (name done left rest : Components) (part : List ℕ) (place : Place) (number : ℕ) (child : Option ℕ) → IsWalked tree ids name done left place → left ≡ part ∷ rest → place.object ≡ Some number
-    → None ≡ search_error (node_of_number tree number) ids None → ((name : Components) → object_of tree name ≡ Some number → child ≡ object_of tree (name ++ part ∷ [])) → IfSome child (IsMade tree)
+    → None ≡ search_error (node_of_number tree number) ids None → ((name : Components) → object_of tree name ≡ Some number → child ≡ object_of tree (name ++ part ∷ [])) → IfSome child (IsObjectNumber tree)
     → IsWalked tree ids name (done ++ part ∷ []) rest (record { holder = Some number; object = child })
 walk_on tree ids name done left rest part place number child walked is found leads held made = record {
   split = append_assoc done (part ∷ []) rest ∙ ap (λ tail. done ++ tail) (sym is) ∙ walked.split;
@@ -81,7 +81,7 @@ walk_on tree ids name done left rest part place number child walked is found lea
     root = sym (longer_no_root done part);
     root_directory = walked.place.root_directory;
     object_made = made;
-    holder_made = let P : Option ℕ → Type 0 = λ object. IfSome object (IsMade tree) in subst P found walked.place.object_made;
+    holder_made = let P : Option ℕ → Type 0 = λ object. IfSome object (IsObjectNumber tree) in subst P found walked.place.object_made;
   };
   error =
       sym (goes_on (node_of_number tree number) ids (walk_error_from tree ids (done ++ part ∷ []) rest) leads)

@@ -3,7 +3,7 @@ ghost use Rattle.std.specs.Prelude.{◌≡◌, ◌≢◌, ◌^◌, ◌<◌, ℕ,
 ghost use Rattle.st_effects.specs.Changes.{memory_after};
 ghost use Rattle.st_effects.specs.Processes.{execve_outcome, policy_changes};
 ghost use Rattle.st_effects.specs.System.{arg_name_at, success, System};
-ghost use Rattle.st_memory.specs.Memory.{byte_in, is_live, next_space};
+ghost use Rattle.st_memory.specs.Memory.{byte_in, is_space_live, next_space};
 ghost use Rattle.st_model.specs.Processes.{next_pid, process_at, IsPid};
 ghost use Rattle.st_names.specs.Name.{printed_name};
 ghost use Rattle.st_request.specs.Outcome.{outcome_of, unless_err, with_memories, with_tree};
@@ -69,7 +69,7 @@ fn execute(
     name: &AbsName,
 ) -> Result<Outcome, AllocError>
     requires process { IsPid procs.old request.now.pid }
-    requires space { is_live spaces.old (process_at procs.old request.now.pid).space ≡ true }
+    requires space { is_space_live spaces.old (process_at procs.old request.now.pid).space ≡ true }
     requires room { next_space spaces.old < 2 ^ 32 }
     ensures result { IfOk result (λ outcome. outcome.result ≡ Value 0) }
     ensures changes { IfOk result (λ outcome. outcome.changes ≡ Change.Execed (printed_name name.now) (next_space spaces.old) ∷ policy_changes request.now.inherit (printed_name name.now)) }
@@ -77,8 +77,8 @@ fn execute(
     ensures spaces { IfOk result (λ outcome. spaces.new ≡ spaces_after (process_at procs.old request.now.pid).space spaces.old outcome.changes) }
     ensures memory { IfOk result (λ outcome. (s b : ℕ) → s ≢ (process_at procs.old request.now.pid).space → byte_in spaces.new s b ≡ memory_after (process_at procs.old request.now.pid).space (byte_in spaces.old) outcome.changes s b) }
     ensures pids { next_pid procs.new ≡ next_pid procs.old }
-    ensures ready { is_live spaces.new (process_at procs.new request.now.pid).space ≡ true }
-    ensures live { (s : ℕ) → s ≢ (process_at procs.old request.now.pid).space → is_live spaces.old s ≡ true → is_live spaces.new s ≡ true }
+    ensures ready { is_space_live spaces.new (process_at procs.new request.now.pid).space ≡ true }
+    ensures live { (s : ℕ) → s ≢ (process_at procs.old request.now.pid).space → is_space_live spaces.old s ≡ true → is_space_live spaces.new s ≡ true }
     ensures err { OnErr result ((procs.new ≡ procs.old) × (spaces.new ≡ spaces.old)) }
 {
     let binary = Shared::new(alloc, name.print(alloc)?)?;
@@ -104,15 +104,15 @@ pub fn execve(
     request: &Request<'_>,
 ) -> Result<Outcome, AllocError>
     requires process { IsPid procs.old request.now.pid }
-    requires space { is_live spaces.old (process_at procs.old request.now.pid).space ≡ true }
+    requires space { is_space_live spaces.old (process_at procs.old request.now.pid).space ≡ true }
     requires room { next_space spaces.old < 2 ^ 32 }
     ensures outcome { IfOk result (λ outcome. (system : System) → outcome_of outcome system.descriptors ≡ execve_outcome (with_tree (with_memories system spaces.old) tree.now) request.now) }
     ensures processes { IfOk result (λ outcome. AreProcessesAfter procs.old request.now.pid outcome.changes procs.new) }
     ensures spaces { IfOk result (λ outcome. spaces.new ≡ spaces_after (process_at procs.old request.now.pid).space spaces.old outcome.changes) }
     ensures memory { IfOk result (λ outcome. (s b : ℕ) → s ≢ (process_at procs.old request.now.pid).space → byte_in spaces.new s b ≡ memory_after (process_at procs.old request.now.pid).space (byte_in spaces.old) outcome.changes s b) }
     ensures pids { next_pid procs.new ≡ next_pid procs.old }
-    ensures ready { is_live spaces.new (process_at procs.new request.now.pid).space ≡ true }
-    ensures live { (s : ℕ) → s ≢ (process_at procs.old request.now.pid).space → is_live spaces.old s ≡ true → is_live spaces.new s ≡ true }
+    ensures ready { is_space_live spaces.new (process_at procs.new request.now.pid).space ≡ true }
+    ensures live { (s : ℕ) → s ≢ (process_at procs.old request.now.pid).space → is_space_live spaces.old s ≡ true → is_space_live spaces.new s ≡ true }
     ensures err { OnErr result ((procs.new ≡ procs.old) × (spaces.new ≡ spaces.old)) }
 {
     let name = request.name(alloc, 0)?;

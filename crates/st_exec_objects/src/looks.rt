@@ -5,11 +5,11 @@ ghost use Rattle.std.specs.Int.{w64, to_le_bytes};
 ghost use Rattle.st_effects.specs.Changes.{memory_after};
 ghost use Rattle.st_effects.specs.Names.{number_of_kind, readlink_outcome, stat_outcome, stat_words};
 ghost use Rattle.st_effects.specs.System.{arg_name_at, register, space_of_caller, success, System};
-ghost use Rattle.st_memory.specs.Memory.{byte_in, is_live, KeepsSpaces};
+ghost use Rattle.st_memory.specs.Memory.{byte_in, is_space_live, KeepsSpaces};
 ghost use Rattle.st_model.specs.Processes.{process_at, IsPid};
 ghost use Rattle.st_model.specs.Tree.{node_with_number};
 ghost use Rattle.st_model.specs.declared.limits.TheConstants.{SPACE_BYTES};
-ghost use Rattle.st_tree.specs.Refusals.{IsMade};
+ghost use Rattle.st_tree.specs.Refusals.{IsObjectNumber};
 ghost use Rattle.st_request.specs.Outcome.{outcome_of, unless_err, with_processes, with_tree};
 ghost use Rattle.st_exec_objects.specs.Walking.{object_made};
 
@@ -54,7 +54,7 @@ fn bytes_of_words(alloc: Global, words: &[u64]) -> Result<Text, AllocError>
 
 // The bytes that stat(2) reports of an object.
 fn stat_words(tree: &Tree, alloc: Global, obj: Obj) -> Result<Text, AllocError>
-    requires { IsMade tree.now obj }
+    requires { IsObjectNumber tree.now obj }
     ensures words { IfOk result (λ text. text ≡ stat_words tree.now (object_made tree.now obj)) }
     ensures len { IfOk result (λ text. length text ≡ 40) }
 {
@@ -72,7 +72,7 @@ fn stat_words(tree: &Tree, alloc: Global, obj: Obj) -> Result<Text, AllocError>
 // The object that stat(2) reports, or the error of the call.
 fn may_stat(tree: &Tree, request: &Request<'_>, name: &AbsName) -> Result<Obj, Errno>
     requires { name.now ≡ arg_name_at request.now 0 }
-    ensures made { IfOk result (IsMade tree.now) }
+    ensures made { IfOk result (IsObjectNumber tree.now) }
     ensures inside { OnOk result (register request.now 1 + 40 ≤ SPACE_BYTES) }
     ensures outcome { (system : System) → stat_outcome (with_tree system tree.now) request.now ≡ unless_err system result (λ obj. success system 0 (Change.Put (space_of_caller system request.now) (register request.now 1) (stat_words tree.now (object_made tree.now obj)) ∷ [])) }
 {
@@ -94,7 +94,7 @@ pub fn stat(
     request: &Request<'_>,
 ) -> Result<Outcome, AllocError>
     requires process { IsPid procs.now request.now.pid }
-    requires space { is_live spaces.old (process_at procs.now request.now.pid).space ≡ true }
+    requires space { is_space_live spaces.old (process_at procs.now request.now.pid).space ≡ true }
     ensures outcome { IfOk result (λ outcome. (system : System) → outcome_of outcome system.descriptors ≡ stat_outcome (with_tree (with_processes system procs.now) tree.now) request.now) }
     ensures memory { IfOk result (λ outcome. (s b : ℕ) → byte_in spaces.new s b ≡ memory_after (process_at procs.now request.now.pid).space (byte_in spaces.old) outcome.changes s b) }
     ensures spaces { KeepsSpaces spaces.old spaces.new }
@@ -121,7 +121,7 @@ fn front(bytes: &[u8], count: u64) -> &[u8]
 // The link that readlink(2) reads, or the error of the call.
 fn may_read_link(tree: &Tree, request: &Request<'_>, name: &AbsName) -> Result<Obj, Errno>
     requires { name.now ≡ arg_name_at request.now 0 }
-    ensures made { IfOk result (IsMade tree.now) }
+    ensures made { IfOk result (IsObjectNumber tree.now) }
     ensures inside { OnOk result (register request.now 1 + register request.now 2 ≤ SPACE_BYTES) }
     ensures outcome { (system : System) → readlink_outcome (with_tree system tree.now) request.now ≡ unless_err system result (λ obj. let target = take (register request.now 2) (node_with_number tree.now obj).content in success system (length target) (Change.Put (space_of_caller system request.now) (register request.now 1) target ∷ [])) }
 {
@@ -145,7 +145,7 @@ pub fn readlink(
     request: &Request<'_>,
 ) -> Result<Outcome, AllocError>
     requires process { IsPid procs.now request.now.pid }
-    requires space { is_live spaces.old (process_at procs.now request.now.pid).space ≡ true }
+    requires space { is_space_live spaces.old (process_at procs.now request.now.pid).space ≡ true }
     ensures outcome { IfOk result (λ outcome. (system : System) → outcome_of outcome system.descriptors ≡ readlink_outcome (with_tree (with_processes system procs.now) tree.now) request.now) }
     ensures memory { IfOk result (λ outcome. (s b : ℕ) → byte_in spaces.new s b ≡ memory_after (process_at procs.now request.now.pid).space (byte_in spaces.old) outcome.changes s b) }
     ensures spaces { KeepsSpaces spaces.old spaces.new }

@@ -5,10 +5,10 @@ ghost use Rattle.st_base.specs.Errno.{error_if};
 ghost use Rattle.st_base.specs.declared.errno.Errno.TheVariants.{EINVAL};
 ghost use Rattle.st_effects.specs.Changes.{tree_after};
 ghost use Rattle.st_effects.specs.Descriptors.{low_mode};
-ghost use Rattle.st_effects.specs.Names.{access_outcome, chmod_outcome, chown_outcome, has_access, has_all_access, is_no_id, with_real_ids};
+ghost use Rattle.st_effects.specs.Names.{access_outcome, chmod_outcome, chown_outcome, has_access, has_all_access, exceeds_ids, with_real_ids};
 ghost use Rattle.st_effects.specs.System.{arg_name_at, register, success, System};
 ghost use Rattle.st_model.specs.Tree.{node_with_number};
-ghost use Rattle.st_tree.specs.Refusals.{IsMade};
+ghost use Rattle.st_tree.specs.Refusals.{IsObjectNumber};
 ghost use Rattle.st_request.specs.Outcome.{outcome_of, unless_err, with_tree};
 
 use crate::walking;
@@ -40,7 +40,7 @@ fn with_real_ids(ids: Ids) -> Ids
 
 // Whether this bit of a mode doesn't ask for an access, or the ids have that access.
 fn has_access(tree: &Tree, ids: Ids, obj: Obj, mode: u64, bit: u64, want: Want) -> bool
-    requires { IsMade tree.now obj }
+    requires { IsObjectNumber tree.now obj }
     ensures { result ≡ has_access ids (node_with_number tree.now obj) mode bit want }
 {
     mode & bit == 0 || tree.allowed(obj, ids.euid, ids.egid, want)
@@ -48,7 +48,7 @@ fn has_access(tree: &Tree, ids: Ids, obj: Obj, mode: u64, bit: u64, want: Want) 
 
 // Whether the ids have each access that a mode asks for.
 fn has_all_access(tree: &Tree, ids: Ids, obj: Obj, mode: u64) -> bool
-    requires { IsMade tree.now obj }
+    requires { IsObjectNumber tree.now obj }
     ensures { result ≡ has_all_access ids (node_with_number tree.now obj) mode }
 {
     let last = if walking::is_directory(tree, obj) {
@@ -93,7 +93,7 @@ pub fn access(tree: &Tree, alloc: Global, request: &Request<'_>) -> Result<Outco
 // The object whose mode chmod(2) changes, or the error of the call.
 fn may_set_mode(tree: &Tree, request: &Request<'_>, name: &AbsName) -> Result<Obj, Errno>
     requires { name.now ≡ arg_name_at request.now 0 }
-    ensures made { IfOk result (IsMade tree.now) }
+    ensures made { IfOk result (IsObjectNumber tree.now) }
     ensures outcome { (system : System) → chmod_outcome (with_tree system tree.now) request.now ≡ unless_err system result (λ obj. success system 0 (Change.Moded obj (low_mode (register request.now 1)) ∷ [])) }
 {
     let obj = walking::find(tree, request.ids, name)?;
@@ -124,7 +124,7 @@ pub fn chmod(tree: &mut Tree, alloc: Global, request: &Request<'_>) -> Result<Ou
 // The ids that chown(2) sets, or EINVAL if one of the numbers isn't an id.
 fn new_owner(request: &Request<'_>) -> Result<(u32, u32), Errno>
     ensures ids { IfOk result (λ owner. (owner.0 ≡ register request.now 1) × (owner.1 ≡ register request.now 2)) }
-    ensures refused { result_err result ≡ error_if (is_no_id (register request.now 1) || is_no_id (register request.now 2)) EINVAL }
+    ensures refused { result_err result ≡ error_if (exceeds_ids (register request.now 1) || exceeds_ids (register request.now 2)) EINVAL }
 {
     match (
         u32::try_from(request.register(1)),
@@ -138,7 +138,7 @@ fn new_owner(request: &Request<'_>) -> Result<(u32, u32), Errno>
 // The object that chown(2) changes with its new ids, or the error of the call.
 fn may_set_owner(tree: &Tree, request: &Request<'_>, name: &AbsName) -> Result<NewOwner, Errno>
     requires { name.now ≡ arg_name_at request.now 0 }
-    ensures made { IfOk result (λ new. IsMade tree.now new.obj) }
+    ensures made { IfOk result (λ new. IsObjectNumber tree.now new.obj) }
     ensures outcome { (system : System) → chown_outcome (with_tree system tree.now) request.now ≡ unless_err system result (λ new. success system 0 (Change.Owned new.obj new.uid new.gid ∷ [])) }
 {
     let (uid, gid) = new_owner(request)?;

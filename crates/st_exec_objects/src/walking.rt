@@ -4,10 +4,10 @@ ghost use Rattle.std.specs.Result.{result_err};
 ghost use Rattle.st_effects.specs.NameTests.{parent_not_writable, search_error, walk_error, Object};
 ghost use Rattle.st_effects.specs.System.{Outcome, System};
 ghost use Rattle.st_model.specs.Tree.{entry_count, is_directory, node_of_number, node_with_number, object_of};
-ghost use Rattle.st_tree.specs.Refusals.{IsMade};
+ghost use Rattle.st_tree.specs.Refusals.{IsObjectNumber};
 ghost use Rattle.st_names.specs.Name.{Components};
 ghost use Rattle.st_request.specs.Outcome.{unless_err, with_tree};
-ghost use Rattle.st_exec_objects.specs.Walking.{object_made, outcome_at, IsPlace};
+ghost use Rattle.st_exec_objects.specs.Walking.{object_made, outcome_at, IsPlaceOfName};
 
 use st_base::{Errno, Ids, Obj};
 use st_names::AbsName;
@@ -23,7 +23,7 @@ pub struct Place {
 
 /// Whether an object is a directory.
 pub fn is_directory(tree: &Tree, obj: Obj) -> bool
-    requires { IsMade tree.now obj }
+    requires { IsObjectNumber tree.now obj }
     ensures directory { result ≡ is_directory (node_with_number tree.now obj).kind }
     ensures plain { result ≡ false → entry_count tree.now obj ≡ 0 }
 {
@@ -35,7 +35,7 @@ pub fn is_directory(tree: &Tree, obj: Obj) -> bool
 
 // Checks that a walk can go on from an object; otherwise gives the error of the walk.
 fn search(tree: &Tree, ids: Ids, obj: Obj) -> Result<(), Errno>
-    requires { IsMade tree.now obj }
+    requires { IsObjectNumber tree.now obj }
     ensures { result_err result ≡ search_error (node_of_number tree.now obj) ids None }
 {
     if !is_directory(tree, obj) {
@@ -51,7 +51,7 @@ fn search(tree: &Tree, ids: Ids, obj: Obj) -> Result<(), Errno>
 /// object, ENOTDIR if its object isn't a directory, EACCES if the ids may not search that directory.
 pub fn walk(tree: &Tree, ids: Ids, name: &AbsName) -> Result<Place, Errno>
     ensures refused { result_err result ≡ walk_error tree.now ids name.now }
-    ensures place { IfOk result (IsPlace tree.now name.now) }
+    ensures place { IfOk result (IsPlaceOfName tree.now name.now) }
 {
     let mut place = Place {
         holder: None,
@@ -72,7 +72,7 @@ pub fn walk(tree: &Tree, ids: Ids, name: &AbsName) -> Result<Place, Errno>
 
 /// The object of a name, or why a call on it fails: the error of walking to it, or ENOENT if no object has the name.
 pub fn find(tree: &Tree, ids: Ids, name: &AbsName) -> Result<Obj, Errno>
-    ensures made { IfOk result (IsMade tree.now) }
+    ensures made { IfOk result (IsObjectNumber tree.now) }
     ensures object { IfOk result (λ obj. object_of tree.now name.now ≡ Some obj) }
     ensures outcome { (system : System) (outcome : Object → Outcome) → outcome_at (with_tree system tree.now) ids name.now outcome ≡ unless_err system result (λ obj. outcome (object_made tree.now obj)) }
 {
@@ -83,8 +83,8 @@ pub fn find(tree: &Tree, ids: Ids, name: &AbsName) -> Result<Obj, Errno>
 /// Checks that a call may change the entries of the directory that contains a name; EACCES if the ids may not write that directory.
 /// No directory contains the root.
 pub fn may_write_holder(tree: &Tree, ids: Ids, place: Place) -> Result<(), Errno>
-    requires { IfSome place.holder (IsMade tree.now) }
-    ensures { (name : Components) → IsPlace tree.now name place → result_err result ≡ parent_not_writable tree.now ids name }
+    requires { IfSome place.holder (IsObjectNumber tree.now) }
+    ensures { (name : Components) → IsPlaceOfName tree.now name place → result_err result ≡ parent_not_writable tree.now ids name }
 {
     let Some(holder) = place.holder else {
         return Ok(());

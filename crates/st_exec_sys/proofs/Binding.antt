@@ -16,7 +16,7 @@ use Rattle.st_trace.specs.declared.entry.CallResult.TheVariants.{Failed}
 use Rattle.st_request.specs.declared.outcome.Outcome as given
 use Rattle.st_request.specs.Outcome.{outcome_of, with_descriptors}
 use Rattle.st_request.proofs.Outcomes.{failed}
-use Rattle.st_request.specs.Ready.{IsReal, IsRealFile, IsRealKind}
+use Rattle.st_request.specs.Ready.{AreValidOpenFiles, IsValidOpenFile, IsValidFileKind}
 use Rattle.st_request.proofs.Real.{of_descriptor}
 use Rattle.st_exec_sys.specs.Sockets.{low_bind_refused}
 use Rattle.st_effects.specs.Sockets.{port_in}
@@ -71,19 +71,19 @@ module _ (system : System) (request : Request) (table : Table) (port : ℕ) (por
 
 -- ---- what is open stays real
 
-real_with_port : (tree : Tree) (port : ℕ) (is_written : Bool) (kind : FileKind) → IsRealKind tree is_written kind → IsRealKind tree is_written (with_port port kind)
+real_with_port : (tree : Tree) (port : ℕ) (is_written : Bool) (kind : FileKind) → IsValidFileKind tree is_written kind → IsValidFileKind tree is_written (with_port port kind)
 real_with_port tree port is_written Console is = tt
 real_with_port tree port is_written (Node obj) is = is
 real_with_port tree port is_written (Socket before connected) is = tt
 
-bound_by : (tree : Tree) (table : Table) (port : ℕ) (reason : Option Errno) (number : Option ℕ) (file : Option OpenFile) → IsReal tree table → IfSome file (IsRealFile tree)
-    → IsReal tree (table_unless_refused reason table (with_changed_file_at table number file (λ file. record file { kind = with_port port file.kind })))
+bound_by : (tree : Tree) (table : Table) (port : ℕ) (reason : Option Errno) (number : Option ℕ) (file : Option OpenFile) → AreValidOpenFiles tree table → IfSome file (IsValidOpenFile tree)
+    → AreValidOpenFiles tree (table_unless_refused reason table (with_changed_file_at table number file (λ file. record file { kind = with_port port file.kind })))
 bound_by tree table port (Some errno) number file real is = real
 bound_by tree table port None number None real is = real
 bound_by tree table port None None (Some file) real is = real
 bound_by tree table port None (Some n) (Some file) real is =
-    All-set (IsRealFile tree) table.files n (record file { kind = with_port port file.kind }) (real_with_port tree port file.write file.kind is) real
+    All-set (IsValidOpenFile tree) table.files n (record file { kind = with_port port file.kind }) (real_with_port tree port file.write file.kind is) real
 
 -- a socket that is bound
-pub bound_real : (tree : Tree) (table : Table) (pid fd port : ℕ) → IsReal tree table → IsReal tree (table_after_bind table pid fd port)
+pub bound_real : (tree : Tree) (table : Table) (pid fd port : ℕ) → AreValidOpenFiles tree table → AreValidOpenFiles tree (table_after_bind table pid fd port)
 bound_real tree table pid fd port real = bound_by tree table port (bind_refused table pid fd port) (file_number_at table pid fd) (file_at table pid fd) real (of_descriptor tree table pid fd real)

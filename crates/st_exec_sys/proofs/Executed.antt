@@ -5,7 +5,7 @@ use Rattle.st_calls.specs.declared.call.SysCall.TheVariants.{SetUid, SetEuid, Se
 use Rattle.st_procs.specs.Calls.{SetsIds}
 use Rattle.st_effects.specs.Processes.{set_ids_outcome}
 use Rattle.st_fds.specs.Table.{KeepsTables}
-use Rattle.st_memory.specs.Memory.{Memories, is_live}
+use Rattle.st_memory.specs.Memory.{Memories, is_space_live}
 use Rattle.st_model.specs.Descriptors.{Table}
 use Rattle.st_model.specs.Process.{Process}
 use Rattle.st_model.specs.Processes.{Processes, process_at}
@@ -13,11 +13,11 @@ use Rattle.st_model.specs.Tree.{Tree}
 use Rattle.st_effects.specs.Effect.{effect}
 use Rattle.st_effects.specs.System.{System, Request}
 use Rattle.st_trace.specs.declared.entry.Change.{Change}
-use Rattle.st_request.specs.Ready.{IsReady, IsReal}
+use Rattle.st_request.specs.Ready.{IsReady, AreValidOpenFiles}
 use Rattle.st_request.specs.Outcome.{outcome_of, with_descriptors, with_memories, with_processes}
 use Rattle.st_request.specs.declared.outcome.Outcome.{Outcome}
-use Rattle.st_exec_sys.specs.Changes.{AreEndings, AreOfProcesses, AreProcessesAfter}
-use Rattle.st_exec_sys.specs.Execution.{IsExecuted}
+use Rattle.st_exec_sys.specs.Changes.{AreEndings, AreSetIdsOnly, AreProcessesAndThreadsAfter}
+use Rattle.st_exec_sys.specs.Execution.{IsProcessCallExecuted}
 use Rattle.st_exec_sys.proofs.Left.{endings_leave, ids_leave, memories_stay, processes_stay, space_left, tables_stay}
 
 module _ (request : Request) (table : Table) (processes : Processes) (memories : Memories) where
@@ -27,7 +27,7 @@ module _ (request : Request) (table : Table) (processes : Processes) (memories :
 
   -- a call that leaves processes and memories as they are, by how it changes descriptors
   pub ended : (call : SysCall) (given : Outcome) (left : Table) → ((system : System) → system.held ≡ [] → outcome_of given left ≡ effect (with_parts system) call request)
-      → AreEndings given.changes → KeepsTables table left → IsExecuted call request given table processes memories left processes memories
+      → AreEndings given.changes → KeepsTables table left → IsProcessCallExecuted call request given table processes memories left processes memories
   ended call given left is quiet keeps = record {
     outcome = is;
     tables = tables_stay given.changes table left (endings_leave given.changes quiet) keeps;
@@ -39,30 +39,30 @@ module _ (request : Request) (table : Table) (processes : Processes) (memories :
   no_endings changes none = subst AreEndings (sym none) tt
 
   -- a call that reports something
-  pub told : (call : SysCall) (given : Outcome) → ((system : System) → outcome_of given system.descriptors ≡ effect system call request) → given.changes ≡ []
-      → IsExecuted call request given table processes memories table processes memories
-  told call given is none = ended call given table (λ system held. is (with_parts system)) (no_endings given.changes none) (λ p. refl)
+  pub known : (call : SysCall) (given : Outcome) → ((system : System) → outcome_of given system.descriptors ≡ effect system call request) → given.changes ≡ []
+      → IsProcessCallExecuted call request given table processes memories table processes memories
+  known call given is none = ended call given table (λ system held. is (with_parts system)) (no_endings given.changes none) (λ p. refl)
 
   -- a call that ends threads, or asks whether it could
   pub ended_if_ok : {E : Type 0} (call same : SysCall) (result : Result Outcome E) → call ≡ same
       → IfOk result (λ given. (system : System) → outcome_of given system.descriptors ≡ effect (with_processes system processes) same request) → IfOk result (λ given. AreEndings given.changes)
-      → IfOk result (λ given. IsExecuted call request given table processes memories table processes memories)
+      → IfOk result (λ given. IsProcessCallExecuted call request given table processes memories table processes memories)
   ended_if_ok call same (Ok given) named is quiet =
-      subst (λ (c : SysCall). IsExecuted c request given table processes memories table processes memories) (sym named)
+      subst (λ (c : SysCall). IsProcessCallExecuted c request given table processes memories table processes memories) (sym named)
       (ended same given table (λ system held. is (with_descriptors (with_memories system memories) table)) quiet (λ p. refl))
   ended_if_ok call same (Err error) named is quiet = tt
 
   -- a call that changes only descriptors
   pub moved : (call same : SysCall) (given : Outcome) (left : Table) → call ≡ same
       → ((system : System) → outcome_of given left ≡ effect (with_descriptors system table) same request) → given.changes ≡ [] → KeepsTables table left
-      → IsExecuted call request given table processes memories left processes memories
+      → IsProcessCallExecuted call request given table processes memories left processes memories
   moved call same given left named is none keeps =
-      subst (λ (c : SysCall). IsExecuted c request given table processes memories left processes memories) (sym named)
+      subst (λ (c : SysCall). IsProcessCallExecuted c request given table processes memories left processes memories) (sym named)
       (ended same given left (λ system held. is (with_processes (with_memories system memories) processes)) (no_endings given.changes none) keeps)
 
   pub moved_if_ok : {E : Type 0} (call same : SysCall) (result : Result Outcome E) (left : Table) → call ≡ same
       → IfOk result (λ given. (system : System) → outcome_of given left ≡ effect (with_descriptors system table) same request) → IfOk result (λ given. given.changes ≡ []) → KeepsTables table left
-      → IfOk result (λ given. IsExecuted call request given table processes memories left processes memories)
+      → IfOk result (λ given. IsProcessCallExecuted call request given table processes memories left processes memories)
   moved_if_ok call same (Ok given) left named is none keeps = moved call same given left named is none keeps
   moved_if_ok call same (Err error) left named is none keeps = tt
 
@@ -79,8 +79,8 @@ module _ (request : Request) (table : Table) (processes : Processes) (memories :
   -- a call that sets ids
   pub ids_set : {E : Type 0} (call : SysCall) (result : Result Outcome E) (new : Processes)
       → IfOk result (λ given. (system : System) → system.held ≡ [] → outcome_of given system.descriptors ≡ effect system call request)
-      → IfOk result (λ given. AreProcessesAfter processes request.pid given.changes new) → IfOk result (λ given. AreOfProcesses given.changes)
-      → IfOk result (λ given. IsExecuted call request given table processes memories table new memories)
+      → IfOk result (λ given. AreProcessesAndThreadsAfter processes request.pid given.changes new) → IfOk result (λ given. AreSetIdsOnly given.changes)
+      → IfOk result (λ given. IsProcessCallExecuted call request given table processes memories table new memories)
   ids_set call (Ok given) new is after own = record {
     outcome = λ system held. is (with_parts system) held;
     tables = tables_stay given.changes table table (ids_leave given.changes own) (λ p. refl);
@@ -92,7 +92,7 @@ module _ (request : Request) (table : Table) (processes : Processes) (memories :
   -- ---- calls can still be made for each process
 
   -- with other descriptors in the same tables
-  pub ready_with_table : (left : Table) → KeepsTables table left → ((tree : Tree) → IsReal tree table → IsReal tree left) → (tree : Tree) (pid : ℕ) → IsReady tree table processes memories pid → IsReady tree left processes memories pid
+  pub ready_with_table : (left : Table) → KeepsTables table left → ((tree : Tree) → AreValidOpenFiles tree table → AreValidOpenFiles tree left) → (tree : Tree) (pid : ℕ) → IsReady tree table processes memories pid → IsReady tree left processes memories pid
   ready_with_table left keeps real tree pid ready = record {
     table = keeps pid ∙ ready.table;
     process = ready.process;
@@ -101,14 +101,14 @@ module _ (request : Request) (table : Table) (processes : Processes) (memories :
   }
 
   -- with other ids
-  pub ready_with_ids : {E : Type 0} (result : Result Outcome E) (new : Processes) → IfOk result (λ given. AreProcessesAfter processes request.pid given.changes new) → IfOk result (λ given. AreOfProcesses given.changes)
+  pub ready_with_ids : {E : Type 0} (result : Result Outcome E) (new : Processes) → IfOk result (λ given. AreProcessesAndThreadsAfter processes request.pid given.changes new) → IfOk result (λ given. AreSetIdsOnly given.changes)
       → OnErr result (new ≡ processes) → (tree : Tree) (pid : ℕ) → IsReady tree table processes memories pid → IsReady tree table new memories pid
   ready_with_ids (Ok given) new after own err tree pid ready =
       let space : (process_at new pid).space ≡ (process_at processes pid).space =
       ap (λ (p : Process). p.space) (after.processes pid) ∙ space_left (process_at processes) request.pid pid given.changes own in record {
         table = ready.table;
         process = (ready.process.0, subst (λ (n : ℕ). pid < n) (sym (after.next ∙ (ids_leave given.changes own).next _)) ready.process.1);
-        space = ap (λ (s : ℕ). is_live memories s) space ∙ ready.space;
+        space = ap (λ (s : ℕ). is_space_live memories s) space ∙ ready.space;
         real = ready.real;
       }
   ready_with_ids (Err error) new after own err tree pid ready = subst (λ (p : Processes). IsReady tree table p memories pid) (sym err) ready

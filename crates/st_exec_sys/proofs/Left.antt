@@ -3,19 +3,19 @@ use Rattle.std.proofs.Common.{◌≡◌, ◌∙◌, refl, sym, ap, ℕ, Bool, tr
 use Rattle.std.specs.List.{fold}
 use Rattle.st_base.specs.declared.ids.Ids.{Ids}
 use Rattle.st_fds.specs.Table.{KeepsTables}
-use Rattle.st_memory.specs.Memory.{Memories, byte_in, is_live, next_space}
+use Rattle.st_memory.specs.Memory.{Memories, byte_in, is_space_live, next_space}
 use Rattle.st_model.specs.Descriptors.{Table, has_table}
 use Rattle.st_model.specs.Process.{Process}
 use Rattle.st_model.specs.Processes.{Processes, StartedThread, next_pid, process_at, thread_at}
 use Rattle.st_effects.specs.Changes.{memory_after, next_process_after, next_space_after, owner_after, process_after, process_after_change}
 use Rattle.st_trace.specs.declared.entry.Change.{Change}
 use Rattle.st_trace.specs.declared.entry.Change.TheVariants.{Dying, SetIds}
-use Rattle.st_exec_sys.specs.Changes.{has_table_after, is_live_after, owner_of, thread_after, AreEndings, AreMemoriesAfter, AreOfProcesses, AreProcessesAfter}
+use Rattle.st_exec_sys.specs.Changes.{has_table_after, is_live_after, owner_of, thread_after_changes, AreEndings, AreMemoriesAfter, AreSetIdsOnly, AreProcessesAndThreadsAfter}
 
 -- changes leave everything but the rows of processes
 pub record LeaveRest (changes : List Change) : Type 0 where
   pub next : (n : ℕ) → next_process_after n changes ≡ n
-  pub threads : (t : ℕ) (before : Option StartedThread) → thread_after t before changes ≡ before
+  pub threads : (t : ℕ) (before : Option StartedThread) → thread_after_changes t before changes ≡ before
   pub owners : (t before : ℕ) → owner_after t before changes ≡ before
   pub bytes : (own : ℕ) (before : ℕ → ℕ → ℕ) → memory_after own before changes ≡ before
   pub spaces : (n : ℕ) → next_space_after n changes ≡ n
@@ -46,7 +46,7 @@ endings_leave (Dying pid ∷ changes) e = let more : LeaveRest changes = endings
 }
 endings_leave (change ∷ changes) e = absurd e
 
-pub ids_leave : (changes : List Change) → AreOfProcesses changes → LeaveRest changes
+pub ids_leave : (changes : List Change) → AreSetIdsOnly changes → LeaveRest changes
 ids_leave [] e = leave_none
 ids_leave (SetIds ids ∷ changes) e = let more : LeaveRest changes = ids_leave changes e in record {
   next = more.next;
@@ -70,20 +70,20 @@ same_space ids before true = refl
 same_space ids before false = refl
 
 -- ids that are set leave the memory of each process
-space_left_from : (all : ℕ → Process) (m p : ℕ) (before : Process) (changes : List Change) → AreOfProcesses changes → (fold (process_after_change all m p) before changes).space ≡ before.space
+space_left_from : (all : ℕ → Process) (m p : ℕ) (before : Process) (changes : List Change) → AreSetIdsOnly changes → (fold (process_after_change all m p) before changes).space ≡ before.space
 space_left_from all m p before [] e = refl
 space_left_from all m p before (SetIds ids ∷ changes) e =
     space_left_from all m p (cond (m == p) (record before { ids = ids }) before) changes e ∙ same_space ids before (m == p)
 space_left_from all m p before (change ∷ changes) e = absurd e
 
-pub space_left : (all : ℕ → Process) (m p : ℕ) (changes : List Change) → AreOfProcesses changes → (process_after all m p changes).space ≡ (all p).space
+pub space_left : (all : ℕ → Process) (m p : ℕ) (changes : List Change) → AreSetIdsOnly changes → (process_after all m p changes).space ≡ (all p).space
 space_left all m p changes e = space_left_from all m p (all p) changes e
 
 -- ---- the parts that stay
 
 module _ (changes : List Change) where
   -- the processes, after changes that only end threads
-  pub processes_stay : (processes : Processes) (pid : ℕ) → AreEndings changes → AreProcessesAfter processes pid changes processes
+  pub processes_stay : (processes : Processes) (pid : ℕ) → AreEndings changes → AreProcessesAndThreadsAfter processes pid changes processes
   processes_stay processes pid e = let rest : LeaveRest changes = endings_leave changes e in record {
     processes = λ p. sym (rows_left (process_at processes) pid p (process_at processes p) changes e);
     next = sym (rest.next (next_pid processes));
@@ -96,7 +96,7 @@ module _ (changes : List Change) where
   memories_stay memories own rest = record {
     bytes = λ s b. sym (ap (λ (m : ℕ → ℕ → ℕ). m s b) (rest.bytes own (byte_in memories)));
     next = sym (rest.spaces (next_space memories));
-    live = λ s. sym (rest.live s (is_live memories s));
+    live = λ s. sym (rest.live s (is_space_live memories s));
   }
 
   -- the tables, after changes that leave them alone

@@ -14,18 +14,18 @@ use Rattle.st_effects.specs.Sockets.{colon, port_in}
 use Rattle.st_model.specs.Spelling.{address_text}
 
 -- the number after one more byte
-abbrev behind : ℕ → ℕ → ℕ
-behind n byte = cond (byte == colon) 0 (10 * n + (byte - 48))
+abbrev following : ℕ → ℕ → ℕ
+following n byte = cond (byte == colon) 0 (10 * n + (byte - 48))
 
-behind_digit : (n d : ℕ) → digit_value d < 10 → behind n d ≡ n * 10 + digit_value d
-behind_digit n d small =
+after_digit : (n d : ℕ) → digit_value d < 10 → following n d ≡ n * 10 + digit_value d
+after_digit n d small =
     let range = digit_from_value d small in
     let value = digit_value_digit d range in
     ap (λ b. cond b 0 (10 * n + (d - 48))) (ne_eqb d 58 (λ e. omega (arith, e, range.1, range))) ∙ omega (arith, value)
 
-behind_digits : (ds : List ℕ) (n : ℕ) → AllDigits 10 ds → fold behind n ds ≡ digits_value_after 10 n ds
-behind_digits [] n all = refl
-behind_digits (d ∷ ds) n all = ap (λ (m : ℕ). fold behind m ds) (behind_digit n d all.0) ∙ behind_digits ds (n * 10 + digit_value d) all.1
+after_digits : (ds : List ℕ) (n : ℕ) → AllDigits 10 ds → fold following n ds ≡ digits_value_after 10 n ds
+after_digits [] n all = refl
+after_digits (d ∷ ds) n all = ap (λ (m : ℕ). fold following m ds) (after_digit n d all.0) ∙ after_digits ds (n * 10 + digit_value d) all.1
 
 -- what comes before a port
 abbrev front : List ℕ → List ℕ
@@ -37,9 +37,9 @@ front bytes =
 pub port_of_address : (bytes : List ℕ) → 256 * slice_index bytes 2 + slice_index bytes 3 < 2 ^ 64 → port_in (address_text bytes) ≡ 256 * slice_index bytes 2 + slice_index bytes 3
 port_of_address bytes small =
     let digits = decimal_is_IsNumeral (256 * slice_index bytes 2 + slice_index bytes 3) small in
-    fold-append behind 0 (front bytes ++ codes "]:") (decimal (256 * slice_index bytes 2 + slice_index bytes 3))
-    ∙ ap (λ (n : ℕ). fold behind n (decimal (256 * slice_index bytes 2 + slice_index bytes 3))) (fold-append behind 0 (front bytes) (codes "]:"))
-    ∙ behind_digits (decimal (256 * slice_index bytes 2 + slice_index bytes 3)) 0 digits.0.1 ∙ digits.1
+    fold-append following 0 (front bytes ++ codes "]:") (decimal (256 * slice_index bytes 2 + slice_index bytes 3))
+    ∙ ap (λ (n : ℕ). fold following n (decimal (256 * slice_index bytes 2 + slice_index bytes 3))) (fold-append following 0 (front bytes) (codes "]:"))
+    ∙ after_digits (decimal (256 * slice_index bytes 2 + slice_index bytes 3)) 0 digits.0.1 ∙ digits.1
 
 -- two bytes of a word are a number of 16 bits
 pub two_bytes : (word : ℕ) → 256 * slice_index (to_le_bytes w64 word) 2 + slice_index (to_le_bytes w64 word) 3 < 2 ^ 16

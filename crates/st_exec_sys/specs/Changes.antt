@@ -2,7 +2,7 @@
 use Rattle.std.specs.Prelude.{◌≡◌, ℕ, Bool, true, false, ◌==◌, if◌then◌else◌, List, [], ◌∷◌, Option, Some, unwrap_or}
 use Rattle.std.specs.List.{fold}
 use Rattle.st_model.specs.Processes.{Processes, StartedThread, next_pid, pid_of, process_at, thread_at}
-use Rattle.st_memory.specs.Memory.{Memories, byte_in, is_live, next_space}
+use Rattle.st_memory.specs.Memory.{Memories, byte_in, is_space_live, next_space}
 use Rattle.st_effects.specs.Changes.{memory_after, next_process_after, next_space_after, owner_after, process_after}
 use Rattle.st_trace.specs.declared.entry.Change.{Change}
 use Rattle.st_trace.specs.declared.entry.Change.TheVariants.{Dying, Forked, SetIds}
@@ -14,10 +14,10 @@ AreEndings (Dying pid ∷ changes) = AreEndings changes
 AreEndings (change ∷ changes) = ⊥
 
 -- changes of ids, and no other change
-abbrev pub AreOfProcesses : List Change → Type 0
-AreOfProcesses [] = Unit {0}
-AreOfProcesses (SetIds ids ∷ changes) = AreOfProcesses changes
-AreOfProcesses (change ∷ changes) = ⊥
+abbrev pub AreSetIdsOnly : List Change → Type 0
+AreSetIdsOnly [] = Unit {0}
+AreSetIdsOnly (SetIds ids ∷ changes) = AreSetIdsOnly changes
+AreSetIdsOnly (change ∷ changes) = ⊥
 
 -- ---- processes
 
@@ -27,18 +27,18 @@ thread_after_change t before (Forked pid space tid) = if t == tid then Some (rec
 thread_after_change t before _ = before
 
 -- thread t after changes
-abbrev pub thread_after : ℕ → Option StartedThread → List Change → Option StartedThread
-thread_after t before changes = fold (thread_after_change t) before changes
+abbrev pub thread_after_changes : ℕ → Option StartedThread → List Change → Option StartedThread
+thread_after_changes t before changes = fold (thread_after_change t) before changes
 
 -- the process of a thread; 0 before it starts
 abbrev pub owner_of : Processes → ℕ → ℕ
 owner_of processes t = unwrap_or (pid_of processes t) 0
 
 -- the processes are as the changes that one of them makes leave them, and so are the threads
-pub record AreProcessesAfter (old : Processes) (pid : ℕ) (changes : List Change) (new : Processes) : Type 0 where
+pub record AreProcessesAndThreadsAfter (old : Processes) (pid : ℕ) (changes : List Change) (new : Processes) : Type 0 where
   pub processes : (p : ℕ) → process_at new p ≡ process_after (process_at old) pid p changes
   pub next : next_pid new ≡ next_process_after (next_pid old) changes
-  pub threads : (t : ℕ) → thread_at new t ≡ thread_after t (thread_at old t) changes
+  pub threads : (t : ℕ) → thread_at new t ≡ thread_after_changes t (thread_at old t) changes
   pub owners : (t : ℕ) → owner_of new t ≡ owner_after t (owner_of old t) changes
 
 -- ---- memories
@@ -56,7 +56,7 @@ is_live_after s before changes = fold (is_live_after_change s) before changes
 pub record AreMemoriesAfter (old : Memories) (own : ℕ) (changes : List Change) (new : Memories) : Type 0 where
   pub bytes : (s b : ℕ) → byte_in new s b ≡ memory_after own (byte_in old) changes s b
   pub next : next_space new ≡ next_space_after (next_space old) changes
-  pub live : (s : ℕ) → is_live new s ≡ is_live_after s (is_live old s) changes
+  pub live : (s : ℕ) → is_space_live new s ≡ is_live_after s (is_space_live old s) changes
 
 -- ---- tables of descriptors
 

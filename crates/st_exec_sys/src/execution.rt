@@ -3,7 +3,7 @@ ghost use Rattle.std.specs.Prelude.{◌≡◌, ℕ, [], IfOk, OnOk, OnErr};
 ghost use Rattle.st_calls.specs.declared.call.SysCall.TheVariants.{Fork};
 ghost use Rattle.st_effects.specs.Effect.{effect};
 ghost use Rattle.st_effects.specs.System as effects;
-ghost use Rattle.st_exec_sys.specs.Execution.{Allows, CanCall, IsExecuted, IsQuestion};
+ghost use Rattle.st_exec_sys.specs.Execution.{CanMakeCall, CanCall, IsProcessCallExecuted, IsIdentityCall};
 ghost use Rattle.st_model.specs.Processes.{next_pid};
 ghost use Rattle.st_model.specs.Tree.{Tree};
 ghost use Rattle.st_procs.specs.Laws.{AreOrdered};
@@ -23,7 +23,7 @@ use std::alloc::{AllocError, Global};
 
 // Makes a call that reports who the process is.
 fn tell(alloc: Global, call: SysCall, request: &Request<'_>) -> Outcome
-    requires { IsQuestion call }
+    requires { IsIdentityCall call }
     ensures outcome { (system : effects.System) → outcome_of result system.descriptors ≡ effect system call request.now }
     ensures changes { result.changes ≡ [] }
 {
@@ -46,8 +46,8 @@ pub fn execute_sys(
     request: &Request<'_>,
 ) -> Result<Outcome, AllocError>
     requires process { CanCall fds.old procs.old spaces.old request.now.pid }
-    requires call { Allows call fds.old procs.old spaces.old request.now }
-    ensures executed { IfOk result (λ outcome. IsExecuted call request.now outcome fds.old procs.old spaces.old fds.new procs.new spaces.new) }
+    requires call { CanMakeCall call fds.old procs.old spaces.old request.now }
+    ensures executed { IfOk result (λ outcome. IsProcessCallExecuted call request.now outcome fds.old procs.old spaces.old fds.new procs.new spaces.new) }
     ensures ordered { AreOrdered procs.old → AreOrdered procs.new }
     ensures ready { (tree : Tree) (pid : ℕ) → IsReady tree fds.old procs.old spaces.old pid → IsReady tree fds.new procs.new spaces.new pid }
     ensures child { call ≡ Fork → OnOk result ((tree : Tree) → IsReady tree fds.old procs.old spaces.old request.now.pid → IsReady tree fds.new procs.new spaces.new (next_pid procs.old)) }

@@ -1,8 +1,8 @@
 // The call that starts a process.
 ghost use Rattle.std.specs.Prelude.{◌≡◌, ◌^◌, ◌-◌, ◌<◌, ℕ, [], ◌∷◌, true, None, IfOk, OnOk, OnErr};
 ghost use Rattle.st_calls.specs.declared.call.SysCall.TheVariants.{Fork};
-ghost use Rattle.st_exec_sys.specs.Execution.{CanCall, CanFork, IsCopied, IsExecuted};
-ghost use Rattle.st_memory.specs.Memory.{is_live, next_space};
+ghost use Rattle.st_exec_sys.specs.Execution.{CanCall, CanFork, IsSpaceCopied, IsProcessCallExecuted};
+ghost use Rattle.st_memory.specs.Memory.{is_space_live, next_space};
 ghost use Rattle.st_model.specs.Processes.{next_pid, pid_of, process_at, processes_after_fork, IsPid};
 ghost use Rattle.st_model.specs.Tree.{Tree};
 ghost use Rattle.st_procs.specs.Laws.{AreOrdered, ThreadStarts};
@@ -54,7 +54,7 @@ fn start_copy(
     request: &Request<'_>,
 ) -> Result<Outcome, AllocError>
     requires parent { IsPid procs.old request.now.pid }
-    requires space { is_live spaces.old (process_at procs.old request.now.pid).space ≡ true }
+    requires space { is_space_live spaces.old (process_at procs.old request.now.pid).space ≡ true }
     requires thread { pid_of procs.old request.now.child ≡ None }
     requires room { next_pid procs.old < 2 ^ 32 - 1 }
     requires spaces { next_space spaces.old < 2 ^ 32 }
@@ -63,7 +63,7 @@ fn start_copy(
     ensures processes { OnOk result (procs.new ≡ processes_after_fork procs.old request.now.pid request.now.child (next_space spaces.old)) }
     ensures threads { OnOk result (ThreadStarts procs.old request.now.child (next_pid procs.old) procs.new) }
     ensures ordered { AreOrdered procs.old → AreOrdered procs.new }
-    ensures memory { OnOk result (IsCopied spaces.old (process_at procs.old request.now.pid).space spaces.new) }
+    ensures memory { OnOk result (IsSpaceCopied spaces.old (process_at procs.old request.now.pid).space spaces.new) }
     ensures err { OnErr result ((procs.new ≡ procs.old) × (spaces.new ≡ spaces.old)) }
 {
     let space = spaces.copy_space(alloc, procs.space(request.pid))?;
@@ -85,7 +85,7 @@ pub fn fork(
 ) -> Result<Outcome, AllocError>
     requires process { CanCall fds.old procs.old spaces.old request.now.pid }
     requires child { CanFork fds.old procs.old spaces.old request.now }
-    ensures executed { IfOk result (λ outcome. IsExecuted Fork request.now outcome fds.old procs.old spaces.old fds.new procs.new spaces.new) }
+    ensures executed { IfOk result (λ outcome. IsProcessCallExecuted Fork request.now outcome fds.old procs.old spaces.old fds.new procs.new spaces.new) }
     ensures ordered { AreOrdered procs.old → AreOrdered procs.new }
     ensures ready { (tree : Tree) (pid : ℕ) → IsReady tree fds.old procs.old spaces.old pid → IsReady tree fds.new procs.new spaces.new pid }
     ensures child { OnOk result ((tree : Tree) → IsReady tree fds.old procs.old spaces.old request.now.pid → IsReady tree fds.new procs.new spaces.new (next_pid procs.old)) }

@@ -4,7 +4,7 @@ ghost use Rattle.st_calls.specs.declared.call.SysCall.TheVariants.{GetEuid, GetP
 ghost use Rattle.st_effects.specs.Effect.{effect};
 ghost use Rattle.st_effects.specs.Processes.{set_ids_outcome};
 ghost use Rattle.st_effects.specs.System as effects;
-ghost use Rattle.st_exec_sys.specs.Changes.{AreOfProcesses, AreProcessesAfter};
+ghost use Rattle.st_exec_sys.specs.Changes.{AreSetIdsOnly, AreProcessesAndThreadsAfter};
 ghost use Rattle.st_model.specs.Processes.{next_pid, process_at, IsPid};
 ghost use Rattle.st_procs.specs.Calls.{SetsIds};
 ghost use Rattle.st_request.specs.Outcome.{outcome_of};
@@ -51,8 +51,8 @@ pub fn set_ids(
     requires call { SetsIds call }
     requires ids { request.now.ids ≡ (process_at procs.old request.now.pid).ids }
     ensures outcome { IfOk result (λ outcome. (system : effects.System) → system.held ≡ [] → outcome_of outcome system.descriptors ≡ set_ids_outcome call system request.now) }
-    ensures processes { IfOk result (λ outcome. AreProcessesAfter procs.old request.now.pid outcome.changes procs.new) }
-    ensures changes { IfOk result (λ outcome. AreOfProcesses outcome.changes) }
+    ensures processes { IfOk result (λ outcome. AreProcessesAndThreadsAfter procs.old request.now.pid outcome.changes procs.new) }
+    ensures changes { IfOk result (λ outcome. AreSetIdsOnly outcome.changes) }
     ensures threads { procs.new.threads ≡ procs.old.threads }
     ensures pids { next_pid procs.new ≡ next_pid procs.old }
     ensures err { OnErr result (procs.new ≡ procs.old) }

@@ -9,7 +9,7 @@ ghost use Rattle.st_fds.specs.Table.{KeepsTables};
 ghost use Rattle.st_model.specs.Descriptors.{has_table};
 ghost use Rattle.st_model.specs.Tree.{Tree};
 ghost use Rattle.st_request.specs.Outcome.{outcome_of, with_descriptors};
-ghost use Rattle.st_request.specs.Ready.{IsReal};
+ghost use Rattle.st_request.specs.Ready.{AreValidOpenFiles};
 
 use st_base::Errno;
 use st_fds::Fds;
@@ -39,7 +39,7 @@ pub fn socket(fds: &mut Fds, alloc: Global, request: &Request<'_>) -> Result<Out
     ensures outcome { IfOk result (λ outcome. (system : effects.System) → outcome_of outcome fds.new ≡ socket_outcome (with_descriptors system fds.old) request.now) }
     ensures changes { IfOk result (λ outcome. outcome.changes ≡ []) }
     ensures tables { KeepsTables fds.old fds.new }
-    ensures real { (tree : Tree) → IsReal tree fds.old → IsReal tree fds.new }
+    ensures real { (tree : Tree) → AreValidOpenFiles tree fds.old → AreValidOpenFiles tree fds.new }
     ensures err { OnErr result (fds.new ≡ fds.old) }
 {
     if fds.is_full(request.pid) {
@@ -104,7 +104,7 @@ pub fn bind(fds: &mut Fds, alloc: Global, request: &Request<'_>) -> Outcome
     ensures outcome { (system : effects.System) → outcome_of result fds.new ≡ bind_outcome (with_descriptors system fds.old) request.now }
     ensures changes { result.changes ≡ [] }
     ensures tables { KeepsTables fds.old fds.new }
-    ensures real { (tree : Tree) → IsReal tree fds.old → IsReal tree fds.new }
+    ensures real { (tree : Tree) → AreValidOpenFiles tree fds.old → AreValidOpenFiles tree fds.new }
 {
     let port = port_of(request);
     if let Err(errno) = may_bind(fds, request, port) {
@@ -124,7 +124,7 @@ pub fn connect(fds: &mut Fds, alloc: Global, request: &Request<'_>) -> Outcome
     ensures outcome { (system : effects.System) → outcome_of result fds.new ≡ connect_outcome (with_descriptors system fds.old) request.now }
     ensures changes { result.changes ≡ [] }
     ensures tables { KeepsTables fds.old fds.new }
-    ensures real { (tree : Tree) → IsReal tree fds.old → IsReal tree fds.new }
+    ensures real { (tree : Tree) → AreValidOpenFiles tree fds.old → AreValidOpenFiles tree fds.new }
 {
     match fds.connect(request.pid, request.register(0), port_of(request)) {
         Ok(()) => Outcome::value(alloc, 0),

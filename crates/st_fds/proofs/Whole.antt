@@ -16,38 +16,38 @@ use Rattle.st_model.specs.declared.open_file.OpenFile.{OpenFile}
 use Rattle.st_model.specs.declared.open_file.TheConstants.{DESCRIPTORS}
 use Rattle.st_model.specs.DescriptorCalls.{all_free, first_three_places}
 use Rattle.st_model.specs.Descriptors.{Table, has_table, places_in, file_of_number, least_free, file_number_at}
-use Rattle.st_fds.specs.Table.{IsPlace, ArePlaces, IsWhole, IsLeastFree, AreOpenBelow}
+use Rattle.st_fds.specs.Table.{IsDescriptorPlace, ArePlaces, IsValidTable, IsLeastFree, AreOpenBelow}
 
 -- a place is still one when there are more open files
-place_more : (m n : ℕ) (place : Option ℕ) → m ≤ n → IsPlace m place → IsPlace n place
+place_more : (m n : ℕ) (place : Option ℕ) → m ≤ n → IsDescriptorPlace m place → IsDescriptorPlace n place
 place_more m n None more is = tt
 place_more m n (Some number) more is = omega arith
 
 pub places_more : (m n : ℕ) (places : List (Option ℕ)) → m ≤ n → ArePlaces m places → ArePlaces n places
 places_more m n places more are = (are.0, λ k d inside. place_more m n (get_or places k d) more (are.1 k d inside))
 
-pub whole-more_files : (m n : ℕ) (es : List (ℕ × List (Option ℕ))) → m ≤ n → IsWhole es m → IsWhole es n
+pub whole-more_files : (m n : ℕ) (es : List (ℕ × List (Option ℕ))) → m ≤ n → IsValidTable es m → IsValidTable es n
 whole-more_files m n es larger whole = λ k d inside. places_more m n (get_or (values_of es) k d) larger (whole k d inside)
 
 -- the places of a process are still such after one of them changes
-pub places-set : (count : ℕ) (places : List (Option ℕ)) (fd : ℕ) (place : Option ℕ) → IsPlace count place → ArePlaces count places → ArePlaces count (set places fd place)
-places-set count places fd place is are = (length-set places fd place ∙ are.0, All-set (IsPlace count) places fd place is are.1)
+pub places-set : (count : ℕ) (places : List (Option ℕ)) (fd : ℕ) (place : Option ℕ) → IsDescriptorPlace count place → ArePlaces count places → ArePlaces count (set places fd place)
+places-set count places fd place is are = (length-set places fd place ∙ are.0, All-set (IsDescriptorPlace count) places fd place is are.1)
 
 -- a table is still whole after the places of one process change
-pub whole-put : (count : ℕ) (es : List (ℕ × List (Option ℕ))) (pid : ℕ) (places : List (Option ℕ)) → IsWhole es count → ArePlaces count places → IsWhole (insert_entry nat_cmp es pid places) count
+pub whole-put : (count : ℕ) (es : List (ℕ × List (Option ℕ))) (pid : ℕ) (places : List (Option ℕ)) → IsValidTable es count → ArePlaces count places → IsValidTable (insert_entry nat_cmp es pid places) count
 whole-put count es pid places whole are = All-values-insert_entry nat_cmp pid places (ArePlaces count) es whole are
 
-pub taken_away : (count : ℕ) (es : List (ℕ × List (Option ℕ))) (pid : ℕ) → IsWhole es count → IsWhole (remove_entry (is_at (nat_cmp pid)) es) count
+pub taken_away : (count : ℕ) (es : List (ℕ × List (Option ℕ))) (pid : ℕ) → IsValidTable es count → IsValidTable (remove_entry (is_at (nat_cmp pid)) es) count
 taken_away count es pid whole = All-map-remove_entry (is_at (nat_cmp pid)) (λ e. e.1) (ArePlaces count) es whole
 
 -- all descriptors free, and the three that a process starts with
 pub free_places : (count : ℕ) → ArePlaces count all_free
-free_places count = (refl, All-replicate (IsPlace count) 64 None tt)
+free_places count = (refl, All-replicate (IsDescriptorPlace count) 64 None tt)
 
 pub three_places : (first : ℕ) → ArePlaces (first + 3) (first_three_places first)
 three_places first =
     let none : List (Option ℕ) = replicate 61 None in
-    let Is : Option ℕ → Type 0 = IsPlace (first + 3) in
+    let Is : Option ℕ → Type 0 = IsDescriptorPlace (first + 3) in
     let third = All-cons Is (Some (first + 2)) none (omega arith) (All-replicate Is 61 None tt) in
     let second = All-cons Is (Some (first + 1)) (Some (first + 2) ∷ none) (omega arith) third in
     (refl, All-cons Is (Some first) (Some (first + 1) ∷ Some (first + 2) ∷ none) (omega arith) second)
@@ -57,7 +57,7 @@ found : (count : ℕ) (o : Option (List (Option ℕ))) → is_some o ≡ true �
 found count None has are = absurd (true≢false (sym has))
 found count (Some places) has are = are
 
-pub places_at : (count : ℕ) (es : List (ℕ × List (Option ℕ))) (pid : ℕ) → is_some (lookup (is_at (nat_cmp pid)) es) ≡ true → IsWhole es count → ArePlaces count (places_in es pid)
+pub places_at : (count : ℕ) (es : List (ℕ × List (Option ℕ))) (pid : ℕ) → is_some (lookup (is_at (nat_cmp pid)) es) ≡ true → IsValidTable es count → ArePlaces count (places_in es pid)
 places_at count es pid has whole = found count (lookup (is_at (nat_cmp pid)) es) has (IfSome-lookup_from_All (ArePlaces count) (is_at (nat_cmp pid)) es whole)
 
 -- a process that has a table in one of two equal tables has one in the other
@@ -65,10 +65,10 @@ pub fields_have : (t u : Table) (pid : ℕ) → t ≡ u → has_table u pid ≡ 
 fields_have t u pid is has = subst (λ v. has_table v pid ≡ true) (sym is) has
 
 -- one place of a process changes, and there may be more open files
-pub one_place : (m n : ℕ) (es new : List (ℕ × List (Option ℕ))) (pid fd : ℕ) (place : Option ℕ) (places : List (Option ℕ)) → IsWhole es m → is_some (lookup (is_at (nat_cmp pid)) es) ≡ true → places ≡ places_in es pid → new ≡ insert_entry nat_cmp es pid (set places fd place) → m ≤ n → IsPlace n place → IsWhole new n
+pub one_place : (m n : ℕ) (es new : List (ℕ × List (Option ℕ))) (pid fd : ℕ) (place : Option ℕ) (places : List (Option ℕ)) → IsValidTable es m → is_some (lookup (is_at (nat_cmp pid)) es) ≡ true → places ≡ places_in es pid → new ≡ insert_entry nat_cmp es pid (set places fd place) → m ≤ n → IsDescriptorPlace n place → IsValidTable new n
 one_place m n es new pid fd place places whole has places_are new_is larger is =
     let before = places_more m n places larger (subst (ArePlaces m) (sym places_are) (places_at m es pid has whole)) in
-    subst (λ es. IsWhole es n) (sym new_is) (whole-put n es pid (set places fd place) (whole-more_files m n es larger whole) (places-set n places fd place is before))
+    subst (λ es. IsValidTable es n) (sym new_is) (whole-put n es pid (set places fd place) (whole-more_files m n es larger whole) (places-set n places fd place is before))
 
 -- a number below the count of open files has one
 there : (files : List OpenFile) (number : ℕ) → number < length files → is_some (slice_get files number) ≡ true
@@ -77,7 +77,7 @@ there files number inside = elim (slice_get_cases files number).1 [
   | inr past ↦ absurd (omega (arith, past.0, inside))
 ]
 
-leads : (files : List OpenFile) (place : Option ℕ) → IsPlace (length files) place → not (is_none place) ≡ true → is_some (file_of_number files place) ≡ true
+leads : (files : List OpenFile) (place : Option ℕ) → IsDescriptorPlace (length files) place → not (is_none place) ≡ true → is_some (file_of_number files place) ≡ true
 leads files None is taken = absurd (true≢false (sym taken))
 leads files (Some number) is taken = there files number is
 
@@ -111,7 +111,7 @@ module _ (t : Table) (pid : ℕ) (are : ArePlaces (length t.files) (places_in t.
   full is = full_by _ (prefix_len (λ place. not (is_none place)) (places_in t.processes pid)) refl refl is
 
 -- a place in one of two equal tables is one in the other
-pub place_within : (t u : Table) (place : Option ℕ) → t ≡ u → IsPlace (length t.files) place → IfSome place (λ number. number < length u.files)
+pub place_within : (t u : Table) (place : Option ℕ) → t ≡ u → IsDescriptorPlace (length t.files) place → IfSome place (λ number. number < length u.files)
 place_within t u None same is = tt
 place_within t u (Some number) same is = subst (λ v. number < length v.files) same is
 

@@ -3,13 +3,13 @@ use Rattle.std.specs.Prelude.{◌≡◌, ◌≢◌, ℕ, true, length, Some}
 use Rattle.std.specs.declared.result.Result.TheVariants.{Ok}
 use Rattle.st_model.specs.declared.open_file.OpenFile.{OpenFile}
 use Rattle.st_model.specs.Descriptors.{Table, has_table, file_at, file_number_at}
-use Rattle.st_fds.specs.Table.{IsWhole}
+use Rattle.st_fds.specs.Table.{IsValidTable}
 use Rattle.st_model.specs.DescriptorCalls.{table_after_copy, table_after_dup, table_after_seek}
 use Rattle.st_fds.specs.Calls.{dup_result}
 
 -- a descriptor and its duplicate refer to the same open file
 abbrev pub DuplicatesShare : Type 0
-DuplicatesShare = (t : Table) (pid fd least : ℕ) → IsWhole t.processes (length t.files) → has_table t pid ≡ true → dup_result t pid fd ≡ Ok least →
+DuplicatesShare = (t : Table) (pid fd least : ℕ) → IsValidTable t.processes (length t.files) → has_table t pid ≡ true → dup_result t pid fd ≡ Ok least →
     file_number_at (table_after_dup t pid fd) pid least ≡ file_number_at (table_after_dup t pid fd) pid fd
 
 -- each descriptor of a child refers to the same open file as its parent's

@@ -10,17 +10,17 @@ use Rattle.st_model.specs.declared.open_file.OpenFile.{OpenFile}
 use Rattle.st_model.specs.declared.open_file.TheConstants.{DESCRIPTORS}
 
 -- a place is free, or has the number of one of `count` open files
-abbrev pub IsPlace : ℕ → Option ℕ → Type 0
-IsPlace count None = Unit {0}
-IsPlace count (Some number) = number < count
+abbrev pub IsDescriptorPlace : ℕ → Option ℕ → Type 0
+IsDescriptorPlace count None = Unit {0}
+IsDescriptorPlace count (Some number) = number < count
 
 -- a process has 64 places, each of them free or with the number of an open file
 abbrev pub ArePlaces : ℕ → List (Option ℕ) → Type 0
-ArePlaces count places = (length places ≡ DESCRIPTORS) × All (IsPlace count) places
+ArePlaces count places = (length places ≡ DESCRIPTORS) × All (IsDescriptorPlace count) places
 
 -- the places of each process are such
-abbrev pub IsWhole : List (ℕ × List (Option ℕ)) → ℕ → Type 0
-IsWhole processes count = All (ArePlaces count) (values_of processes)
+abbrev pub IsValidTable : List (ℕ × List (Option ℕ)) → ℕ → Type 0
+IsValidTable processes count = All (ArePlaces count) (values_of processes)
 
 -- the same processes have a table before and after
 abbrev pub KeepsTables : Table → Table → Type 0
@@ -43,7 +43,7 @@ pub record IsLeastFree (t : Table) (pid fd : ℕ) : Type 0 where
 -- a process was given this descriptor for a new open file, and nothing was changed since
 pub record WasOpened (before : Table) (pid fd : ℕ) (after : Table) : Type 0 where
   pub has : has_table before pid ≡ true
-  pub whole : IsWhole before.processes (length before.files)
+  pub whole : IsValidTable before.processes (length before.files)
   pub ordered : IsStrictlySortedBy nat_cmp (keys_of before.processes)
   pub descriptor : least_free before pid ≡ Some fd
   pub file : OpenFile

@@ -4,7 +4,7 @@ ghost use Rattle.st_model.specs.declared.open_file.TheConstants.{DESCRIPTORS};
 ghost use Rattle.st_fds.specs.declared.fds.FdFault.TheVariants.{Os, NoMemory};
 ghost use Rattle.st_model.specs.Descriptors.{Table, file_at, has_table, least_free, file_number_at, is_port_in_use};
 ghost use Rattle.st_fds.specs.Table.{AreOpenBelow, ChangesTable, IsLeastFree, KeepsTables, WasOpened};
-ghost use Rattle.st_model.specs.DescriptorCalls.{bind_refused, table_after_bind, close_refused, table_after_close, connect_refused, table_after_connect, table_after_copy, table_after_dup, table_after_close_all, table_after_open, seek_refused, table_after_seek, table_after_start, table_after_uncopy};
+ghost use Rattle.st_model.specs.DescriptorCalls.{bind_refused, table_after_bind, close_refused, table_after_close, connect_refused, table_after_connect, table_after_copy, table_after_dup, table_after_close_all, table_after_open, seek_refused, table_after_seek, table_after_start, table_after_entry_removed};
 ghost use Rattle.st_fds.specs.Calls.{result_of_refusal, dup_result};
 
 use crate::places::{self, Places};
@@ -53,9 +53,9 @@ impl Model for Fds {
     ghost view = { λ f. record { processes = f.processes.entries; files = f.files.items } };
 
     ghost use Rattle.std.specs.Prelude.{length};
-    ghost use Rattle.st_fds.specs.Table.{IsWhole};
+    ghost use Rattle.st_fds.specs.Table.{IsValidTable};
 
-    ghost invariant = { λ f. IsWhole f.processes.entries (length f.files.items) };
+    ghost invariant = { λ f. IsValidTable f.processes.entries (length f.files.items) };
 }
 
 impl Fds {
@@ -168,7 +168,7 @@ impl Fds {
     /// Removes the table that `copy` made. If nothing was changed since, all is as before the copy.
     pub fn uncopy(&mut self, to: Pid)
         requires { has_table self.old to ≡ true }
-        ensures table { self.new ≡ table_after_uncopy self.old to }
+        ensures table { self.new ≡ table_after_entry_removed self.old to }
         ensures tables { ChangesTable self.old to false self.new }
         ensures undoes { (t : Table) (from : ℕ) → has_table t to ≡ false → self.old ≡ table_after_copy t from to → self.new ≡ t }
     {

@@ -11,7 +11,7 @@ use Rattle.std.proofs.Common.{Global}
 use Rattle.st_filter.specs.Formula.{FilterValue}
 use Rattle.st_filter.specs.declared.set.BinaryPolicy.{BinaryPolicy}
 use Rattle.st_filter.specs.Policies.{policy_of, add_filter, is_some_policy, has_policy, filters_in}
-use Rattle.st_filter.specs.Kept.{PolicyEntry, shown_policies, shown_entry}
+use Rattle.st_filter.specs.PolicyEntries.{PolicyEntry, represented_policies, policy_of_entry}
 
 nat_eq_sym : (a b : ℕ) → nat_eq a b ≡ nat_eq b a
 nat_eq_sym a b = grind arith
@@ -29,17 +29,17 @@ chosen : (b : Bool) (e fs : List FilterValue) (o : Option (List FilterValue)) �
 chosen true e fs o h = refl
 chosen false e fs o h = h
 
-pub policy_kept : (es : List PolicyEntry) (binary : List ℕ) → unwrap_or (lookup (is_key binary) es) [] ≡ policy_of (shown_policies es) binary
+pub policy_kept : (es : List PolicyEntry) (binary : List ℕ) → unwrap_or (lookup (is_key binary) es) [] ≡ policy_of (represented_policies es) binary
 policy_kept [] binary = refl
 policy_kept (e ∷ es) binary =
-    chosen (bytes_eq binary e.0.items) e.1 (policy_of (shown_policies es) binary) (lookup (is_key binary) es) (policy_kept es binary)
-    ∙ ap (λ b. cond b e.1 (policy_of (shown_policies es) binary)) (bytes_eq_sym binary e.0.items)
+    chosen (bytes_eq binary e.0.items) e.1 (policy_of (represented_policies es) binary) (lookup (is_key binary) es) (policy_kept es binary)
+    ∙ ap (λ b. cond b e.1 (policy_of (represented_policies es) binary)) (bytes_eq_sym binary e.0.items)
 
 found : (b : Bool) (e : List FilterValue) (o : Option (List FilterValue)) → is_some (cond b (Some e) o) ≡ (b || is_some o)
 found true e o = refl
 found false e o = refl
 
-pub has_kept : (es : List PolicyEntry) (binary : List ℕ) → is_some (lookup (is_key binary) es) ≡ has_policy (shown_policies es) binary
+pub has_kept : (es : List PolicyEntry) (binary : List ℕ) → is_some (lookup (is_key binary) es) ≡ has_policy (represented_policies es) binary
 has_kept [] binary = refl
 has_kept (e ∷ es) binary =
     found (bytes_eq binary e.0.items) e.1 (lookup (is_key binary) es)
@@ -49,7 +49,7 @@ has_kept (e ∷ es) binary =
 -- ---- the last policy
 
 pub kept_set : (es : List PolicyEntry) (i : ℕ) (v w : List FilterValue) (f : FilterValue) → length es ≡ suc i → slice_get (values_of es) i ≡ Some v → w ≡ v ++ f ∷ [] →
-    shown_policies (set_value_at es i w) ≡ add_filter (shown_policies es) f
+    represented_policies (set_value_at es i w) ≡ add_filter (represented_policies es) f
 kept_set [] i v w f n h k = absurd (omega arith)
 kept_set (e ∷ []) zero v w f n h k =
     let q : v ≡ e.1 = cc in
@@ -57,48 +57,48 @@ kept_set (e ∷ []) zero v w f n h k =
     ap one k ∙ ap (λ fs. one (fs ++ f ∷ [])) q
 kept_set (e ∷ []) (suc i) v w f n h k = absurd (omega arith)
 kept_set (e ∷ g ∷ es) zero v w f n h k = absurd (omega arith)
-kept_set (e ∷ g ∷ es) (suc i) v w f n h k = ap (λ ps. shown_entry e ∷ ps) (kept_set (g ∷ es) i v w f (omega arith) h k)
+kept_set (e ∷ g ∷ es) (suc i) v w f n h k = ap (λ ps. policy_of_entry e ∷ ps) (kept_set (g ∷ es) i v w f (omega arith) h k)
 
-pub kept_same : (es : List PolicyEntry) (i : ℕ) (v w : List FilterValue) → slice_get (values_of es) i ≡ Some v → w ≡ v → shown_policies (set_value_at es i w) ≡ shown_policies es
+pub kept_same : (es : List PolicyEntry) (i : ℕ) (v w : List FilterValue) → slice_get (values_of es) i ≡ Some v → w ≡ v → represented_policies (set_value_at es i w) ≡ represented_policies es
 kept_same [] i v w h k = refl
 kept_same (e ∷ es) zero v w h k =
     let q : w ≡ e.1 = cc in
-    ap (λ fs. record { binary = e.0.items; filters = fs } ∷ shown_policies es) q
-kept_same (e ∷ es) (suc i) v w h k = ap (λ ps. shown_entry e ∷ ps) (kept_same es i v w h k)
+    ap (λ fs. record { binary = e.0.items; filters = fs } ∷ represented_policies es) q
+kept_same (e ∷ es) (suc i) v w h k = ap (λ ps. policy_of_entry e ∷ ps) (kept_same es i v w h k)
 
-some_kept : (es : List PolicyEntry) (i : ℕ) → length es ≡ suc i → is_some_policy (shown_policies es) ≡ true
+some_kept : (es : List PolicyEntry) (i : ℕ) → length es ≡ suc i → is_some_policy (represented_policies es) ≡ true
 some_kept [] i n = absurd (omega arith)
 some_kept (e ∷ es) i n = refl
 
-pub kept_counted : (es : List PolicyEntry) (i : ℕ) (f : FilterValue) → length es ≡ suc i → filters_in (add_filter (shown_policies es) f) ≡ filters_in (shown_policies es) + 1
-kept_counted es i f n = counted_added (shown_policies es) f (some_kept es i n)
+pub kept_counted : (es : List PolicyEntry) (i : ℕ) (f : FilterValue) → length es ≡ suc i → filters_in (add_filter (represented_policies es) f) ≡ filters_in (represented_policies es) + 1
+kept_counted es i f n = counted_added (represented_policies es) f (some_kept es i n)
 
 -- ---- a new policy
 
 abbrev pub same_key : Vec ℕ Global → Vec ℕ Global → Bool
 same_key x y = bytes_eq x.items y.items
 
-begun_by : (b : Bool) (e : PolicyEntry) (es : List PolicyEntry) (key : Vec ℕ Global) (v : List FilterValue) → b ≡ bytes_eq e.0.items key.items → has_policy (shown_policies (e ∷ es)) key.items ≡ false →
-    (has_policy (shown_policies es) key.items ≡ false → shown_policies (insert_entry same_key es key v) ≡ shown_policies es ++ record { binary = key.items; filters = v } ∷ []) →
-    shown_policies (if b then (e.0, v) ∷ es else e ∷ insert_entry same_key es key v) ≡ shown_policies (e ∷ es) ++ record { binary = key.items; filters = v } ∷ []
-begun_by true e es key v q h k = absurd (both_ways (bytes_eq e.0.items key.items || has_policy (shown_policies es) key.items) h (or_left (bytes_eq e.0.items key.items) (has_policy (shown_policies es) key.items) (sym q)))
-begun_by false e es key v q h k = ap (λ ps. shown_entry e ∷ ps) (k (or_parts (bytes_eq e.0.items key.items) (has_policy (shown_policies es) key.items) h).1)
+begun_by : (b : Bool) (e : PolicyEntry) (es : List PolicyEntry) (key : Vec ℕ Global) (v : List FilterValue) → b ≡ bytes_eq e.0.items key.items → has_policy (represented_policies (e ∷ es)) key.items ≡ false →
+    (has_policy (represented_policies es) key.items ≡ false → represented_policies (insert_entry same_key es key v) ≡ represented_policies es ++ record { binary = key.items; filters = v } ∷ []) →
+    represented_policies (if b then (e.0, v) ∷ es else e ∷ insert_entry same_key es key v) ≡ represented_policies (e ∷ es) ++ record { binary = key.items; filters = v } ∷ []
+begun_by true e es key v q h k = absurd (both_ways (bytes_eq e.0.items key.items || has_policy (represented_policies es) key.items) h (or_left (bytes_eq e.0.items key.items) (has_policy (represented_policies es) key.items) (sym q)))
+begun_by false e es key v q h k = ap (λ ps. policy_of_entry e ∷ ps) (k (or_parts (bytes_eq e.0.items key.items) (has_policy (represented_policies es) key.items) h).1)
 
-pub kept_begun : (es : List PolicyEntry) (key : Vec ℕ Global) (v : List FilterValue) → has_policy (shown_policies es) key.items ≡ false →
-    shown_policies (insert_entry same_key es key v) ≡ shown_policies es ++ record { binary = key.items; filters = v } ∷ []
+pub kept_begun : (es : List PolicyEntry) (key : Vec ℕ Global) (v : List FilterValue) → has_policy (represented_policies es) key.items ≡ false →
+    represented_policies (insert_entry same_key es key v) ≡ represented_policies es ++ record { binary = key.items; filters = v } ∷ []
 kept_begun [] key v h = refl
 kept_begun (e ∷ es) key v h =
     begun_by (bytes_eq key.items e.0.items) e es key v (bytes_eq_sym key.items e.0.items) h (λ k. kept_begun es key v k)
 
 -- ---- the last policy is removed
 
-pub counted_before : (es fs : List PolicyEntry) (e : PolicyEntry) → es ≡ fs ++ e ∷ [] → filters_in (shown_policies es) ≡ filters_in (shown_policies fs) + length e.1
-counted_before es fs e h = ap (λ ps. filters_in (shown_policies ps)) h ∙ ap filters_in (map-append shown_entry fs (e ∷ [])) ∙ filters_in_last (shown_policies fs) (shown_entry e)
+pub counted_before : (es fs : List PolicyEntry) (e : PolicyEntry) → es ≡ fs ++ e ∷ [] → filters_in (represented_policies es) ≡ filters_in (represented_policies fs) + length e.1
+counted_before es fs e h = ap (λ ps. filters_in (represented_policies ps)) h ∙ ap filters_in (map-append policy_of_entry fs (e ∷ [])) ∙ filters_in_last (represented_policies fs) (policy_of_entry e)
 
-pub front_before : (n : ℕ) (es fs : List PolicyEntry) (e : PolicyEntry) → es ≡ fs ++ e ∷ [] → n ≤ length fs → take n (shown_policies fs) ≡ take n (shown_policies es)
+pub front_before : (n : ℕ) (es fs : List PolicyEntry) (e : PolicyEntry) → es ≡ fs ++ e ∷ [] → n ≤ length fs → take n (represented_policies fs) ≡ take n (represented_policies es)
 front_before n es fs e h lt =
-    let front : take n (shown_policies fs ++ shown_entry e ∷ []) ≡ take n (shown_policies fs) = take-append-le n (shown_policies fs) (shown_entry e ∷ []) (rw length-map lt) in
-    sym front ∙ ap (take n) (sym (map-append shown_entry fs (e ∷ []))) ∙ ap (λ ps. take n (shown_policies ps)) (sym h)
+    let front : take n (represented_policies fs ++ policy_of_entry e ∷ []) ≡ take n (represented_policies fs) = take-append-le n (represented_policies fs) (policy_of_entry e ∷ []) (rw length-map lt) in
+    sym front ∙ ap (take n) (sym (map-append policy_of_entry fs (e ∷ []))) ∙ ap (λ ps. take n (represented_policies ps)) (sym h)
 
 pub on_err : {T E : Type 0} (r : Result T E) {P : Type 0} → P → OnErr r P
 on_err (Ok x) p = tt

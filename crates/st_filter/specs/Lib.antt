@@ -2,5 +2,5 @@ pub mod Fast
 pub mod Formula
 pub mod FormulaCode
 pub mod Judging
-pub mod Kept
+pub mod PolicyEntries
 pub mod Policies

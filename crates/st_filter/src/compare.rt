@@ -31,11 +31,11 @@ fn is_path_prefix(argument: &[u8], path: &[u8]) -> bool
     let mut rest = path;
     for byte in argument {
         match rest {
-            [first, behind @ ..] => {
+            [first, following @ ..] => {
                 if byte != first {
                     return false;
                 }
-                rest = behind;
+                rest = following;
             }
             [] => return false,
         }

@@ -36,7 +36,7 @@ pub struct PolicySet {
 
 impl Model for PolicySet {
     ghost use Rattle.std.specs.Prelude.{◌≡◌, ◌≤◌, List, []};
-    ghost use Rattle.st_filter.specs.Kept.{shown_policies};
+    ghost use Rattle.st_filter.specs.PolicyEntries.{represented_policies};
     ghost use Rattle.std.specs.Coded.{codes};
     ghost use Rattle.st_filter.specs.declared.set.BinaryPolicy.{BinaryPolicy};
     ghost use Rattle.st_filter.specs.FormulaCode.{formula_code};
@@ -47,9 +47,9 @@ impl Model for PolicySet {
 
     ghost coded = { Prim.hlevel (codes, formula_code) };
 
-    ghost view = { λ s. shown_policies s.policies.entries };
+    ghost view = { λ s. represented_policies s.policies.entries };
 
-    ghost invariant = { λ s. (s.empty ≡ []) × (s.filters ≡ filters_in (shown_policies s.policies.entries)) × (s.filters ≤ MOST_FILTERS) };
+    ghost invariant = { λ s. (s.empty ≡ []) × (s.filters ≡ filters_in (represented_policies s.policies.entries)) × (s.filters ≤ MOST_FILTERS) };
 }
 
 impl PolicySet {

@@ -1,7 +1,7 @@
 -- Classes: their members, ranges and closing brackets.
 use Rattle.std.proofs.Common.{◌≡◌, ℕ, ◌+◌, ◌<◌, ◌≤◌, ◌≢◌, ◌==◌, ◌||◌, ◌&&◌, Bool, true, false, List, [], ◌∷◌, length, drop, get_or, Option, None, Some, refl, ap, sym, subst, ◌∙◌, arith, cond}
 use Rattle.std.proofs.lemmas.Bool.Decides.{nat_tests}
-use Rattle.st_glob.specs.Items.{Member, members, has_byte, is_listed, in_range, dash, farther_by, member_len, to_bracket, class_len, is_negated, bracket_item, byte_item, backslash_item, first_item, Spelled}
+use Rattle.st_glob.specs.Items.{Member, members, has_byte, is_listed, in_range, dash, farther_by, member_len, to_bracket, class_len, is_negated, bracket_item, byte_item, backslash_item, first_item, SizedItem}
 
 pub either : (b : Bool) (P : Type 0) → (b ≡ true → P) → (b ≡ false → P) → P
 either true P f g = f refl
@@ -37,19 +37,19 @@ lists-no-dash m b (d ∷ rest) c e =
     (λ h. subst P (sym (members-pair b d rest h)) (lists-plain m (record { byte = d; bare = false }) (members rest) c refl))
     (λ h. subst P (sym (members-plain b (d ∷ rest) h)) (lists-plain m (record { byte = b; bare = true }) (members (d ∷ rest)) c e))
 
-pub listed-short : (class behind : List ℕ) (m : Member) → members class ≡ m ∷ members behind → length behind < 2 → (c : ℕ) → is_listed class c ≡ (in_range m.byte m.byte c || is_listed behind c)
+pub listed-short : (class following : List ℕ) (m : Member) → members class ≡ m ∷ members following → length following < 2 → (c : ℕ) → is_listed class c ≡ (in_range m.byte m.byte c || is_listed following c)
 listed-short class [] m e h c = ap (λ (ms : List Member). has_byte ms c) e ∙ lists-single m c
 listed-short class (b ∷ []) m e h c = ap (λ (ms : List Member). has_byte ms c) e ∙ ap (λ (x : Bool). x || (b == c)) (sym (in_range-one m.byte c))
 listed-short class (b ∷ d ∷ rest) m e h c = absurd (omega arith)
 
-pub listed-plain : (class behind : List ℕ) (m : Member) → members class ≡ m ∷ members behind → get_or behind 0 0 ≢ 45 → (c : ℕ) → is_listed class c ≡ (in_range m.byte m.byte c || is_listed behind c)
+pub listed-plain : (class following : List ℕ) (m : Member) → members class ≡ m ∷ members following → get_or following 0 0 ≢ 45 → (c : ℕ) → is_listed class c ≡ (in_range m.byte m.byte c || is_listed following c)
 listed-plain class [] m e h c = ap (λ (ms : List Member). has_byte ms c) e ∙ lists-single m c
 listed-plain class (b ∷ rest) m e h c = ap (λ (ms : List Member). has_byte ms c) e ∙ lists-no-dash m b rest c (grind (arith, nat_tests))
 
 -- a member, a dash and another member are a range
-pub listed-range : (class behind : List ℕ) (m h : Member) (more : ℕ) →
-    members class ≡ m ∷ members behind → 2 ≤ length behind → get_or behind 0 0 ≡ 45 → members (drop 1 behind) ≡ h ∷ members (drop more (drop 1 behind)) →
-    (c : ℕ) → is_listed class c ≡ (in_range m.byte h.byte c || is_listed (drop more (drop 1 behind)) c)
+pub listed-range : (class following : List ℕ) (m h : Member) (more : ℕ) →
+    members class ≡ m ∷ members following → 2 ≤ length following → get_or following 0 0 ≡ 45 → members (drop 1 following) ≡ h ∷ members (drop more (drop 1 following)) →
+    (c : ℕ) → is_listed class c ≡ (in_range m.byte h.byte c || is_listed (drop more (drop 1 following)) c)
 listed-range class [] m h more e n d f c = absurd (omega arith)
 listed-range class (b ∷ []) m h more e n d f c = absurd (omega arith)
 listed-range class (b ∷ d ∷ rest) m h more e n is f c =
@@ -95,9 +95,9 @@ no-bracket : (b : ℕ) (rest : List ℕ) → to_bracket (b ∷ rest) ≡ None �
 no-bracket b rest e h = let f : to_bracket (b ∷ rest) ≡ Some 0 = bracket-here (b ∷ rest) (omega arith) h in absurd (cc)
 
 -- a byte that isn't a backslash is skipped alone
-pub unclosed-behind : (b : ℕ) (rest : List ℕ) → (b == 92) ≡ false → to_bracket (b ∷ rest) ≡ None → to_bracket rest ≡ None
-unclosed-behind b [] n e = refl
-unclosed-behind b (c ∷ rest) n e =
+pub unclosed-later : (b : ℕ) (rest : List ℕ) → (b == 92) ≡ false → to_bracket (b ∷ rest) ≡ None → to_bracket rest ≡ None
+unclosed-later b [] n e = refl
+unclosed-later b (c ∷ rest) n e =
     let h : (b == 93) ≡ false = let g : b ≢ 93 = no-bracket b (c ∷ rest) e in grind (arith, nat_tests) in
     let f : farther_by 1 (to_bracket (c ∷ rest)) ≡ None = rw (h, n) at e in
     further-is-none 1 (to_bracket (c ∷ rest)) f
@@ -112,36 +112,36 @@ unclosed-negated : (bytes : List ℕ) → is_negated bytes ≡ true → to_brack
 unclosed-negated [] n e = absurd (cc)
 unclosed-negated (b ∷ rest) n e =
     let h : (b == 92) ≡ false = grind (arith, nat_tests) in
-    unclosed-class rest (unclosed-behind b rest h e)
+    unclosed-class rest (unclosed-later b rest h e)
 
-pub unclosed-item : (behind : List ℕ) → to_bracket behind ≡ None → bracket_item behind ≡ byte_item 91
-unclosed-item behind e =
-    either (is_negated behind) (bracket_item behind ≡ byte_item 91)
-    (λ n. let l : class_len (drop 1 behind) ≡ None = unclosed-negated behind n e in rw (n, l) refl)
-    (λ n. let l : class_len behind ≡ None = unclosed-class behind e in rw (n, l) refl)
+pub unclosed-item : (following : List ℕ) → to_bracket following ≡ None → bracket_item following ≡ byte_item 91
+unclosed-item following e =
+    either (is_negated following) (bracket_item following ≡ byte_item 91)
+    (λ n. let l : class_len (drop 1 following) ≡ None = unclosed-negated following n e in rw (n, l) refl)
+    (λ n. let l : class_len following ≡ None = unclosed-class following e in rw (n, l) refl)
 
-pub unclosed-bracket : (behind : List ℕ) → to_bracket (91 ∷ behind) ≡ None → bracket_item behind ≡ byte_item 91
-unclosed-bracket behind e = unclosed-item behind (unclosed-behind 91 behind refl e)
+pub unclosed-bracket : (following : List ℕ) → to_bracket (91 ∷ following) ≡ None → bracket_item following ≡ byte_item 91
+unclosed-bracket following e = unclosed-item following (unclosed-later 91 following refl e)
 
 -- a property of a choice, from both of its values
 pub tested : {A : Type 0} (P : A → Type 0) (b : Bool) (x y : A) → P x → P y → P (cond b x y)
 tested P true x y p q = p
 tested P false x y p q = q
 
-one-byte : (b : ℕ) (behind : List ℕ) → (b == 92) ≡ false → to_bracket behind ≡ None → (first_item b behind).behind ≡ 0
-one-byte b behind n e =
-    let P : Spelled → Type 0 = λ s. s.behind ≡ 0 in
-    rw (n, unclosed-item behind e) (tested P (b == 42) _ _ refl (tested P (b == 63) _ _ refl (tested P (b == 91) _ _ refl refl)))
+one-byte : (b : ℕ) (following : List ℕ) → (b == 92) ≡ false → to_bracket following ≡ None → (first_item b following).following ≡ 0
+one-byte b following n e =
+    let P : SizedItem → Type 0 = λ s. s.following ≡ 0 in
+    rw (n, unclosed-item following e) (tested P (b == 42) _ _ refl (tested P (b == 63) _ _ refl (tested P (b == 91) _ _ refl refl)))
 
-behind-backslash : (behind : List ℕ) → to_bracket (92 ∷ behind) ≡ None → to_bracket (drop (backslash_item behind).behind behind) ≡ None
-behind-backslash [] e = refl
-behind-backslash (b ∷ rest) e = further-is-none 2 (to_bracket rest) e
+following-backslash : (following : List ℕ) → to_bracket (92 ∷ following) ≡ None → to_bracket (drop (backslash_item following).following following) ≡ None
+following-backslash [] e = refl
+following-backslash (b ∷ rest) e = further-is-none 2 (to_bracket rest) e
 
 -- if no closing bracket follows in a pattern, none follows after its first item
-pub still-unclosed : (b : ℕ) (behind : List ℕ) → to_bracket (b ∷ behind) ≡ None → to_bracket (drop (first_item b behind).behind behind) ≡ None
-still-unclosed b behind e =
-    let P : Type 0 = to_bracket (drop (first_item b behind).behind behind) ≡ None in
+pub still-unclosed : (b : ℕ) (following : List ℕ) → to_bracket (b ∷ following) ≡ None → to_bracket (drop (first_item b following).following following) ≡ None
+still-unclosed b following e =
+    let P : Type 0 = to_bracket (drop (first_item b following).following following) ≡ None in
     either (b == 92) P
-    (λ h. let g : b ≡ 92 = grind (arith, nat_tests) in subst (λ (x : ℕ). to_bracket (drop (first_item x behind).behind behind) ≡ None) (sym g) (behind-backslash behind (subst (λ (x : ℕ). to_bracket (x ∷ behind) ≡ None) g e)))
-    (λ h. let f : to_bracket behind ≡ None = unclosed-behind b behind h e in
-    subst (λ (k : ℕ). to_bracket (drop k behind) ≡ None) (sym (one-byte b behind h f)) f)
+    (λ h. let g : b ≡ 92 = grind (arith, nat_tests) in subst (λ (x : ℕ). to_bracket (drop (first_item x following).following following) ≡ None) (sym g) (following-backslash following (subst (λ (x : ℕ). to_bracket (x ∷ following) ≡ None) g e)))
+    (λ h. let f : to_bracket following ≡ None = unclosed-later b following h e in
+    subst (λ (k : ℕ). to_bracket (drop k following) ≡ None) (sym (one-byte b following h f)) f)

@@ -4,7 +4,7 @@ use Rattle.std.specs.Prelude.{IsTrue}
 use Rattle.std.proofs.lemmas.Bool.Decides.{nat_tests}
 use Rattle.st_glob.specs.Items.{Item, Star, Any, Exactly, Within, Without, slash, items}
 use Rattle.st_glob.specs.Glob.{matches_byte, matches_after_run, matches, glob}
-use Rattle.st_glob.specs.Fills.{Fills, Nothing, Byte, Stop, Run, IsEnded, FillsFront}
+use Rattle.st_glob.specs.Fills.{Fills, Nothing, Byte, Stop, Run, IsComponentEnd, FillsFront}
 use Rattle.st_glob.proofs.Runs.{or_cases, and_cases, run-here, run-longer, matches-takes}
 
 no-slash : (c : ℕ) → not (c == slash) ≡ true → c ≢ slash
@@ -21,7 +21,7 @@ is-slash-test c e = grind (arith, nat_tests)
 
 -- ---- items that match fill a prefix
 
-ended-front : (text : List ℕ) → IsEnded text → FillsFront [] text
+ended-front : (text : List ℕ) → IsComponentEnd text → FillsFront [] text
 ended-front text e = record { front = []; left = text; parts = refl; fills = Nothing; ended = e }
 
 byte-front : (item : Item) (more : List Item) (c : ℕ) (text : List ℕ) → matches_byte item c ≡ true → FillsFront more text → FillsFront (item ∷ more) (c ∷ text)
@@ -59,11 +59,11 @@ to-front (Without class ∷ more) (c ∷ text) e = taken_len-front (Without clas
 
 -- ---- items that fill a prefix match
 
-ended-matches : (left : List ℕ) → IsEnded left → matches [] left ≡ true
+ended-matches : (left : List ℕ) → IsComponentEnd left → matches [] left ≡ true
 ended-matches [] e = refl
 ended-matches (c ∷ left) e = is-slash-test c e
 
-fills-matches : {is : List Item} {front : List ℕ} (left : List ℕ) → IsEnded left → Fills is front → matches is (front ++ left) ≡ true
+fills-matches : {is : List Item} {front : List ℕ} (left : List ℕ) → IsComponentEnd left → Fills is front → matches is (front ++ left) ≡ true
 fills-matches left e Nothing = ended-matches left e
 fills-matches left e (Byte {item} {more} {c} {text} t f) = matches-takes item more c (text ++ left) t ∙ fills-matches left e f
 fills-matches left e (Stop {more} {text} f) = run-here (matches more) (text ++ left) (fills-matches left e f)

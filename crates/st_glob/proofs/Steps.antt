@@ -2,7 +2,7 @@
 use Rattle.std.proofs.Common.{◌≡◌, ℕ, ◌<◌, ◌≤◌, ◌≢◌, ◌==◌, not, Bool, true, false, List, [], ◌∷◌, length, drop, get_or, Option, None, Some, refl, ap, sym, subst, ◌∙◌, arith, suc, cond, zero}
 use Rattle.std.specs.Cmp.{both_ways}
 use Rattle.std.proofs.lemmas.Bool.Decides.{nat_tests}
-use Rattle.st_glob.specs.Items.{Item, Star, Any, Exactly, Within, Without, Spelled, backslash_item, is_negated, to_bracket, class_len, class_item, negated_item, bracket_item, byte_item, first_item, items_after, items}
+use Rattle.st_glob.specs.Items.{Item, Star, Any, Exactly, Within, Without, SizedItem, backslash_item, is_negated, to_bracket, class_len, class_item, negated_item, bracket_item, byte_item, first_item, items_after, items}
 use Rattle.std.specs.Bool.{then_some}
 use Rattle.std.specs.Option.{is_some}
 use Rattle.st_glob.specs.Glob.{matches_byte as takes_byte, matches, matches_after_run, glob}
@@ -18,8 +18,8 @@ skipped (suc n) [] = refl
 skipped zero (b ∷ rest) = refl
 skipped (suc n) (b ∷ rest) = skipped n rest
 
-pub items-first : (b : ℕ) (rest : List ℕ) → items (b ∷ rest) ≡ (first_item b rest).item ∷ items (drop (first_item b rest).behind rest)
-items-first b rest = ap (λ (is : List Item). (first_item b rest).item ∷ is) (skipped (first_item b rest).behind rest)
+pub items-first : (b : ℕ) (rest : List ℕ) → items (b ∷ rest) ≡ (first_item b rest).item ∷ items (drop (first_item b rest).following rest)
+items-first b rest = ap (λ (is : List Item). (first_item b rest).item ∷ is) (skipped (first_item b rest).following rest)
 
 abbrev is_star : Item → Bool
 is_star Star = true
@@ -39,7 +39,7 @@ backslash-no-star (b ∷ rest) = refl
 
 first-no-star : (b : ℕ) (rest : List ℕ) → (b == 42) ≡ false → is_star (first_item b rest).item ≡ false
 first-no-star b rest e =
-    let P : Spelled → Type 0 = λ s. is_star s.item ≡ false in
+    let P : SizedItem → Type 0 = λ s. is_star s.item ≡ false in
     rw e (tested P (b == 63) _ _ refl (tested P (b == 92) _ _ (backslash-no-star rest)
     (tested P (b == 91) _ _ (tested P (is_negated rest) _ _ (negated-no-star (drop 1 rest) (class_len (drop 1 rest))) (class-no-star rest (class_len rest))) refl)))
 
@@ -57,16 +57,16 @@ matches-short (Exactly b) rest s = refl
 matches-short (Within class) rest s = refl
 matches-short (Without class) rest s = refl
 
-taken_len-some : (s : Spelled) (c len : ℕ) → taken_len s c ≡ Some len → (takes_byte s.item c ≡ true) × (s.behind ≡ len)
+taken_len-some : (s : SizedItem) (c len : ℕ) → taken_len s c ≡ Some len → (takes_byte s.item c ≡ true) × (s.following ≡ len)
 taken_len-some s c len e =
-    either (takes_byte s.item c) ((takes_byte s.item c ≡ true) × (s.behind ≡ len))
-    (λ t. let f : Some s.behind ≡ Some len = rw t at e in (t, cc))
+    either (takes_byte s.item c) ((takes_byte s.item c ≡ true) × (s.following ≡ len))
+    (λ t. let f : Some s.following ≡ Some len = rw t at e in (t, cc))
     (λ t. let f : None ≡ Some len = rw t at e in absurd (cc))
 
-taken_len-none : (s : Spelled) (c : ℕ) → taken_len s c ≡ None → takes_byte s.item c ≡ false
+taken_len-none : (s : SizedItem) (c : ℕ) → taken_len s c ≡ None → takes_byte s.item c ≡ false
 taken_len-none s c e =
     either (takes_byte s.item c) (takes_byte s.item c ≡ false)
-    (λ t. let f : Some s.behind ≡ None = rw t at e in absurd (cc))
+    (λ t. let f : Some s.following ≡ None = rw t at e in absurd (cc))
     (λ t. t)
 
 -- ---- from item to item
@@ -80,31 +80,31 @@ pub record IsKept (pattern text left rest : List ℕ) : Type 0 where
 pub kept-start : (pattern text : List ℕ) → IsKept pattern text pattern text
 kept-start pattern text = record { same = refl; runs = λ h. h }
 
-kept-more : (pattern text behind more : List ℕ) (b c len : ℕ) → taken_len (first_item b behind) c ≡ Some len →
-    IsKept pattern text (b ∷ behind) (c ∷ more) → IsKept pattern text (drop len behind) more
-kept-more pattern text behind more b c len e k =
-    let q : (takes_byte (first_item b behind).item c ≡ true) × ((first_item b behind).behind ≡ len) = taken_len-some (first_item b behind) c len e in
+kept-more : (pattern text following more : List ℕ) (b c len : ℕ) → taken_len (first_item b following) c ≡ Some len →
+    IsKept pattern text (b ∷ following) (c ∷ more) → IsKept pattern text (drop len following) more
+kept-more pattern text following more b c len e k =
+    let q : (takes_byte (first_item b following).item c ≡ true) × ((first_item b following).following ≡ len) = taken_len-some (first_item b following) c len e in
     record {
-      same = k.same ∙ ap (λ (is : List Item). matches is (c ∷ more)) (items-first b behind) ∙
-          matches-takes (first_item b behind).item (items (drop (first_item b behind).behind behind)) c more q.0 ∙
-          ap (λ (n : ℕ). matches (items (drop n behind)) more) q.1;
-      runs = λ h. subst (λ (n : ℕ). matches_after_run (matches (items (drop n behind))) more ≡ true) q.1
-          (run-commit (first_item b behind).item (items (drop (first_item b behind).behind behind)) c more q.0
-          (subst (λ (is : List Item). matches_after_run (matches is) (c ∷ more) ≡ true) (items-first b behind) (k.runs h)));
+      same = k.same ∙ ap (λ (is : List Item). matches is (c ∷ more)) (items-first b following) ∙
+          matches-takes (first_item b following).item (items (drop (first_item b following).following following)) c more q.0 ∙
+          ap (λ (n : ℕ). matches (items (drop n following)) more) q.1;
+      runs = λ h. subst (λ (n : ℕ). matches_after_run (matches (items (drop n following))) more ≡ true) q.1
+          (run-commit (first_item b following).item (items (drop (first_item b following).following following)) c more q.0
+          (subst (λ (is : List Item). matches_after_run (matches is) (c ∷ more) ≡ true) (items-first b following) (k.runs h)));
     }
 
-kept-differs : (pattern text behind more : List ℕ) (b c : ℕ) → b ≢ 42 → taken_len (first_item b behind) c ≡ None →
-    IsKept pattern text (b ∷ behind) (c ∷ more) → glob pattern text ≡ false
-kept-differs pattern text behind more b c n e k =
+kept-differs : (pattern text following more : List ℕ) (b c : ℕ) → b ≢ 42 → taken_len (first_item b following) c ≡ None →
+    IsKept pattern text (b ∷ following) (c ∷ more) → glob pattern text ≡ false
+kept-differs pattern text following more b c n e k =
     let f : (b == 42) ≡ false = grind (arith, nat_tests) in
-    k.same ∙ ap (λ (is : List Item). matches is (c ∷ more)) (items-first b behind) ∙
-    matches-differs (first_item b behind).item (items (drop (first_item b behind).behind behind)) c more (first-no-star b behind f) (taken_len-none (first_item b behind) c e)
+    k.same ∙ ap (λ (is : List Item). matches is (c ∷ more)) (items-first b following) ∙
+    matches-differs (first_item b following).item (items (drop (first_item b following).following following)) c more (first-no-star b following f) (taken_len-none (first_item b following) c e)
 
-kept-short : (pattern text behind : List ℕ) (b : ℕ) → b ≢ 42 → IsKept pattern text (b ∷ behind) [] → glob pattern text ≡ false
-kept-short pattern text behind b n k =
+kept-short : (pattern text following : List ℕ) (b : ℕ) → b ≢ 42 → IsKept pattern text (b ∷ following) [] → glob pattern text ≡ false
+kept-short pattern text following b n k =
     let f : (b == 42) ≡ false = grind (arith, nat_tests) in
-    k.same ∙ ap (λ (is : List Item). matches is []) (items-first b behind) ∙
-    matches-short (first_item b behind).item (items (drop (first_item b behind).behind behind)) (first-no-star b behind f)
+    k.same ∙ ap (λ (is : List Item). matches is []) (items-first b following) ∙
+    matches-short (first_item b following).item (items (drop (first_item b following).following following)) (first-no-star b following f)
 
 kept-run : (pattern text after rest : List ℕ) → IsKept pattern text (42 ∷ after) rest →
     (glob pattern text ≡ matches_after_run (glob after) rest) × (matches_after_run (glob pattern) text ≡ matches_after_run (glob after) rest)
@@ -116,29 +116,29 @@ kept-run pattern text after rest k =
 pub star-after : (pattern text left rest : List ℕ) → 1 ≤ length left → get_or left 0 0 ≡ 42 → IsKept pattern text left rest →
     (glob pattern text ≡ matches_after_run (glob (drop 1 left)) rest) × (matches_after_run (glob pattern) text ≡ matches_after_run (glob (drop 1 left)) rest)
 star-after pattern text [] rest n e k = absurd (omega arith)
-star-after pattern text (b ∷ behind) rest n e k = kept-run pattern text behind rest (subst (λ (x : ℕ). IsKept pattern text (x ∷ behind) rest) e k)
+star-after pattern text (b ∷ following) rest n e k = kept-run pattern text following rest (subst (λ (x : ℕ). IsKept pattern text (x ∷ following) rest) e k)
 
 pub text-too-short : (pattern text left rest : List ℕ) → 1 ≤ length left → get_or left 0 0 ≢ 42 → length rest < 1 → IsKept pattern text left rest → glob pattern text ≡ false
 text-too-short pattern text [] rest n e h k = absurd (omega arith)
-text-too-short pattern text (b ∷ behind) [] n e h k = kept-short pattern text behind b e k
-text-too-short pattern text (b ∷ behind) (c ∷ more) n e h k = absurd (omega arith)
+text-too-short pattern text (b ∷ following) [] n e h k = kept-short pattern text following b e k
+text-too-short pattern text (b ∷ following) (c ∷ more) n e h k = absurd (omega arith)
 
 pub byte-not-taken_len : (pattern text left rest : List ℕ) → 1 ≤ length left → get_or left 0 0 ≢ 42 → 1 ≤ length rest → taken_len (first_item (get_or left 0 0) (drop 1 left)) (get_or rest 0 0) ≡ None →
     IsKept pattern text left rest → glob pattern text ≡ false
 byte-not-taken_len pattern text [] rest n e h t k = absurd (omega arith)
-byte-not-taken_len pattern text (b ∷ behind) [] n e h t k = absurd (omega arith)
-byte-not-taken_len pattern text (b ∷ behind) (c ∷ more) n e h t k = kept-differs pattern text behind more b c e t k
+byte-not-taken_len pattern text (b ∷ following) [] n e h t k = absurd (omega arith)
+byte-not-taken_len pattern text (b ∷ following) (c ∷ more) n e h t k = kept-differs pattern text following more b c e t k
 
 pub byte-taken_len : (pattern text left rest : List ℕ) (len : ℕ) → 1 ≤ length left → 1 ≤ length rest → taken_len (first_item (get_or left 0 0) (drop 1 left)) (get_or rest 0 0) ≡ Some len →
     IsKept pattern text left rest → IsKept pattern text (drop len (drop 1 left)) (drop 1 rest)
 byte-taken_len pattern text [] rest len n h t k = absurd (omega arith)
-byte-taken_len pattern text (b ∷ behind) [] len n h t k = absurd (omega arith)
-byte-taken_len pattern text (b ∷ behind) (c ∷ more) len n h t k = kept-more pattern text behind more b c len t k
+byte-taken_len pattern text (b ∷ following) [] len n h t k = absurd (omega arith)
+byte-taken_len pattern text (b ∷ following) (c ∷ more) len n h t k = kept-more pattern text following more b c len t k
 
 pub unclosed-after : (left rest : List ℕ) (len : ℕ) → 1 ≤ length left → taken_len (first_item (get_or left 0 0) (drop 1 left)) (get_or rest 0 0) ≡ Some len → to_bracket left ≡ None → to_bracket (drop len (drop 1 left)) ≡ None
 unclosed-after [] rest len n t e = absurd (omega arith)
-unclosed-after (b ∷ behind) rest len n t e =
-    subst (λ (k : ℕ). to_bracket (drop k behind) ≡ None) (taken_len-some (first_item b behind) (get_or rest 0 0) len t).1 (still-unclosed b behind e)
+unclosed-after (b ∷ following) rest len n t e =
+    subst (λ (k : ℕ). to_bracket (drop k following) ≡ None) (taken_len-some (first_item b following) (get_or rest 0 0) len t).1 (still-unclosed b following e)
 
 equal-back : (a b : ℕ) → (a == b) ≡ (b == a)
 equal-back a b = grind (arith, nat_tests)
@@ -147,11 +147,11 @@ chosen : (b : Bool) → then_some {T = ℕ} b 0 ≡ cond b (Some 0) None
 chosen true = refl
 chosen false = refl
 
-pub open-bracket-taken_len : (first byte : ℕ) (behind : List ℕ) → first ≡ 91 → to_bracket (first ∷ behind) ≡ None → then_some {T = ℕ} (byte == 91) 0 ≡ taken_len (first_item first behind) byte
-open-bracket-taken_len first byte behind e h =
-    let f : to_bracket (91 ∷ behind) ≡ None = subst (λ (x : ℕ). to_bracket (x ∷ behind) ≡ None) e h in
-    let i : bracket_item behind ≡ byte_item 91 = unclosed-bracket behind f in
-    chosen (byte == 91) ∙ ap (λ (b : Bool). cond b (Some 0) None) (equal-back byte 91) ∙ ap (λ (s : Spelled). taken_len s byte) (sym i) ∙ ap (λ (x : ℕ). taken_len (first_item x behind) byte) (sym e)
+pub open-bracket-taken_len : (first byte : ℕ) (following : List ℕ) → first ≡ 91 → to_bracket (first ∷ following) ≡ None → then_some {T = ℕ} (byte == 91) 0 ≡ taken_len (first_item first following) byte
+open-bracket-taken_len first byte following e h =
+    let f : to_bracket (91 ∷ following) ≡ None = subst (λ (x : ℕ). to_bracket (x ∷ following) ≡ None) e h in
+    let i : bracket_item following ≡ byte_item 91 = unclosed-bracket following f in
+    chosen (byte == 91) ∙ ap (λ (b : Bool). cond b (Some 0) None) (equal-back byte 91) ∙ ap (λ (s : SizedItem). taken_len s byte) (sym i) ∙ ap (λ (x : ℕ). taken_len (first_item x following) byte) (sym e)
 
 pub none-found : (found bracket : Option ℕ) (none known : Bool) → found ≡ bracket → is_some found ≡ not none → known ≡ none → known ≡ true → bracket ≡ None
 none-found None bracket none known e s n k = sym e

@@ -14,9 +14,9 @@ pub data Fills : List Item → List ℕ → Type 0 where
   Run : {more : List Item} {c : ℕ} {text : List ℕ} → c ≢ slash → Fills (Star ∷ more) text → Fills (Star ∷ more) (c ∷ text)
 
 -- the rest of a text is empty or begins with a slash
-abbrev pub IsEnded : List ℕ → Type 0
-IsEnded [] = Unit {0}
-IsEnded (c ∷ text) = c ≡ slash
+abbrev pub IsComponentEnd : List ℕ → Type 0
+IsComponentEnd [] = Unit {0}
+IsComponentEnd (c ∷ text) = c ≡ slash
 
 -- items fill a whole text, or a prefix of it that a slash follows
 pub record FillsFront (items : List Item) (text : List ℕ) : Type 0 where
@@ -24,4 +24,4 @@ pub record FillsFront (items : List Item) (text : List ℕ) : Type 0 where
   pub left : List ℕ
   pub parts : text ≡ front ++ left
   pub fills : Fills items front
-  pub ended : IsEnded left
+  pub ended : IsComponentEnd left

@@ -105,13 +105,13 @@ class_len (b ∷ rest) = if b == close_bracket then farther_by 1 (to_bracket res
 -- ---- the first item of a pattern
 
 -- an item, and the number of bytes of the pattern that spell it after its first byte
-pub record Spelled : Type 0 where
+pub record SizedItem : Type 0 where
   pub item : Item
-  pub behind : ℕ
+  pub following : ℕ
 
 -- a byte that matches itself
-abbrev pub byte_item : ℕ → Spelled
-byte_item b = record { item = Exactly b; behind = 0 }
+abbrev pub byte_item : ℕ → SizedItem
+byte_item b = record { item = Exactly b; following = 0 }
 
 -- whether a class begins with the sign that negates it
 abbrev pub is_negated : List ℕ → Bool
@@ -119,30 +119,30 @@ is_negated [] = false
 is_negated (b ∷ rest) = is_negation b
 
 -- the item of an opening bracket and the class after it, by the number of bytes of the class; an unclosed bracket matches itself
-abbrev pub class_item : List ℕ → Option ℕ → Spelled
+abbrev pub class_item : List ℕ → Option ℕ → SizedItem
 class_item class None = byte_item open_bracket
-class_item class (Some n) = record { item = Within (take n class); behind = n + 1 }
+class_item class (Some n) = record { item = Within (take n class); following = n + 1 }
 
 -- the item of an opening bracket, a sign that negates, and the class after them, by the number of bytes of the class
-abbrev pub negated_item : List ℕ → Option ℕ → Spelled
+abbrev pub negated_item : List ℕ → Option ℕ → SizedItem
 negated_item class None = byte_item open_bracket
-negated_item class (Some n) = record { item = Without (take n class); behind = n + 2 }
+negated_item class (Some n) = record { item = Without (take n class); following = n + 2 }
 
 -- the item of an opening bracket, by the bytes after it
-abbrev pub bracket_item : List ℕ → Spelled
+abbrev pub bracket_item : List ℕ → SizedItem
 bracket_item rest =
     if is_negated rest then negated_item (drop 1 rest) (class_len (drop 1 rest)) else class_item rest (class_len rest)
 
 -- the item of a backslash, by the bytes after it
-abbrev pub backslash_item : List ℕ → Spelled
+abbrev pub backslash_item : List ℕ → SizedItem
 backslash_item [] = byte_item backslash
-backslash_item (b ∷ rest) = record { item = Exactly b; behind = 1 }
+backslash_item (b ∷ rest) = record { item = Exactly b; following = 1 }
 
 -- the first item, by the pattern's first byte and the bytes after it
-abbrev pub first_item : ℕ → List ℕ → Spelled
+abbrev pub first_item : ℕ → List ℕ → SizedItem
 first_item b rest =
-    if b == star then record { item = Star; behind = 0 }
-    else (if b == question_mark then record { item = Any; behind = 0 }
+    if b == star then record { item = Star; following = 0 }
+    else (if b == question_mark then record { item = Any; following = 0 }
     else (if b == backslash then backslash_item rest
     else (if b == open_bracket then bracket_item rest
     else byte_item b)))
@@ -151,7 +151,7 @@ first_item b rest =
 abbrev pub items_after : ℕ → List ℕ → List Item
 items_after skip [] = []
 items_after (suc skip) (b ∷ rest) = items_after skip rest
-items_after zero (b ∷ rest) = (first_item b rest).item ∷ items_after (first_item b rest).behind rest
+items_after zero (b ∷ rest) = (first_item b rest).item ∷ items_after (first_item b rest).following rest
 
 -- the items of a pattern, from the left
 abbrev pub items : List ℕ → List Item

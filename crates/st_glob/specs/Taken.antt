@@ -1,13 +1,13 @@
 -- How the first items of a pattern match a text.
 use Rattle.std.specs.Prelude.{◌≡◌, ℕ, ◌+◌, ◌<◌, length, true, false, if◌then◌else◌, List, Option, None, Some}
-use Rattle.st_glob.specs.Items.{Spelled}
+use Rattle.st_glob.specs.Items.{SizedItem}
 use Rattle.st_glob.specs.Glob.{matches_byte, matches_after_run, glob}
 use Rattle.st_glob.specs.declared.pattern.Front.{Front}
 use Rattle.st_glob.specs.declared.pattern.Front.TheVariants as front
 
 -- if an item matches this byte, the number of bytes that spell the item after its first byte
-abbrev pub taken_len : Spelled → ℕ → Option ℕ
-taken_len spelled c = if matches_byte spelled.item c then Some spelled.behind else None
+abbrev pub taken_len : SizedItem → ℕ → Option ℕ
+taken_len spelled c = if matches_byte spelled.item c then Some spelled.following else None
 
 -- a match of items and bytes one by one, up to the pattern's first star or to its end, has this result
 abbrev pub IsFront : List ℕ → List ℕ → Front → Type 0

@@ -31,15 +31,15 @@ fn first_range(class: &[u8]) -> Range
     ensures within { result.len ≤ length class.now }
 {
     let (low, len) = member(class);
-    let behind = &class[len..];
-    if behind.len() < 2 || behind[0] != b'-' {
+    let following = &class[len..];
+    if following.len() < 2 || following[0] != b'-' {
         return Range {
             low,
             high: low,
             len,
         };
     }
-    let (high, more) = member(&behind[1..]);
+    let (high, more) = member(&following[1..]);
     Range {
         low,
         high,
@@ -86,7 +86,7 @@ pub fn class_len(bytes: &[u8]) -> Option<usize>
     ensures within { IfSome result (λ count. count < length bytes.now) }
 {
     match bytes {
-        [b']', behind @ ..] => match to_bracket(behind) {
+        [b']', following @ ..] => match to_bracket(following) {
             Some(count) => Some(1 + count),
             None => None,
         },

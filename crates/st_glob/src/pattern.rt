@@ -32,18 +32,18 @@ fn match_front<'a>(pattern: &'a [u8], text: &'a [u8]) -> Front<'a>
     let mut items = pattern;
     let mut left = text;
     let mut unclosed = false;
-    while let [first, behind @ ..] = items {
+    while let [first, following @ ..] = items {
         if *first == b'*' {
-            return Front::Run(behind, left);
+            return Front::Run(following, left);
         }
         let [byte, more @ ..] = left else {
             return Front::Differs;
         };
         unclosed = unclosed || (*first == b'[' && to_bracket(items).is_none());
-        let Some(len) = taken_len(*first, behind, *byte, unclosed) else {
+        let Some(len) = taken_len(*first, following, *byte, unclosed) else {
             return Front::Differs;
         };
-        items = &behind[len..];
+        items = &following[len..];
         left = more;
     }
     if is_end(left) {

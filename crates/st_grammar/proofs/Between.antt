@@ -1,11 +1,11 @@
 -- Invariants of a reading between two tokens of a policy's text.
 use Rattle.std.proofs.Common.{◌≡◌, ℕ, ◌<◌, ◌≤◌, true, List, [], ◌∷◌, ◌++◌, length, take, Ok, refl, subst, ap, sym, ◌∙◌, arith, append_assoc}
 use Rattle.std.proofs.lemmas.List.{take-append-le, take_all}
-use Rattle.st_grammar.proofs.Common.{as_reading, BinaryPolicy, ends_filter, Env, filters_in, first_reading, GrammarState, is_between_rows, is_line, Line, MOST_FILTERS, Place, read_step, Reading, Symbol}
+use Rattle.st_grammar.proofs.Common.{as_reading, BinaryPolicy, ends_filter, Env, filters_in, first_reading, GrammarState, is_between_rows, is_line_symbol, Line, MOST_FILTERS, Place, read_step, Reading, Symbol}
 use Rattle.st_grammar.specs.declared.place.Place.TheVariants as place
 use Rattle.st_grammar.proofs.Clauses.{line-symbol}
 use Rattle.st_grammar.proofs.Readings.{reading_at}
-use Rattle.st_grammar.proofs.Fronts.{Behind, FilterFront, Facts}
+use Rattle.st_grammar.proofs.Fronts.{After, FilterFront, Facts}
 use Rattle.st_grammar.proofs.Sound.{Stands, StandsAfter, stands-step, first-stands}
 
 -- some symbols lead to this reading
@@ -26,7 +26,7 @@ blank_at env at w set place.Start e = refl
 blank_at env at w set place.Row e = refl
 blank_at env at w set p e = absurd (cc)
 
-pub blank_line : (env : Env) (at : ℕ) (w : GrammarState) (set : List BinaryPolicy) (s : Symbol) (p : Place) → is_line s ≡ true → p ≡ w.place → is_between_rows p ≡ true → read_step env (as_reading w set) at s ≡ Ok (as_reading w set)
+pub blank_line : (env : Env) (at : ℕ) (w : GrammarState) (set : List BinaryPolicy) (s : Symbol) (p : Place) → is_line_symbol s ≡ true → p ≡ w.place → is_between_rows p ≡ true → read_step env (as_reading w set) at s ≡ Ok (as_reading w set)
 blank_line env at w set s p line here between = ap (read_step env (as_reading w set) at) (line-symbol s line) ∙ blank_at env at w set w.place (ap is_between_rows (sym here) ∙ between)
 
 -- ---- the earlier policies stay a prefix of the set
@@ -40,12 +40,12 @@ module _ (env : Env) (old : List BinaryPolicy) (rows front : List Symbol) (w : G
   kept-parts : (ps qs : List BinaryPolicy) → set ≡ old ++ ps ++ qs → IsKept old set
   kept-parts ps qs e = record { own = ps ++ qs; set_is = e ∙ append_assoc old ps qs }
 
-  kept-behind : Behind env old rows set → IsKept old set
-  kept-behind h = kept-parts h.before (h.last ∷ []) h.set_is
+  kept-following : After env old rows set → IsKept old set
+  kept-following h = kept-parts h.before (h.last ∷ []) h.set_is
 
   kept-at : (p : Place) → Facts env old rows front p w set → IsKept old set
   kept-at place.Start h = record { own = h.policies; set_is = h.set_is }
-  kept-at place.Row h = kept-behind h.behind
+  kept-at place.Row h = kept-following h.following
   kept-at place.PolicyColon h = record { own = h.policies; set_is = h.set_is }
   kept-at place.Binary h = record { own = h.policies; set_is = h.set_is }
   kept-at place.Comma h = kept-parts h.policies _ h.set_is
@@ -53,28 +53,28 @@ module _ (env : Env) (old : List BinaryPolicy) (rows front : List Symbol) (w : G
   kept-at place.EmulationColon h = kept-parts h.policies _ h.set_is
   kept-at place.System h = kept-parts h.policies _ h.set_is
   kept-at place.HeaderEnd h = kept-parts h.policies _ h.set_is
-  kept-at place.NameColon h = kept-behind h.behind
-  kept-at place.Clause h = kept-behind h.behind
-  kept-at place.Operand h = kept-behind h.1.behind
-  kept-at place.Label h = kept-behind h.1.behind
-  kept-at place.Index h = kept-behind h.1.behind
-  kept-at place.IndexEnd h = kept-behind h.1.behind
-  kept-at place.Operator h = kept-behind h.1.behind
-  kept-at place.Text h = kept-behind h.1.behind
-  kept-at place.Joint h = kept-behind h.1.behind
-  kept-at place.Action h = kept-behind h.1.behind
-  kept-at place.Denial h = kept-behind h.2.behind
-  kept-at place.Error h = kept-behind h.1.behind
-  kept-at place.ErrorEnd h = kept-behind h.1.behind
-  kept-at (place.Tail grant log) h = kept-behind h.behind
-  kept-at (place.Grant log) h = kept-behind h.behind
-  kept-at (place.User log) h = kept-behind h.behind
-  kept-at (place.Group log) h = kept-behind h.behind
-  kept-at place.If h = kept-behind h.1.behind
-  kept-at place.Who h = kept-behind h.1.behind
-  kept-at (place.Comparison who) h = kept-behind h.1.behind
-  kept-at (place.Id who) h = kept-behind h.1.behind
-  kept-at place.FilterEnd h = kept-behind h.behind
+  kept-at place.NameColon h = kept-following h.following
+  kept-at place.Clause h = kept-following h.following
+  kept-at place.Operand h = kept-following h.1.following
+  kept-at place.Label h = kept-following h.1.following
+  kept-at place.Index h = kept-following h.1.following
+  kept-at place.IndexEnd h = kept-following h.1.following
+  kept-at place.Operator h = kept-following h.1.following
+  kept-at place.Text h = kept-following h.1.following
+  kept-at place.Joint h = kept-following h.1.following
+  kept-at place.Action h = kept-following h.1.following
+  kept-at place.Denial h = kept-following h.2.following
+  kept-at place.Error h = kept-following h.1.following
+  kept-at place.ErrorEnd h = kept-following h.1.following
+  kept-at (place.Tail grant log) h = kept-following h.following
+  kept-at (place.Grant log) h = kept-following h.following
+  kept-at (place.User log) h = kept-following h.following
+  kept-at (place.Group log) h = kept-following h.following
+  kept-at place.If h = kept-following h.1.following
+  kept-at place.Who h = kept-following h.1.following
+  kept-at (place.Comparison who) h = kept-following h.1.following
+  kept-at (place.Id who) h = kept-following h.1.following
+  kept-at place.FilterEnd h = kept-following h.following
 
   room-for : (P : List Symbol → Type 0) → FilterFront env old rows front w.filters w.name set P → filters_in set < MOST_FILTERS
   room-for P h = omega (arith, h.filters_are, h.few)

@@ -1,6 +1,6 @@
 -- Symbols that spell a predicate, or an action and what follows it, are read so.
 use Rattle.std.proofs.Common.{◌≡◌, ℕ, Bool, true, false, List, [], ◌∷◌, ◌++◌, Option, None, Some, option_map, Ok, codes, refl, ap, sym, subst, ◌∙◌, append_assoc}
-use Rattle.st_grammar.proofs.Common.{Action, add_filter, Ask, Asks, Cmp, Colon, Comma, comparison, Denies, DeniesWith, Deny, Env, EPERM, filter_of, FilterName, FilterValue, Formula, fresh, GrammarState, Grant, Grants, GrantsAndLogs, grants, id_in, If, is_colon, IsAction, IsGrant, IsPredicate, IsTail, Line, Logs, LogsAndGrants, MayGrant, names_for, OfBoth, OfGroup, OfUser, Permit, Permits, Place, Plain, Predicate, read_step, Reading, sets_ids, Symbol, Who, Whoever, with_group, Word}
+use Rattle.st_grammar.proofs.Common.{Action, add_filter, Ask, Asks, Cmp, Colon, Comma, comparison, Denies, DeniesWith, Deny, Env, EPERM, filter_of, FilterName, FilterValue, Formula, fresh, GrammarState, Grant, Grants, GrantsAndLogs, grants, id_in, If, is_colon_symbol, IsAction, IsGrant, IsPredicate, IsTail, Line, Logs, LogsAndGrants, MayGrant, names_for, OfBoth, OfGroup, OfUser, Permit, Permits, Place, Plain, Predicate, read_step, Reading, names_set_id_call, Symbol, Who, Whoever, with_group, Word}
 use Rattle.st_grammar.specs.declared.place.Place.TheVariants as place
 use Rattle.st_grammar.proofs.Readings.{Step1, Passes, passes-one, passes-step, passes-alike, Alike, reading_at, At, stands, goes, steady}
 use Rattle.st_grammar.proofs.Expressions.{Kept, blank}
@@ -69,8 +69,8 @@ module _ (env : Env) (k : Kept) where
   step-log : (v : FilterValue) (grant : Bool) → Step1 env (AtFilter k (place.Tail grant true) v) (Word (codes "log")) (AtFilter k (place.Tail grant false) (record v { log = true }))
   step-log v grant = goes (λ at w h. record { walk = record w { log = true }; step = refl; holds = record { filters_are = h.filters_are; filter_is = ap (λ (v : FilterValue). record v { log = true }) h.filter_is } })
 
-  step-as : (v : FilterValue) (log : Bool) → env.elevate ≡ true → sets_ids v.name ≡ false → Step1 env (AtFilter k (place.Tail true log) v) (Word (codes "as")) (AtFilter k (place.Grant log) v)
-  step-as v log e n = goes (λ at w h. let unset : sets_ids w.name ≡ false = ap (λ (v : FilterValue). sets_ids v.name) h.filter_is ∙ n in record { walk = w; step = rw (e, unset) refl; holds = h })
+  step-as : (v : FilterValue) (log : Bool) → env.elevate ≡ true → names_set_id_call v.name ≡ false → Step1 env (AtFilter k (place.Tail true log) v) (Word (codes "as")) (AtFilter k (place.Grant log) v)
+  step-as v log e n = goes (λ at w h. let unset : names_set_id_call w.name ≡ false = ap (λ (v : FilterValue). names_set_id_call v.name) h.filter_is ∙ n in record { walk = w; step = rw (e, unset) refl; holds = h })
 
   step-user : (v : FilterValue) (log : Bool) (user : List ℕ) (u : ℕ) → id_in env.users user ≡ Some u → Step1 env (AtFilter k (place.Grant log) v) (Word user) (AtFilter k (place.User log) (record v { grant = Some (record { user = Some u; group = None }) }))
   step-user v log user u e = goes (λ at w h. record { walk = grants (Some u) (place.User log) w; step = rw e refl; holds = record { filters_are = h.filters_are; filter_is = ap (λ (v : FilterValue). record v { grant = Some (record { user = Some u; group = None }) }) h.filter_is } })
@@ -87,10 +87,10 @@ module _ (env : Env) (k : Kept) where
     first : Symbol
     rest : List Symbol
     parts : ts ≡ first ∷ rest
-    no_colon : is_colon first ≡ false
+    no_colon : is_colon_symbol first ≡ false
     no_bracket : is_open_bracket first ≡ false
 
-  opening : (s : Symbol) (ts : List Symbol) → is_colon s ≡ false → is_open_bracket s ≡ false → Opening (s ∷ ts)
+  opening : (s : Symbol) (ts : List Symbol) → is_colon_symbol s ≡ false → is_open_bracket s ≡ false → Opening (s ∷ ts)
   opening s ts c b = record { first = s; rest = ts; parts = refl; no_colon = c; no_bracket = b }
 
   predicate-opening : {ts : List Symbol} {p : Option Predicate} → IsPredicate env ts p → Opening (ts ++ Line ∷ [])
@@ -126,7 +126,7 @@ module _ (env : Env) (k : Kept) where
       (passes-step (step-group v log (Some u) group x h) p))
   passes-grant v Q log (OfGroup {group} {g = x} h) us o p = passes-step (step-no_user v log) (passes-step (step-group v log None group x h) p)
 
-  may-facts : (name : FilterName) (a : Action) → MayGrant env name a → (a ≡ Permit) × (env.elevate ≡ true) × (sets_ids name ≡ false)
+  may-facts : (name : FilterName) (a : Action) → MayGrant env name a → (a ≡ Permit) × (env.elevate ≡ true) × (names_set_id_call name ≡ false)
   may-facts name Permit m = (refl, m.0, m.1)
   may-facts name (Deny errno) m = absurd m
   may-facts name Ask m = absurd m

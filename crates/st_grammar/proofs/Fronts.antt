@@ -42,7 +42,7 @@ pub record HeaderFront (env : Env) (old : List BinaryPolicy) (rows front more : 
   pub few : filters ≤ MOST_FILTERS
 
 -- rows after a header, whose policy takes filters
-pub record Behind (env : Env) (old : List BinaryPolicy) (rows : List Symbol) (set : List BinaryPolicy) : Type 0 where
+pub record After (env : Env) (old : List BinaryPolicy) (rows : List Symbol) (set : List BinaryPolicy) : Type 0 where
   pub before : List BinaryPolicy
   pub last : BinaryPolicy
   pub are_rows : AreRows env rows (before ++ last ∷ [])
@@ -51,12 +51,12 @@ pub record Behind (env : Env) (old : List BinaryPolicy) (rows : List Symbol) (se
 
 pub record BelowHeader (env : Env) (old : List BinaryPolicy) (rows front : List Symbol) (filters : ℕ) (set : List BinaryPolicy) : Type 0 where
   pub front_is : front ≡ []
-  pub behind : Behind env old rows set
+  pub following : After env old rows set
   pub filters_are : filters ≡ filters_in set
   pub few : filters ≤ MOST_FILTERS
 
 pub record NameFront (env : Env) (old : List BinaryPolicy) (rows front : List Symbol) (w : GrammarState) (set : List BinaryPolicy) : Type 0 where
-  pub behind : Behind env old rows set
+  pub following : After env old rows set
   pub filters_are : w.filters ≡ filters_in set + 1
   pub few : w.filters ≤ MOST_FILTERS
   pub spelled : List ℕ
@@ -67,7 +67,7 @@ pub record NameFront (env : Env) (old : List BinaryPolicy) (rows front : List Sy
 -- ---- filters
 
 pub record FilterFront (env : Env) (old : List BinaryPolicy) (rows front : List Symbol) (filters : ℕ) (name : FilterName) (set : List BinaryPolicy) (P : List Symbol → Type 0) : Type 0 where
-  pub behind : Behind env old rows set
+  pub following : After env old rows set
   pub filters_are : filters ≡ filters_in set + 1
   pub few : filters ≤ MOST_FILTERS
   pub spelled : List ℕ
@@ -279,7 +279,7 @@ parts-whole us p q = record { front = us; back = []; parts = sym (append-nil us)
 pub filter-more : {env : Env} {old : List BinaryPolicy} {rows front : List Symbol} {filters : ℕ} {name : FilterName} {set : List BinaryPolicy} {P Q : List Symbol → Type 0} (s : Symbol) →
     FilterFront env old rows front filters name set P → ((us : List Symbol) → P us → Q (us ++ s ∷ [])) → FilterFront env old rows (front ++ s ∷ []) filters name set Q
 filter-more s h f = record {
-  behind = h.behind;
+  following = h.following;
   filters_are = h.filters_are;
   few = h.few;
   spelled = h.spelled;
@@ -291,4 +291,4 @@ filter-more s h f = record {
 
 pub filter-map : {env : Env} {old : List BinaryPolicy} {rows front : List Symbol} {filters : ℕ} {name : FilterName} {set : List BinaryPolicy} {P Q : List Symbol → Type 0} →
     FilterFront env old rows front filters name set P → ((us : List Symbol) → P us → Q us) → FilterFront env old rows front filters name set Q
-filter-map h f = record { behind = h.behind; filters_are = h.filters_are; few = h.few; spelled = h.spelled; us = h.us; front_is = h.front_is; name_is = h.name_is; rest = f h.us h.rest }
+filter-map h f = record { following = h.following; filters_are = h.filters_are; few = h.few; spelled = h.spelled; us = h.us; front_is = h.front_is; name_is = h.name_is; rest = f h.us h.rest }

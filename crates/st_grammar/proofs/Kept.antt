@@ -3,7 +3,7 @@ use Rattle.std.proofs.Common.{◌≡◌, ℕ, ◌+◌, ◌-◌, ◌<◌, ◌≤�
 use Rattle.std.specs.Str.{bytes_eq}
 use Rattle.std.specs.List.{list_any}
 use Rattle.std.proofs.lemmas.Bool.{ltb-true, eqb-true}
-use Rattle.st_grammar.proofs.Common.{acts, Always, Ask, Asks, AskWithLearn, binaries, binary_of, BinaryPolicy, Close, close_group, CloseBracket, Colon, Comma, comparison, Denies, DeniesWith, Deny, ElevateOnSetId, ElevateWithoutIds, Env, EPERM, error_named, filter_name, filter_of, FilterName, FilterValue, First, Formula, fresh, GrammarState, Grant, Grants, GrantsAndLogs, has_policy, id_in, If, index_in, Indexed, is_action, is_join, is_label, is_line, IsAction, IsCondition, IsFilter, IsTail, joins_either, Line, Logs, LogsAndGrants, may_test, MayGrant, MOST_FILTERS, most_joins, names_for, new_policy, OfBoth, OfGroup, OfUser, Op, op_named, Open, OpenBracket, Operand, PendingOperand, Permit, Permits, Place, Quoted, read_step, reading_step, Reduced, settle, sets_ids, Short, Spells, step_to, StepResult, Symbol, Test, Then, True, unquoted, Who, who_named, Whoever, with_group, without_either, Word}
+use Rattle.st_grammar.proofs.Common.{acts, Always, Ask, Asks, AskWithLearn, binaries, binary_of, BinaryPolicy, Close, close_group, CloseBracket, Colon, Comma, comparison, Denies, DeniesWith, Deny, ElevateOnSetId, ElevateWithoutIds, Env, EPERM, error_named, filter_name, filter_of, FilterName, FilterValue, First, Formula, fresh, GrammarState, Grant, Grants, GrantsAndLogs, has_policy, id_in, If, index_in, Indexed, is_action, is_join, is_label, is_line_symbol, IsAction, IsCondition, IsFilter, IsTail, joins_either, Line, Logs, LogsAndGrants, may_test, MayGrant, MOST_FILTERS, most_joins, names_for, new_policy, OfBoth, OfGroup, OfUser, Op, op_named, Open, OpenBracket, Operand, PendingOperand, Permit, Permits, Place, Quoted, read_step, reading_step, Reduced, settle, names_set_id_call, Short, Spells, step_to, StepResult, Symbol, Test, Then, True, unquoted, Who, who_named, Whoever, with_group, without_either, Word}
 use Rattle.st_grammar.specs.declared.place.Place.TheVariants as place
 use Rattle.st_grammar.specs.Expression as stack
 use Rattle.st_grammar.specs.Grammar.{Plain as PlainTail}
@@ -81,7 +81,7 @@ acted-now env w may_grant {begun} a m p =
     })
 
 -- `as` after a permit
-granting : (env : Env) (w : GrammarState) (log : Bool) {begun : List Symbol} → env.elevate ≡ true → sets_ids w.name ≡ false → w.predicate ≡ None → MayAs log w.action w.grant w.log begun → EndsByGrant env w log (begun ++ Word (codes "as") ∷ [])
+granting : (env : Env) (w : GrammarState) (log : Bool) {begun : List Symbol} → env.elevate ≡ true → names_set_id_call w.name ≡ false → w.predicate ≡ None → MayAs log w.action w.grant w.log begun → EndsByGrant env w log (begun ++ Word (codes "as") ∷ [])
 granting env w true {begun} a b none m ts g is =
     let may : MayGrant env w.name w.action = rw m.permits (a, b) in
     record { tail_is = rw (m.begun_is, m.logs_are) (Grants may is); grants = λ e. absurd (cc); logging = λ e. rw m.begun_is (GrantsAndLogs may is); no_predicate = none }
@@ -119,22 +119,22 @@ module _ (env : Env) (old : List BinaryPolicy) (rows front : List Symbol) (w : G
   pub below-row : BelowHeader env old rows front w.filters set → RowFront env old rows front [] w.filters set
   below-row h = record {
     front_is = h.front_is;
-    policies = h.behind.before ++ h.behind.last ∷ [];
-    are_rows = h.behind.are_rows;
-    set_is = h.behind.set_is ∙ append_assoc old h.behind.before (h.behind.last ∷ []);
-    new = h.behind.new;
+    policies = h.following.before ++ h.following.last ∷ [];
+    are_rows = h.following.are_rows;
+    set_is = h.following.set_is ∙ append_assoc old h.following.before (h.following.last ∷ []);
+    new = h.following.new;
     filters_are = h.filters_are;
     few = h.few;
   }
 
-  kept-start : Has place.Start → (s : Symbol) → is_line s ≡ false → Keeps place.Start s
+  kept-start : Has place.Start → (s : Symbol) → is_line_symbol s ≡ false → Keeps place.Start s
   kept-start h Line e = absurd (cc)
   kept-start h (Word word) e = by-word word (codes "Policy") (λ e. rw e (row-more (Word (codes "Policy")) h)) (λ e. rw e tt)
   kept-start h s e = tt
 
   named : (word : List ℕ) (name : FilterName) → filter_name word ≡ Some name → w.filters < MOST_FILTERS → Has place.Row → Gets (Word word) place.NameColon (fresh place.NameColon (w.filters + 1) name)
   named word name e few h = record {
-    behind = h.behind;
+    following = h.following;
     filters_are = omega (arith, h.filters_are);
     few = omega (arith, few);
     spelled = word;
@@ -143,7 +143,7 @@ module _ (env : Env) (old : List BinaryPolicy) (rows front : List Symbol) (w : G
     first = refl;
   }
 
-  kept-row : Has place.Row → (s : Symbol) → is_line s ≡ false → Keeps place.Row s
+  kept-row : Has place.Row → (s : Symbol) → is_line_symbol s ≡ false → Keeps place.Row s
   kept-row h Line e = absurd (cc)
   kept-row h (Word word) e = by-word word (codes "Policy") (λ e. rw e (row-more (Word (codes "Policy")) (below-row h)))
       (λ n. by-some (filter_name word) (λ name e. by-test (nat_lt w.filters 4096) (λ t. rw (n, e, t) (named word name e (ltb-true w.filters 4096 t) h)) (λ t. rw (n, e, t) tt)) (λ e. rw (n, e) tt))
@@ -151,7 +151,7 @@ module _ (env : Env) (old : List BinaryPolicy) (rows front : List Symbol) (w : G
 
   kept-name_colon : Has place.NameColon → (s : Symbol) → Keeps place.NameColon s
   kept-name_colon h Colon = record {
-    behind = h.behind;
+    following = h.following;
     filters_are = h.filters_are;
     few = h.few;
     spelled = h.spelled;
@@ -372,8 +372,8 @@ module _ (env : Env) (old : List BinaryPolicy) (rows front : List Symbol) (w : G
   kept-as : (log : Bool) → Has (place.Tail true log) → Keeps (place.Tail true log) (Word (codes "as"))
   kept-as log h =
       let next : StepResult = step_to (record w { place = place.Tail true log }) (place.Grant log) in
-      by-if (place.Tail true log) (Word (codes "as")) env.elevate (if sets_ids w.name then Err (ElevateOnSetId at) else next) (Err (ElevateWithoutIds at))
-      (λ a. by-if (place.Tail true log) (Word (codes "as")) (sets_ids w.name) (Err (ElevateOnSetId at)) next (λ b. tt)
+      by-if (place.Tail true log) (Word (codes "as")) env.elevate (if names_set_id_call w.name then Err (ElevateOnSetId at) else next) (Err (ElevateWithoutIds at))
+      (λ a. by-if (place.Tail true log) (Word (codes "as")) (names_set_id_call w.name) (Err (ElevateOnSetId at)) next (λ b. tt)
       (λ b. filter-more (Word (codes "as")) h (λ us c. parts-more (Word (codes "as")) c (λ begun d. parts-more (Word (codes "as")) d (λ ts x. granting env w log a b x.no_predicate (x.grants refl))))))
       (λ a. tt)
 
@@ -389,7 +389,7 @@ module _ (env : Env) (old : List BinaryPolicy) (rows front : List Symbol) (w : G
   predicating : (grant log : Bool) → Has (place.Tail grant log) → Gets Comma place.If w
   predicating grant log h = (h.rest.rest.rest.no_predicate, filter-more Comma h (λ us c. parts-more Comma c (λ begun d. parts-more Comma d (λ ts x. record { front = ts; back = Comma ∷ []; parts = refl; first = x.tail_is; rest = refl }))))
 
-  kept-tail : (grant log : Bool) → Has (place.Tail grant log) → (s : Symbol) → is_line s ≡ false → Keeps (place.Tail grant log) s
+  kept-tail : (grant log : Bool) → Has (place.Tail grant log) → (s : Symbol) → is_line_symbol s ≡ false → Keeps (place.Tail grant log) s
   kept-tail grant log h Line e = absurd (cc)
   kept-tail grant log h Comma e = predicating grant log h
   kept-tail true true h (Word word) e = by-word word (codes "as") (λ a. rw a (kept-as true h)) (λ a. by-word word (codes "log") (λ l. rw l (kept-log true h)) (λ l. rw (a, l) tt))
@@ -398,7 +398,7 @@ module _ (env : Env) (old : List BinaryPolicy) (rows front : List Symbol) (w : G
   kept-tail false false h (Word word) e = by-word word (codes "as") (λ a. rw a tt) (λ a. by-word word (codes "log") (λ l. rw l tt) (λ l. rw (a, l) tt))
   kept-tail grant log h s e = tt
 
-  kept-denial : Has place.Denial → (s : Symbol) → is_line s ≡ false → Keeps place.Denial s
+  kept-denial : Has place.Denial → (s : Symbol) → is_line_symbol s ≡ false → Keeps place.Denial s
   kept-denial h OpenBracket e = (h.0, filter-more OpenBracket h.2 (λ us c. parts-more OpenBracket c (λ begun b. ap (λ (ts : List Symbol). ts ++ OpenBracket ∷ []) b)))
   kept-denial h s e = kept-tail false true (denial-tails h) s e
 
@@ -424,7 +424,7 @@ module _ (env : Env) (old : List BinaryPolicy) (rows front : List Symbol) (w : G
   pub user-tails : (log : Bool) → Has (place.User log) → Has (place.Tail false log)
   user-tails log h = filter-map h (λ us c. parts-map c (λ begun d. parts-map d (λ ts x. rw (x.parts, x.rest.ids_are, x.rest.grant_is) (x.first (Word x.rest.user ∷ []) (record { user = Some x.rest.id; group = None }) (OfUser x.rest.id_is)))))
 
-  kept-user : (log : Bool) → Has (place.User log) → (s : Symbol) → is_line s ≡ false → Keeps (place.User log) s
+  kept-user : (log : Bool) → Has (place.User log) → (s : Symbol) → is_line_symbol s ≡ false → Keeps (place.User log) s
   kept-user log h Colon e = filter-more Colon h (λ us c. parts-more Colon c (λ begun d. parts-more Colon d (λ ts x. parts-more Colon x (λ ids u. record {
     user = Some u.id;
     grant_is = u.grant_is;
@@ -463,7 +463,7 @@ module _ (env : Env) (old : List BinaryPolicy) (rows front : List Symbol) (w : G
   -- ---- all places
 
   -- a symbol inside a row
-  pub line-keeps : (p : Place) (s : Symbol) → is_line s ≡ false → Has p → Keeps p s
+  pub line-keeps : (p : Place) (s : Symbol) → is_line_symbol s ≡ false → Has p → Keeps p s
   line-keeps place.Start s e h = kept-start h s e
   line-keeps place.Row s e h = kept-row h s e
   line-keeps place.PolicyColon s e h = kept-policy_colon h s

@@ -1,11 +1,11 @@
 -- One filter alone is read as in a file, after a header.
 use Rattle.std.proofs.Common.{◌≡◌, ℕ, Bool, true, false, ◌&&◌, if◌then◌else◌, List, [], ◌∷◌, ◌++◌, length, map, Option, None, Some, Ok, Err, codes, refl, ap, sym, subst, ◌∙◌, arith, append_assoc, append-nil}
-use Rattle.st_grammar.proofs.Common.{add_filter, as_reading, binaries, BinaryPolicy, Broken, Colon, Comma, ends_filter, Env, filter_in, filter_name, filter_of, FilterName, FilterValue, fresh, GrammarState, Header, is_binary_place, is_line, IsFilter, lexed_text, LexFault, Line, next, NoRow, Place, read_step, Reading, reading_behind, reading_step, step, step_name, step_to, StepResult, Symbol, symbol_of, taken, Token, Word}
+use Rattle.st_grammar.proofs.Common.{add_filter, as_reading, binaries, BinaryPolicy, Broken, Colon, Comma, ends_filter, Env, filter_in, filter_name, filter_of, FilterName, FilterValue, fresh, GrammarState, Header, is_binary_place, is_line_symbol, IsFilter, lexed_text, LexFault, Line, next, NoRow, Place, read_step, Reading, reading_after, reading_step, step, step_name, step_to, StepResult, Symbol, symbol_of, taken, Token, Word}
 use Rattle.st_filter.specs.declared.filter.FilterName.TheVariants as name
 use Rattle.st_grammar.specs.declared.place.Place.TheVariants as place
-use Rattle.st_grammar.specs.OneFilter.{IsOneRow, ReadsFilter, ToALine, ToTheEnd, behind_filter, filter_from, begin_filter, filter_of_tokens, if_broken, if_ended}
+use Rattle.st_grammar.specs.OneFilter.{IsOneRow, ReadsFilter, ToALine, ToTheEnd, after_filter, filter_from, begin_filter, filter_of_tokens, if_broken, if_ended}
 use Rattle.st_grammar.proofs.Clauses.{line-symbol}
-use Rattle.st_grammar.proofs.Fronts.{Behind, Facts, HasFacts, by-test}
+use Rattle.st_grammar.proofs.Fronts.{After, Facts, HasFacts, by-test}
 use Rattle.st_grammar.proofs.Kept.{denial-tails, user-tails, predicate-filter, tail-filter, line-keeps}
 use Rattle.st_grammar.proofs.Policies.{fresh_policy}
 
@@ -18,8 +18,8 @@ rows_before = Word (codes "Policy") ∷ Colon ∷ Word (codes "/") ∷ Comma ∷
 abbrev pub one_policy : List BinaryPolicy
 one_policy = fresh_policy (codes "/") ∷ []
 
-behind_header : (env : Env) → Behind env [] rows_before one_policy
-behind_header env = record {
+header_after : (env : Env) → After env [] rows_before one_policy
+header_after env = record {
   before = [];
   last = fresh_policy (codes "/");
   are_rows = Header [] (Word (codes "Policy") ∷ Colon ∷ Word (codes "/") ∷ Comma ∷ Word (codes "Emulation") ∷ Colon ∷ Word (codes "native") ∷ []) [] (codes "/") NoRow (record { spelled = Word (codes "/"); parts = refl; binary_is = refl });
@@ -94,7 +94,7 @@ begun env at word w (Some known) e q =
     let same : fresh place.NameColon 1 known ≡ w = cc in
     subst (λ w. Spelled env (Word word ∷ []) w) same (record {
       named = record { word = word; name = known; more = []; front_is = refl; name_is = e };
-      facts = record { behind = behind_header env; filters_are = refl; few = omega arith; spelled = word; front_is = refl; name_is = e; first = refl };
+      facts = record { following = header_after env; filters_are = refl; few = omega arith; spelled = word; front_is = refl; name_is = e; first = refl };
     })
 
 pub begins : (env : Env) (at : ℕ) (s : Symbol) (w : GrammarState) → begin_filter at s ≡ Ok w → Spelled env (s ∷ []) w
@@ -108,17 +108,17 @@ inside true c x y e = rw e refl
 inside false c x y e = refl
 
 -- a symbol inside a row leaves the policies as they are
-pub behind-same : (env : Env) (p : Place) (s : Symbol) (set : List BinaryPolicy) (w : GrammarState) → is_binary_place p ≡ false → is_line s ≡ false → reading_behind env p s set w ≡ as_reading w set
-behind-same env place.Binary s set w h e = absurd (cc)
-behind-same env p s set w h e = inside (ends_filter p) (is_line s) (as_reading (taken w) (add_filter set (filter_of w))) (as_reading w set) e
+pub after-same : (env : Env) (p : Place) (s : Symbol) (set : List BinaryPolicy) (w : GrammarState) → is_binary_place p ≡ false → is_line_symbol s ≡ false → reading_after env p s set w ≡ as_reading w set
+after-same env place.Binary s set w h e = absurd (cc)
+after-same env p s set w h e = inside (ends_filter p) (is_line_symbol s) (as_reading (taken w) (add_filter set (filter_of w))) (as_reading w set) e
 
-pub goes_on : (env : Env) (front : List Symbol) (w w' : GrammarState) (at : ℕ) (s : Symbol) → is_line s ≡ false → next env (binaries one_policy) w at s ≡ Ok w' → Spelled env front w → Spelled env (front ++ s ∷ []) w'
+pub goes_on : (env : Env) (front : List Symbol) (w w' : GrammarState) (at : ℕ) (s : Symbol) → is_line_symbol s ≡ false → next env (binaries one_policy) w at s ≡ Ok w' → Spelled env front w → Spelled env (front ++ s ∷ []) w'
 goes_on env front w w' at s line e h =
     let elsewhere : is_binary_place w.place ≡ false = no-binary env rows_before front w one_policy h.named w.place h.facts in
-    let step : read_step env (as_reading w one_policy) at s ≡ Ok (as_reading w' one_policy) = ap (reading_step env (as_reading w one_policy) s) e ∙ ap Ok (behind-same env w.place s one_policy w' elsewhere line) in
+    let step : read_step env (as_reading w one_policy) at s ≡ Ok (as_reading w' one_policy) = ap (reading_step env (as_reading w one_policy) s) e ∙ ap Ok (after-same env w.place s one_policy w' elsewhere line) in
     record { named = named-more front s h.named; facts = subst (HasFacts env [] rows_before (front ++ s ∷ [])) step (line-keeps env [] rows_before front w one_policy at w.place s line h.facts) }
 
-pub token_stands : (env : Env) (text : List ℕ) (broken : Option LexFault) (t : Token) (ts : List Token) (w w' : GrammarState) → ((known : List (List ℕ)) → next env known w t.at (symbol_of text t) ≡ Ok w') → is_line (symbol_of text t) ≡ false → InFilter env w →
+pub token_stands : (env : Env) (text : List ℕ) (broken : Option LexFault) (t : Token) (ts : List Token) (w w' : GrammarState) → ((known : List (List ℕ)) → next env known w t.at (symbol_of text t) ≡ Ok w') → is_line_symbol (symbol_of text t) ≡ false → InFilter env w →
     (filter_from env text broken w (t ∷ ts) ≡ filter_from env text broken w' ts) × InFilter env w'
 token_stands env text broken t ts w w' e line i =
     let here = e [] in
@@ -147,7 +147,7 @@ no_end : (fault : LexFault) (r : StepResult) (f : FilterValue) → if_broken fau
 no_end fault (Ok w) f e = cc
 no_end fault (Err found) f e = cc
 
-line_ends : (env : Env) (text : List ℕ) (broken : Option LexFault) (front : List Symbol) (w v : GrammarState) (at : ℕ) (s : Symbol) (ts : List Token) (f : FilterValue) → Spelled env front w → s ≡ Line → next env [] w at s ≡ Ok v → behind_filter broken (filter_of v) ts ≡ Ok f →
+line_ends : (env : Env) (text : List ℕ) (broken : Option LexFault) (front : List Symbol) (w v : GrammarState) (at : ℕ) (s : Symbol) (ts : List Token) (f : FilterValue) → Spelled env front w → s ≡ Line → next env [] w at s ≡ Ok v → after_filter broken (filter_of v) ts ≡ Ok f →
     IsWhole env broken front (s ∷ map (symbol_of text) ts) f
 line_ends env text broken front w v at s (t ∷ ts) f h line e is = absurd (cc)
 line_ends env text (Some fault) front w v at s [] f h line e is = absurd (cc)
@@ -160,7 +160,7 @@ Later env text broken f ts = (front : List Symbol) (w : GrammarState) → Spelle
 
 module _ (env : Env) (text : List ℕ) (broken : Option LexFault) (f : FilterValue) (t : Token) (ts : List Token) (front : List Symbol) (w : GrammarState) (h : Spelled env front w) where
   token_leads : (v : GrammarState) → next env [] w t.at (symbol_of text t) ≡ Ok v → filter_from env text broken w (t ∷ ts) ≡ Ok f → Later env text broken f ts → IsWhole env broken front (symbol_of text t ∷ map (symbol_of text) ts) f
-  token_leads v e is later = by-test (is_line (symbol_of text t))
+  token_leads v e is later = by-test (is_line_symbol (symbol_of text t))
       (λ line. line_ends env text broken front w v t.at (symbol_of text t) ts f h (line-symbol (symbol_of text t) line) e (rw (e, filter_from, line) at is))
       (λ line.
       let to : next env (binaries one_policy) w t.at (symbol_of text t) ≡ Ok v = next_same env (binaries one_policy) w t.at (symbol_of text t) w.place (no-binary env rows_before front w one_policy h.named w.place h.facts) ∙ e in

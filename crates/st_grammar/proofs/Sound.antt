@@ -4,7 +4,7 @@ use Rattle.st_grammar.proofs.Common.{add_filter, AreRows, BinaryPolicy, Blank, B
 use Rattle.st_grammar.specs.declared.place.Place.TheVariants as place
 use Rattle.st_grammar.proofs.Texts.{result_after}
 use Rattle.st_grammar.proofs.Readings.{Read, reading_at}
-use Rattle.st_grammar.proofs.Fronts.{RowFront, Behind, BelowHeader, Facts, HasFacts}
+use Rattle.st_grammar.proofs.Fronts.{RowFront, After, BelowHeader, Facts, HasFacts}
 use Rattle.st_grammar.proofs.Kept.{below-row, denial-tails, user-tails, tail-filter, predicate-filter, line-keeps}
 use Rattle.st_grammar.proofs.Policies.{add-last, filters-with, fresh_policy, new-with}
 
@@ -24,12 +24,12 @@ module _ (env : Env) (old : List BinaryPolicy) (rows front : List Symbol) (w : G
   blanks : {ps : List BinaryPolicy} → front ≡ [] → AreRows env rows ps → AreRows env ((rows ++ front) ++ Line ∷ []) ps
   blanks {ps} e h = rw (e, append-nil rows) (Blank rows ps h)
 
-  below-ended : (v : GrammarState) (set : List BinaryPolicy) → v.filters ≡ filters_in set → v.filters ≤ MOST_FILTERS → Behind env old ((rows ++ front) ++ Line ∷ []) set → RowEnded env old ((rows ++ front) ++ Line ∷ []) (reading_at place.Row v set)
-  below-ended v set sum few behind =
-      let h : BelowHeader env old ((rows ++ front) ++ Line ∷ []) [] v.filters set = record { front_is = refl; behind = behind; filters_are = sum; few = few } in
+  below-ended : (v : GrammarState) (set : List BinaryPolicy) → v.filters ≡ filters_in set → v.filters ≤ MOST_FILTERS → After env old ((rows ++ front) ++ Line ∷ []) set → RowEnded env old ((rows ++ front) ++ Line ∷ []) (reading_at place.Row v set)
+  below-ended v set sum few following =
+      let h : BelowHeader env old ((rows ++ front) ++ Line ∷ []) [] v.filters set = record { front_is = refl; following = following; filters_are = sum; few = few } in
       record { rowed = below-row env old ((rows ++ front) ++ Line ∷ []) [] v set 0 h; facts = h }
 
-  filter-ended : Behind env old rows set → w.filters ≡ filters_in set + 1 → w.filters ≤ MOST_FILTERS → IsFilter env front (filter_of w) → RowEnded env old ((rows ++ front) ++ Line ∷ []) (reading_at place.Row (fresh place.Row w.filters w.name) (add_filter set (filter_of w)))
+  filter-ended : After env old rows set → w.filters ≡ filters_in set + 1 → w.filters ≤ MOST_FILTERS → IsFilter env front (filter_of w) → RowEnded env old ((rows ++ front) ++ Line ∷ []) (reading_at place.Row (fresh place.Row w.filters w.name) (add_filter set (filter_of w)))
   filter-ended b sum few is =
       let f : FilterValue = filter_of w in
       let xs : List BinaryPolicy = old ++ b.before in
@@ -39,13 +39,13 @@ module _ (env : Env) (old : List BinaryPolicy) (rows front : List Symbol) (w : G
       (record { before = b.before; last = with_filter b.last f; are_rows = FilterRow rows front b.before b.last f b.are_rows is; set_is = added; new = new-with old b.before b.last f b.new })
 
   tail-ended : (grant log : Bool) → Facts env old rows front (place.Tail grant log) w set → RowEnded env old ((rows ++ front) ++ Line ∷ []) (reading_at place.Row (fresh place.Row w.filters w.name) (add_filter set (filter_of w)))
-  tail-ended grant log h = filter-ended h.behind h.filters_are h.few (tail-filter env old rows front w set 0 grant log h)
+  tail-ended grant log h = filter-ended h.following h.filters_are h.few (tail-filter env old rows front w set 0 grant log h)
 
   pub line-is_sound : (p : Place) (at : ℕ) → Facts env old rows front p w set → LineHolds env old ((rows ++ front) ++ Line ∷ []) (read_step env (reading_at p w set) at Line)
   line-is_sound place.Start at h =
       let rowed : RowFront env old ((rows ++ front) ++ Line ∷ []) [] [] w.filters set = record { front_is = refl; policies = h.policies; are_rows = blanks h.front_is h.are_rows; set_is = h.set_is; new = h.new; filters_are = h.filters_are; few = h.few } in
       record { rowed = rowed; facts = rowed }
-  line-is_sound place.Row at h = below-ended w set h.filters_are h.few (record { before = h.behind.before; last = h.behind.last; are_rows = blanks h.front_is h.behind.are_rows; set_is = h.behind.set_is; new = h.behind.new })
+  line-is_sound place.Row at h = below-ended w set h.filters_are h.few (record { before = h.following.before; last = h.following.last; are_rows = blanks h.front_is h.following.are_rows; set_is = h.following.set_is; new = h.following.new })
   line-is_sound place.HeaderEnd at h = below-ended w set h.filters_are h.few (record {
     before = h.policies;
     last = fresh_policy h.binary;
@@ -56,7 +56,7 @@ module _ (env : Env) (old : List BinaryPolicy) (rows front : List Symbol) (w : G
   line-is_sound place.Denial at h = tail-ended false true (denial-tails env old rows front w set at h)
   line-is_sound (place.Tail grant log) at h = tail-ended grant log h
   line-is_sound (place.User log) at h = tail-ended false log (user-tails env old rows front w set at log h)
-  line-is_sound place.FilterEnd at h = filter-ended h.behind h.filters_are h.few (predicate-filter env old rows front w set at h)
+  line-is_sound place.FilterEnd at h = filter-ended h.following h.filters_are h.few (predicate-filter env old rows front w set at h)
   line-is_sound p at h = tt
 
 -- ---- texts

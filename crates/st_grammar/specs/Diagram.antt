@@ -28,7 +28,7 @@ use Rattle.st_grammar.specs.declared.place.Place.TheVariants as place
 use Rattle.st_grammar.specs.Expression.{PendingOperand, Negation, Group, Reduced, reduced, close_group, with_pending, with_operand, without_either, joins_both, joins_either}
 use Rattle.st_grammar.specs.Grammar.{most_joins, binary_of, who_named, comparison}
 use Rattle.st_grammar.specs.Symbol.{Symbol, Word, Quoted, Colon, Comma, Open, Close, OpenBracket, CloseBracket, Line}
-use Rattle.st_grammar.specs.Words.{is_label, filter_name, may_test, may_test_label, sets_ids, op_named, index_in, id_in, names_for}
+use Rattle.st_grammar.specs.Words.{is_label, filter_name, may_test, may_test_label, names_set_id_call, op_named, index_in, id_in, names_for}
 
 -- how far the reader has come in the grammar
 pub record GrammarState : Type 0 where
@@ -100,19 +100,19 @@ abbrev pub only : GrammarState → ℕ → Bool → Place → StepResult
 only w at fits then_at = if fits then step_to w then_at else expected at
 
 -- whether a symbol is this Word
-abbrev pub is_keyword : List ℕ → Symbol → Bool
-is_keyword keyword (Word w) = bytes_eq w keyword
-is_keyword keyword _ = false
+abbrev pub is_word_symbol : List ℕ → Symbol → Bool
+is_word_symbol keyword (Word w) = bytes_eq w keyword
+is_word_symbol keyword _ = false
 
 -- whether a symbol is a colon
-abbrev pub is_colon : Symbol → Bool
-is_colon Colon = true
-is_colon _ = false
+abbrev pub is_colon_symbol : Symbol → Bool
+is_colon_symbol Colon = true
+is_colon_symbol _ = false
 
 -- whether a symbol is a comma
-abbrev pub is_comma : Symbol → Bool
-is_comma Comma = true
-is_comma _ = false
+abbrev pub is_comma_symbol : Symbol → Bool
+is_comma_symbol Comma = true
+is_comma_symbol _ = false
 
 -- whether a symbol is a closing bracket
 abbrev pub is_close_bracket : Symbol → Bool
@@ -120,9 +120,9 @@ is_close_bracket CloseBracket = true
 is_close_bracket _ = false
 
 -- whether a symbol is a line's end
-abbrev pub is_line : Symbol → Bool
-is_line Line = true
-is_line _ = false
+abbrev pub is_line_symbol : Symbol → Bool
+is_line_symbol Line = true
+is_line_symbol _ = false
 
 -- ---- rows and headers
 
@@ -158,8 +158,8 @@ step_system w at _ = expected at
 -- ---- expressions
 
 -- one more of `not`, `and`, `or` and `(`
-abbrev pub joined : GrammarState → ℕ → StepResult
-joined w at =
+abbrev pub with_joint : GrammarState → ℕ → StepResult
+with_joint w at =
     if nat_lt w.joins most_joins then Ok (record w { place = place.Operand; joins = w.joins + 1 }) else Err (TooMany at)
 
 -- adds a pending operand to the expression
@@ -172,9 +172,9 @@ completed f w = record w { place = place.Joint; expression = with_operand f w.ex
 
 -- at the beginning of an operand: `(`, `not`, `true`, or a label
 abbrev pub step_operand : GrammarState → ℕ → Symbol → StepResult
-step_operand w at Open = joined (record (waits Group w) { parens = w.parens + 1 }) at
+step_operand w at Open = with_joint (record (waits Group w) { parens = w.parens + 1 }) at
 step_operand w at (Word word) =
-    if bytes_eq word (codes "not") then joined (waits Negation w) at
+    if bytes_eq word (codes "not") then with_joint (waits Negation w) at
     else if bytes_eq word (codes "true") then Ok (completed True w)
     else if is_label word then Ok (record w { place = place.Label; label = word; label_at = at; index = 0 })
     else expected at
@@ -221,8 +221,8 @@ step_joint w at Close =
     if nat_lt 0 w.parens then Ok (record w { place = place.Joint; parens = w.parens - 1; expression = close_group (without_either w.expression) })
     else expected at
 step_joint w at (Word word) =
-    if bytes_eq word (codes "and") then joined (record w { expression = joins_both w.expression }) at
-    else if bytes_eq word (codes "or") then joined (record w { expression = joins_either (without_either w.expression) }) at
+    if bytes_eq word (codes "and") then with_joint (record w { expression = joins_both w.expression }) at
+    else if bytes_eq word (codes "or") then with_joint (record w { expression = joins_either (without_either w.expression) }) at
     else only (concluded w) at (bytes_eq word (codes "then") && w.parens == 0) place.Action
 step_joint w at _ = expected at
 
@@ -243,7 +243,7 @@ step_action env w at _ = expected at
 
 -- whether a symbol begins an action
 abbrev pub is_action : Symbol → Bool
-is_action s = is_keyword (codes "permit") s || (is_keyword (codes "deny") s || is_keyword (codes "ask") s)
+is_action s = is_word_symbol (codes "permit") s || (is_word_symbol (codes "deny") s || is_word_symbol (codes "ask") s)
 
 -- after a filter's colon: an action, or the first operand of an expression
 abbrev pub step_clause : Env → GrammarState → ℕ → Symbol → StepResult
@@ -252,7 +252,7 @@ step_clause env w at s = if is_action s then step_action env w at s else step_op
 -- at `as`, which needs the permission to grant ids, and a call that sets no ids itself
 abbrev pub step_as : Env → GrammarState → ℕ → Bool → StepResult
 step_as env w at log =
-    if env.elevate then (if sets_ids w.name then Err (ElevateOnSetId at) else step_to w (place.Grant log))
+    if env.elevate then (if names_set_id_call w.name then Err (ElevateOnSetId at) else step_to w (place.Grant log))
     else Err (ElevateWithoutIds at)
 
 -- after an action: the row's end, a predicate's comma, or what may still follow of `as` and `log`
@@ -325,13 +325,13 @@ step_predicate env who w at s =
 abbrev pub step : Env → List (List ℕ) → GrammarState → ℕ → Symbol → Place → StepResult
 step env known w at s place.Start = step_start w at s
 step env known w at s place.Row = step_row w at s
-step env known w at s place.PolicyColon = only w at (is_colon s) place.Binary
+step env known w at s place.PolicyColon = only w at (is_colon_symbol s) place.Binary
 step env known w at s place.Binary = step_binary known w at (binary_of env s)
-step env known w at s place.Comma = only w at (is_comma s) place.Emulation
-step env known w at s place.Emulation = only w at (is_keyword (codes "Emulation") s) place.EmulationColon
-step env known w at s place.EmulationColon = only w at (is_colon s) place.System
+step env known w at s place.Comma = only w at (is_comma_symbol s) place.Emulation
+step env known w at s place.Emulation = only w at (is_word_symbol (codes "Emulation") s) place.EmulationColon
+step env known w at s place.EmulationColon = only w at (is_colon_symbol s) place.System
 step env known w at s place.System = step_system w at s
-step env known w at s place.NameColon = only w at (is_colon s) place.Clause
+step env known w at s place.NameColon = only w at (is_colon_symbol s) place.Clause
 step env known w at s place.Clause = step_clause env w at s
 step env known w at s place.Operand = step_operand w at s
 step env known w at s place.Label = step_label w at s
@@ -348,12 +348,12 @@ step env known w at s (place.Tail grant log) = step_tail env grant log w at s
 step env known w at s (place.Grant log) = step_grant env log w at s
 step env known w at s (place.User log) = step_user env log w at s
 step env known w at s (place.Group log) = step_group env log w at s
-step env known w at s place.If = only w at (is_keyword (codes "if") s) place.Who
+step env known w at s place.If = only w at (is_word_symbol (codes "if") s) place.Who
 step env known w at s place.Who = step_who w at s
 step env known w at s (place.Comparison who) = step_comparison who w at s
 step env known w at s (place.Id who) = step_predicate env who w at s
-step env known w at s place.HeaderEnd = only w at (is_line s) place.Row
-step env known w at s place.FilterEnd = only w at (is_line s) place.Row
+step env known w at s place.HeaderEnd = only w at (is_line_symbol s) place.Row
+step env known w at s place.FilterEnd = only w at (is_line_symbol s) place.Row
 
 -- the result of a symbol at the current place
 abbrev pub next : Env → List (List ℕ) → GrammarState → ℕ → Symbol → StepResult

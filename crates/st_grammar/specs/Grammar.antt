@@ -22,7 +22,7 @@ use Rattle.st_filter.specs.declared.set.BinaryPolicy.{BinaryPolicy}
 use Rattle.st_filter.specs.Formula.{Formula, True, Test, Not, And, Or, FilterValue, Level, Operand, Conjunction, Disjunction}
 use Rattle.st_filter.specs.Policies.{filters_in, has_policy, with_filter}
 use Rattle.st_grammar.specs.Symbol.{Symbol, Word, Quoted, Colon, Comma, Open, Close, OpenBracket, CloseBracket, Equal, NotEqual, Less, Greater, Line, symbol_of}
-use Rattle.st_grammar.specs.Words.{is_label, filter_name, may_test, sets_ids, op_named, index_in, id_in, names_for}
+use Rattle.st_grammar.specs.Words.{is_label, filter_name, may_test, names_set_id_call, op_named, index_in, id_in, names_for}
 use Rattle.st_filter.specs.declared.set.TheConstants.{MOST_FILTERS}
 
 -- ---- expressions
@@ -86,7 +86,7 @@ pub data IsGrant (env : Env) : List Symbol → Grant → Type 0 where
 
 -- a permit may grant ids if there are ids to grant them over and the call sets none itself
 abbrev pub MayGrant : Env → FilterName → Action → Type 0
-MayGrant env name Permit = (env.elevate ≡ true) × (sets_ids name ≡ false)
+MayGrant env name Permit = (env.elevate ≡ true) × (names_set_id_call name ≡ false)
 MayGrant env name (Deny errno) = ⊥
 MayGrant env name Ask = ⊥
 

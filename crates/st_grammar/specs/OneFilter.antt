@@ -5,7 +5,7 @@ use Rattle.st_lex.specs.Tokens.{lexed_text}
 use Rattle.st_lex.specs.declared.token.LexFault.{LexFault}
 use Rattle.st_lex.specs.declared.token.Token.{Token}
 use Rattle.st_filter.specs.declared.filter.FilterName.TheVariants as name
-use Rattle.st_grammar.specs.Diagram.{GrammarState, StepResult, fresh, next, expected, step_name, is_line, lexical}
+use Rattle.st_grammar.specs.Diagram.{GrammarState, StepResult, fresh, next, expected, step_name, is_line_symbol, lexical}
 use Rattle.st_grammar.specs.Grammar.{IsFilter, symbols_in}
 use Rattle.st_grammar.specs.Symbol.{Symbol, Word, Line, Broken, symbol_of}
 use Rattle.st_grammar.specs.Reading.{filter_of}
@@ -33,10 +33,10 @@ abbrev pub FilterResult : Type 0
 FilterResult = Result FilterValue PolicyFault
 
 -- nothing may follow a filter's Line
-abbrev pub behind_filter : Option LexFault → FilterValue → List Token → FilterResult
-behind_filter broken filter (t ∷ ts) = Err (Expected t.at)
-behind_filter None filter [] = Ok filter
-behind_filter (Some fault) filter [] = Err (Lex fault)
+abbrev pub after_filter : Option LexFault → FilterValue → List Token → FilterResult
+after_filter broken filter (t ∷ ts) = Err (Expected t.at)
+after_filter None filter [] = Ok filter
+after_filter (Some fault) filter [] = Err (Lex fault)
 
 -- a filter that the text's end ends, if it may end there
 abbrev pub if_ended : StepResult → FilterResult
@@ -58,7 +58,7 @@ abbrev pub filter_from : Env → List ℕ → Option LexFault → GrammarState �
 filter_from env text broken w [] = filter_at_end env (length text) w broken
 filter_from env text broken w (t ∷ ts) =
     elim (next env [] w t.at (symbol_of text t)) [
-      | Ok w' ↦ if is_line (symbol_of text t) then behind_filter broken (filter_of w') ts else filter_from env text broken w' ts
+      | Ok w' ↦ if is_line_symbol (symbol_of text t) then after_filter broken (filter_of w') ts else filter_from env text broken w' ts
       | Err fault ↦ Err fault
     ]
 

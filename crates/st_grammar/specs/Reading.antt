@@ -12,7 +12,7 @@ use Rattle.st_grammar.specs.declared.fault.PolicyFault.{PolicyFault}
 use Rattle.st_grammar.specs.declared.fault.PolicyRefusal.{PolicyRefusal}
 use Rattle.st_grammar.specs.declared.place.Place.{Place}
 use Rattle.st_grammar.specs.declared.place.Place.TheVariants as place
-use Rattle.st_grammar.specs.Diagram.{GrammarState, StepResult, fresh, next, is_line, lexical}
+use Rattle.st_grammar.specs.Diagram.{GrammarState, StepResult, fresh, next, is_line_symbol, lexical}
 use Rattle.st_grammar.specs.Grammar.{binary_of}
 use Rattle.st_grammar.specs.Symbol.{Symbol, Line, Broken, symbol_of}
 
@@ -73,14 +73,14 @@ abbrev pub first_reading : List BinaryPolicy → Reading
 first_reading old = as_reading (fresh place.Start (filters_in old) (name.Other [])) old
 
 -- the reading after a symbol that was accepted at a place: a binary begins a policy, the end of a filter adds the filter
-abbrev pub reading_behind : Env → Place → Symbol → List BinaryPolicy → GrammarState → Reading
-reading_behind env place.Binary s set w = as_reading w (set ++ new_policy (binary_of env s))
-reading_behind env p s set w = if ends_filter p && is_line s then as_reading (taken w) (add_filter set (filter_of w)) else as_reading w set
+abbrev pub reading_after : Env → Place → Symbol → List BinaryPolicy → GrammarState → Reading
+reading_after env place.Binary s set w = as_reading w (set ++ new_policy (binary_of env s))
+reading_after env p s set w = if ends_filter p && is_line_symbol s then as_reading (taken w) (add_filter set (filter_of w)) else as_reading w set
 
 -- the reading after a symbol, by the symbol's result in the grammar
 abbrev pub reading_step : Env → Reading → Symbol → StepResult → Result Reading PolicyFault
 reading_step env r s (Err fault) = Err fault
-reading_step env r s (Ok w) = Ok (reading_behind env r.walk.place s r.set w)
+reading_step env r s (Ok w) = Ok (reading_after env r.walk.place s r.set w)
 
 -- the reading after a symbol, or the symbol's fault
 abbrev pub read_step : Env → Reading → ℕ → Symbol → Result Reading PolicyFault

@@ -61,17 +61,17 @@ may_test_label (name.Rule rule) label = has_label rule label
 may_test_label (name.Other word) label = true
 
 -- whether a call sets ids
-abbrev pub is_set_id : SysCall → Bool
-is_set_id SetUid = true
-is_set_id SetEuid = true
-is_set_id SetGid = true
-is_set_id SetEgid = true
-is_set_id _ = false
+abbrev pub is_set_id_call : SysCall → Bool
+is_set_id_call SetUid = true
+is_set_id_call SetEuid = true
+is_set_id_call SetGid = true
+is_set_id_call SetEgid = true
+is_set_id_call _ = false
 
 -- whether a filter is for a call that sets ids, to which no ids may be granted
-abbrev pub sets_ids : FilterName → Bool
-sets_ids (name.Rule (Call call)) = is_set_id call
-sets_ids _ = false
+abbrev pub names_set_id_call : FilterName → Bool
+names_set_id_call (name.Rule (Call call)) = is_set_id_call call
+names_set_id_call _ = false
 
 -- ---- operators, indexes and ids
 
@@ -95,13 +95,13 @@ abbrev pub index_in : List ℕ → Option ℕ
 index_in word = option_and_then if_small (number_in word)
 
 -- whether the row of an id has this name
-abbrev pub has_name : List ℕ → NamedId → Bool
-has_name word row = bytes_eq row.name word
+abbrev pub is_id_named : List ℕ → NamedId → Bool
+is_id_named word row = bytes_eq row.name word
 
 -- the id that a word is: the number that it spells, if it spells one, otherwise that of the first row with this name
 abbrev pub id_by : List NamedId → List ℕ → Option ℕ → Option ℕ
 id_by rows word (Some id) = Some id
-id_by rows word None = option_map (λ row. row.id) (find (has_name word) rows)
+id_by rows word None = option_map (λ row. row.id) (find (is_id_named word) rows)
 
 -- the id that a word spells: a decimal number below 2^32, otherwise the id of the first user, or group, of this name
 abbrev pub id_in : List NamedId → List ℕ → Option ℕ

@@ -1,7 +1,7 @@
 ghost use Rattle.std.specs.Prelude.{◌≡◌};
 ghost use Rattle.st_grammar.specs.Symbol.{symbol_of, seen};
 ghost use Rattle.st_grammar.specs.Grammar.{comparison};
-ghost use Rattle.st_grammar.specs.Diagram.{is_action, is_keyword, is_colon, is_comma, is_close_bracket, is_line};
+ghost use Rattle.st_grammar.specs.Diagram.{is_action, is_word_symbol, is_colon_symbol, is_comma_symbol, is_close_bracket, is_line_symbol};
 
 use crate::words::is_keyword;
 use st_filter::Cmp;
@@ -53,14 +53,14 @@ impl<'a> Symbol<'a> {
 
     /// Whether the symbol is `:`.
     pub fn is_colon(&self) -> bool
-        ensures { result ≡ is_colon (seen self.now) }
+        ensures { result ≡ is_colon_symbol (seen self.now) }
     {
         matches!(*self, Symbol::Colon)
     }
 
     /// Whether the symbol is `,`.
     pub fn is_comma(&self) -> bool
-        ensures { result ≡ is_comma (seen self.now) }
+        ensures { result ≡ is_comma_symbol (seen self.now) }
     {
         matches!(*self, Symbol::Comma)
     }
@@ -74,14 +74,14 @@ impl<'a> Symbol<'a> {
 
     /// Whether the symbol is the end of a line.
     pub fn is_line(&self) -> bool
-        ensures { result ≡ is_line (seen self.now) }
+        ensures { result ≡ is_line_symbol (seen self.now) }
     {
         matches!(*self, Symbol::Line)
     }
 
     /// Whether the symbol is this keyword.
     pub fn is_keyword(&self, keyword: &[u8]) -> bool
-        ensures { result ≡ is_keyword keyword.now (seen self.now) }
+        ensures { result ≡ is_word_symbol keyword.now (seen self.now) }
     {
         match *self {
             Symbol::Word(word) => is_keyword(word, keyword),

@@ -2,7 +2,7 @@ ghost use Rattle.std.specs.Prelude.{◌≡◌, ◌&&◌, nat_lt, length, find, o
 ghost use Rattle.std.specs.List.{list_all};
 ghost use Rattle.std.specs.Str.{bytes_eq};
 ghost use Rattle.st_grammar.specs.Grammar.{who_named};
-ghost use Rattle.st_grammar.specs.Words.{is_label, is_name_byte, native_name, name_by, may_test, may_test_label, sets_ids, op_named, index_in, has_name, id_in, names_for};
+ghost use Rattle.st_grammar.specs.Words.{is_label, is_name_byte, native_name, name_by, may_test, may_test_label, names_set_id_call, op_named, index_in, is_id_named, id_in, names_for};
 
 use crate::env::{Env, NamedId};
 use st_base::number::{number_of, numeral_up_to};
@@ -81,7 +81,7 @@ pub fn may_test_label(name: &[u8], rule: Option<Rule>, label: &[u8]) -> bool
 
 /// Whether a filter for this rule, or for a call outside the model, is for a call that sets ids, to which no ids may be granted.
 pub fn sets_ids(name: &[u8], rule: Option<Rule>) -> bool
-    ensures { result ≡ sets_ids (name_by name.now rule) }
+    ensures { result ≡ names_set_id_call (name_by name.now rule) }
 {
     match rule {
         Some(Rule::Call(call)) => match call {
@@ -144,7 +144,7 @@ pub fn index_of(word: &[u8]) -> Option<u32>
 
 // The id of the first row with this name.
 fn id_named(rows: &[NamedId], word: &[u8]) -> Option<u32>
-    ensures { result ≡ option_map (λ row. row.id) (find (has_name word.now) rows.now) }
+    ensures { result ≡ option_map (λ row. row.id) (find (is_id_named word.now) rows.now) }
 {
     rows.iter()
         .find(|row| row.name.bytes() == word)

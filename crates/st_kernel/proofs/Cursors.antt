@@ -9,7 +9,7 @@ use Rattle.st_law.specs.Machine.{entry_of}
 use Rattle.st_law.specs.Schedules.{EnabledChoice, choice_or, first_enabled, first_enabled_of}
 use Rattle.st_law.specs.State.{State, thread_count}
 use Rattle.st_law.specs.declared.input.Input.{Input}
-use Rattle.st_kernel.specs.Kernel.{Course, state_in, HasMade, IsChosen, IsNext}
+use Rattle.st_kernel.specs.Kernel.{RunSoFar, state_in, HasMadeFirstEnabled, IsChosen, IsNextEntry}
 use Rattle.st_kernel.specs.Waking.{is_asleep}
 
 -- no thread is marked at first
@@ -73,7 +73,7 @@ module _ (i : Input) (st : State) where
 
 -- ---- how a run continues
 
-module _ (before after : Course) where
+module _ (before after : RunSoFar) where
   abbrev i : Input
   i = before.input
 
@@ -81,18 +81,18 @@ module _ (before after : Course) where
   st = state_in before
 
   -- the first enabled choice was made: by a thread
-  pub thread_next : (added : Option Entry) → HasMade choice.Thread (thread_count i) before true added after → IsNext before true added after
+  pub thread_next : (added : Option Entry) → HasMadeFirstEnabled choice.Thread (thread_count i) before true added after → IsNextEntry before true added after
   thread_next added (e, there, it) =
       let high = it.to in
       (e, choice.Thread it.number, there, found choice.Thread i st 1 (thread_count i) (workers i st) it.number e it.from (omega (arith, high)) it.before it.adds, it.made)
 
   -- by a worker, if no thread can move
-  pub worker_next : (added : Option Entry) → NoThread i st → HasMade choice.Worker i.options.workers before true added after → IsNext before true added after
+  pub worker_next : (added : Option Entry) → NoThread i st → HasMadeFirstEnabled choice.Worker i.options.workers before true added after → IsNextEntry before true added after
   worker_next added none (e, there, it) =
       let high = it.to in
       (e, choice.Worker it.number, there, no_thread i st none ∙ found choice.Worker i st 1 i.options.workers (asked i st) it.number e it.from (omega (arith, high)) it.before it.adds, it.made)
 
   -- by the operator, if there is a question; otherwise no choice is enabled
-  pub operator_next : (made : Bool) (added : Option Entry) → NoThread i st → NoWorker i st → IsChosen before choice.Operator made added after → IsNext before made added after
+  pub operator_next : (made : Bool) (added : Option Entry) → NoThread i st → NoWorker i st → IsChosen before choice.Operator made added after → IsNextEntry before made added after
   operator_next true added none idle (e, there, adds, on) = (e, choice.Operator, there, nobody_else i st none idle ∙ ap (λ (o : Option Entry). choice_or choice.Operator o None) adds, on)
   operator_next false added none idle chosen = (nobody_else i st none idle ∙ ap (λ (o : Option Entry). choice_or choice.Operator o None) chosen.1, chosen.2)

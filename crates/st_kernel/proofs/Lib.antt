@@ -1,4 +1,4 @@
-mod Courses
+mod RunsSoFar
 mod Cursors
 mod Plays
 mod Rests

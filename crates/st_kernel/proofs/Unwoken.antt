@@ -8,13 +8,13 @@ use Rattle.st_law.specs.declared.input.Input.{Input}
 use Rattle.st_reached.specs.Waiting.{wakes}
 
 -- whether an entry wakes a thread is the same in the state after it
-pub wakes_behind : (i : Input) (st : State) (e : Entry) (t : ℕ) → wakes (state_after i st e) e t ≡ wakes st e t
-wakes_behind i st (Used u seq call regs args ids result changes) t = refl
-wakes_behind i st (Faulted q errno) t = refl
-wakes_behind i st (Answered w s v applied) t = refl
-wakes_behind i st (Learned q n) t = refl
-wakes_behind i st (Replied q reply n) t = refl
-wakes_behind i st _ t = refl
+pub wakes_after : (i : Input) (st : State) (e : Entry) (t : ℕ) → wakes (state_after i st e) e t ≡ wakes st e t
+wakes_after i st (Used u seq call regs args ids result changes) t = refl
+wakes_after i st (Faulted q errno) t = refl
+wakes_after i st (Answered w s v applied) t = refl
+wakes_after i st (Learned q n) t = refl
+wakes_after i st (Replied q reply n) t = refl
+wakes_after i st _ t = refl
 
 -- a thread that isn't marked as woken isn't woken by the entry
 pub not_woken : (a b : Bool) → (a ≡ true → b ≡ true) → b ≡ false → a ≡ false

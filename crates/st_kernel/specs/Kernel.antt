@@ -9,59 +9,59 @@ use Rattle.st_law.specs.Schedules.{EnabledChoice, Played, first_enabled, most_st
 use Rattle.st_law.specs.State.{State, thread_count}
 use Rattle.st_report.specs.ScheduleText.{repeats_of, spelled_choices}
 use Rattle.st_report.specs.declared.schedule.Repeat.{Repeat}
-use Rattle.st_next.specs.Machine.{IsMachine, Running}
+use Rattle.st_decide.specs.Machine.{Refines, Running}
 use Rattle.st_kernel.specs.Waking.{AreStill}
 
 -- a run so far: its input, and the choices that were made
-pub record Course : Type 0 where
+pub record RunSoFar : Type 0 where
   pub input : Input
   pub choices : List Choice
 
 -- a run with one more choice
-abbrev pub with_choice : Course → Choice → Course
-with_choice course choice = record { input = course.input; choices = course.choices ++ choice ∷ [] }
+abbrev pub with_choice : RunSoFar → Choice → RunSoFar
+with_choice so_far choice = record { input = so_far.input; choices = so_far.choices ++ choice ∷ [] }
 
 -- the state that the choices lead to
-abbrev pub state_in : Course → State
-state_in course = state_of_run course.input course.choices
+abbrev pub state_in : RunSoFar → State
+state_in so_far = state_of_run so_far.input so_far.choices
 
 -- the entries that the choices add, in order
-abbrev pub trace_of : Course → List Entry
-trace_of course = run course.input course.choices
+abbrev pub trace_of : RunSoFar → List Entry
+trace_of so_far = run so_far.input so_far.choices
 
 -- the choices that were made before are a prefix of those that were made since
-abbrev pub Continues : Course → Course → Type 0
+abbrev pub Continues : RunSoFar → RunSoFar → Type 0
 Continues old new = (made : List Choice) × (new.choices ≡ old.choices ++ made)
 
 -- a choice was made, and this is the entry that it adds; or it adds none, the place for its entry is empty, and the run is unchanged
-abbrev pub IsChosen : Course → Choice → Bool → Option Entry → Course → Type 0
+abbrev pub IsChosen : RunSoFar → Choice → Bool → Option Entry → RunSoFar → Type 0
 IsChosen old c true added new = (e : Entry) × (added ≡ Some e) × (entry_of old.input (state_in old) c ≡ Some e) × (new ≡ with_choice old c)
 IsChosen old c false added new = (added ≡ None) × (entry_of old.input (state_in old) c ≡ None) × (new ≡ old)
 
 -- the same, but if the choice adds no entry, the place for its entry may hold anything
-abbrev pub IsTried : Course → Choice → Bool → Option Entry → Course → Type 0
+abbrev pub IsTried : RunSoFar → Choice → Bool → Option Entry → RunSoFar → Type 0
 IsTried old c true added new = IsChosen old c true added new
 IsTried old c false added new = (entry_of old.input (state_in old) c ≡ None) × (new ≡ old)
 
 -- a run can start with the input, and each of the choices was enabled when it was made
-pub record IsPlayed (course : Course) : Type 0 where
-  pub startable : IsStartable course.input
-  pub enabled : length (run course.input course.choices) ≡ length course.choices
+pub record IsPlayed (so_far : RunSoFar) : Type 0 where
+  pub startable : IsStartable so_far.input
+  pub enabled : length (run so_far.input so_far.choices) ≡ length so_far.choices
 
 -- the choices, with the state that they lead to: the start of the next lines of a schedule
-abbrev pub standing : Course → Played
-standing course = record { choices = course.choices; state = state_in course }
+abbrev pub played_so_far : RunSoFar → Played
+played_so_far so_far = record { choices = so_far.choices; state = state_in so_far }
 
 -- the first choice that is enabled, with the entry that it adds
-abbrev pub next_of : Course → Option EnabledChoice
-next_of course = first_enabled course.input (state_in course)
+abbrev pub next_enabled : RunSoFar → Option EnabledChoice
+next_enabled so_far = first_enabled so_far.input (state_in so_far)
 
 -- no thread before this one can move
-abbrev pub NoneMoves : Course → ℕ → Type 0
-NoneMoves course tid = (t : ℕ) → 1 ≤ t → t < tid → thread_entry course.input (state_in course) t ≡ None
+abbrev pub NoneMoves : RunSoFar → ℕ → Type 0
+NoneMoves so_far tid = (t : ℕ) → 1 ≤ t → t < tid → thread_entry so_far.input (state_in so_far) t ≡ None
 
 -- the first enabled choice of a family was made, and adds this entry
-pub record IsFirstMade (of : ℕ → Choice) (count : ℕ) (old : Course) (e : Entry) (new : Course) : Type 0 where
+pub record IsFirstEnabledMade (of : ℕ → Choice) (count : ℕ) (old : RunSoFar) (e : Entry) (new : RunSoFar) : Type 0 where
   pub number : ℕ
   pub from : 1 ≤ number
   pub to : number ≤ count
@@ -70,23 +70,23 @@ pub record IsFirstMade (of : ℕ → Choice) (count : ℕ) (old : Course) (e : E
   pub made : new ≡ with_choice old (of number)
 
 -- the first enabled choice of a family was made; or none of so many is enabled, and the run is unchanged
-abbrev pub HasMade : (ℕ → Choice) → ℕ → Course → Bool → Option Entry → Course → Type 0
-HasMade of count old true added new = (e : Entry) × (added ≡ Some e) × IsFirstMade of count old e new
-HasMade of count old false added new = ((n : ℕ) → 1 ≤ n → n ≤ count → entry_of old.input (state_in old) (of n) ≡ None) × (new ≡ old)
+abbrev pub HasMadeFirstEnabled : (ℕ → Choice) → ℕ → RunSoFar → Bool → Option Entry → RunSoFar → Type 0
+HasMadeFirstEnabled of count old true added new = (e : Entry) × (added ≡ Some e) × IsFirstEnabledMade of count old e new
+HasMadeFirstEnabled of count old false added new = ((n : ℕ) → 1 ≤ n → n ≤ count → entry_of old.input (state_in old) (of n) ≡ None) × (new ≡ old)
 
 -- the first enabled choice was made, and adds this entry; or no choice is enabled, and the run is unchanged
-abbrev pub IsNext : Course → Bool → Option Entry → Course → Type 0
-IsNext old true added new = (e : Entry) × (c : Choice) × (added ≡ Some e) × (next_of old ≡ Some (record { choice = c; entry = e })) × (new ≡ with_choice old c)
-IsNext old false added new = (next_of old ≡ None) × (new ≡ old)
+abbrev pub IsNextEntry : RunSoFar → Bool → Option Entry → RunSoFar → Type 0
+IsNextEntry old true added new = (e : Entry) × (c : Choice) × (added ≡ Some e) × (next_enabled old ≡ Some (record { choice = c; entry = e })) × (new ≡ with_choice old c)
+IsNextEntry old false added new = (next_enabled old ≡ None) × (new ≡ old)
 
 -- a run after the first enabled choice was made again and again, until none is enabled
-abbrev pub rested : Course → Course
-rested course = record { input = course.input; choices = (rest_from (most_steps course.input) course.input (state_in course) course.choices).choices }
+abbrev pub rested : RunSoFar → RunSoFar
+rested so_far = record { input = so_far.input; choices = (rest_from (most_steps so_far.input) so_far.input (state_in so_far) so_far.choices).choices }
 
 -- the invariant: the machine that runs is in the state after the choices that are kept, with equal consecutive ones joined; each of them
 -- was enabled when it was made; and no thread can move that is below the cursor or marked as asleep
-pub record IsCourse (m : Running) (kept : List Repeat) (first : ℕ) (asleep : List Bool) : Type 0 where
-  pub machine : IsMachine m (state_of_run m.input (spelled_choices kept))
+pub record IsRunSoFar (m : Running) (kept : List Repeat) (first : ℕ) (asleep : List Bool) : Type 0 where
+  pub machine : Refines m (state_of_run m.input (spelled_choices kept))
   pub joined : kept ≡ repeats_of (spelled_choices kept)
   pub enabled : length (run m.input (spelled_choices kept)) ≡ length (spelled_choices kept)
   pub still : (t : ℕ) → 1 ≤ t → t < first → thread_entry m.input (state_of_run m.input (spelled_choices kept)) t ≡ None

@@ -6,18 +6,18 @@ use Rattle.st_trace.specs.declared.entry.Entry.TheVariants.{Faulted, Answered, U
 use Rattle.st_law.specs.Machine.{thread_entry}
 use Rattle.st_law.specs.State.{State}
 use Rattle.st_law.specs.declared.input.Input.{Input}
-use Rattle.st_next.specs.Holding.{is_held_alike, message_at}
-use Rattle.st_next.specs.Machine.{Running}
-use Rattle.st_messages.specs.Messages.{HeldCalls, thread_at}
+use Rattle.st_decide.specs.Holding.{is_held_alike, held_head}
+use Rattle.st_decide.specs.Machine.{Running}
+use Rattle.st_messages.specs.Messages.{HeldCalls, thread_of_number}
 use Rattle.st_reached.specs.Waiting.{wakes_all}
 use Rattle.st_kernel.specs.declared.waking.Woken.{Woken}
-use Rattle.st_kernel.specs.declared.waking.Woken.TheVariants.{Nobody, One, Alike, Everybody}
+use Rattle.st_kernel.specs.declared.waking.Woken.TheVariants.{Nobody, One, SameRule, Everybody}
 
 -- whether thread t may have been woken, according to the machine that runs
 abbrev pub is_woken : Running → Woken → ℕ → Bool
 is_woken m Nobody t = false
 is_woken m (One tid) t = t == tid
-is_woken m (Alike seq) t = is_held_alike m (message_at m seq) t
+is_woken m (SameRule seq) t = is_held_alike m (held_head m seq) t
 is_woken m Everybody t = true
 
 -- the thread that holds the call of a number is woken, or every thread if the holder isn't known
@@ -28,10 +28,10 @@ holder_woken (Some tid) = One tid
 -- which threads an entry wakes, according to the held calls after it
 abbrev pub woken_by : HeldCalls → Entry → Woken
 woken_by calls (Used u seq call regs args ids result changes) = if list_any wakes_all changes then Everybody else Nobody
-woken_by calls (Faulted q errno) = holder_woken (thread_at calls q)
-woken_by calls (Answered w snapshot verdict applied) = if applied then holder_woken (thread_at calls snapshot.seq) else Nobody
-woken_by calls (Learned q n) = Alike q
-woken_by calls (Replied q reply n) = Alike q
+woken_by calls (Faulted q errno) = holder_woken (thread_of_number calls q)
+woken_by calls (Answered w snapshot verdict applied) = if applied then holder_woken (thread_of_number calls snapshot.seq) else Nobody
+woken_by calls (Learned q n) = SameRule q
+woken_by calls (Replied q reply n) = SameRule q
 woken_by calls _ = Nobody
 
 -- whether the thread at an index is marked as asleep

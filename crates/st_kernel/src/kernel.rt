@@ -9,7 +9,7 @@ ghost use Rattle.st_reached.specs.Scripts.{IsBounded};
 ghost use Rattle.st_report.specs.ScheduleText.{repeats_of};
 ghost use Rattle.st_system.specs.Start.{CanStart};
 ghost use Rattle.st_trace.specs.declared.entry.Choice.TheVariants.{Thread, Worker};
-ghost use Rattle.st_kernel.specs.Kernel.{rested, state_in, trace_of, with_choice, Continues, HasMade, IsChosen, IsNext, IsPlayed, IsTried, NoneMoves};
+ghost use Rattle.st_kernel.specs.Kernel.{rested, state_in, trace_of, with_choice, Continues, HasMadeFirstEnabled, IsChosen, IsNextEntry, IsPlayed, IsTried, NoneMoves};
 
 use crate::waking::woken_by;
 use st_base::Tid;
@@ -58,15 +58,15 @@ impl<'a> Model for Kernel<'a> {
     ghost use Rattle.std.specs.Coded.{codes};
     ghost use Rattle.st_filter.specs.FormulaCode.{formula_code};
     ghost use Rattle.st_report.specs.ScheduleText.{spelled_choices};
-    ghost use Rattle.st_kernel.specs.Kernel.{Course, IsCourse};
+    ghost use Rattle.st_kernel.specs.Kernel.{RunSoFar, IsRunSoFar};
 
-    ghost Value = { Course };
+    ghost Value = { RunSoFar };
 
     ghost coded = { Prim.hlevel (codes, formula_code) };
 
     ghost view = { λ k. record { input = k.machine.input; choices = spelled_choices k.made.items } };
 
-    ghost invariant = { λ k. IsCourse k.machine k.made.items k.first k.asleep.items };
+    ghost invariant = { λ k. IsRunSoFar k.machine k.made.items k.first k.asleep.items };
 }
 
 impl<'a> Kernel<'a> {
@@ -207,7 +207,7 @@ impl<'a> Kernel<'a> {
     // Moves the first thread that can move. Stores the entry that this adds in `added`, and returns whether there is one. If memory runs
     // out, the run is unchanged.
     fn move_first(&mut self, alloc: Global, added: &mut Option<Entry>) -> Result<bool, AllocError>
-        ensures made { IfOk result (λ made. HasMade Thread (thread_count self.old.input) self.old made added.new self.new) }
+        ensures made { IfOk result (λ made. HasMadeFirstEnabled Thread (thread_count self.old.input) self.old made added.new self.new) }
         ensures played { IsPlayed self.old }
         ensures err { OnErr result (self.new ≡ self.old) }
     {
@@ -222,7 +222,7 @@ impl<'a> Kernel<'a> {
     // Moves the first worker that can move. Stores the entry that this adds in `added`, and returns whether there is one. If memory runs
     // out, the run is unchanged.
     fn serve_first(&mut self, alloc: Global, added: &mut Option<Entry>) -> Result<bool, AllocError>
-        ensures made { IfOk result (λ made. HasMade Worker self.old.input.options.workers self.old made added.new self.new) }
+        ensures made { IfOk result (λ made. HasMadeFirstEnabled Worker self.old.input.options.workers self.old made added.new self.new) }
         ensures err { OnErr result (self.new ≡ self.old) }
     {
         for worker in 1..self.machine.view().worker_count() + 1 {
@@ -237,7 +237,7 @@ impl<'a> Kernel<'a> {
     // number, then workers by number, then the operator. Each is tried at once, since asking first whether it can move would cost as much.
     // If memory runs out, the run is unchanged.
     fn make_next(&mut self, alloc: Global, added: &mut Option<Entry>) -> Result<bool, AllocError>
-        ensures made { IfOk result (λ made. IsNext self.old made added.new self.new) }
+        ensures made { IfOk result (λ made. IsNextEntry self.old made added.new self.new) }
         ensures played { IsPlayed self.old }
         ensures err { OnErr result (self.new ≡ self.old) }
     {

@@ -1,7 +1,7 @@
 // Plays the lines of a schedule in order.
 ghost use Rattle.std.specs.Prelude.{◌≡◌, ℕ, None, Some, OnOk};
 ghost use Rattle.st_law.specs.Schedules.{BadLine, Choices, line_played, lines_played, repeated};
-ghost use Rattle.st_kernel.specs.Kernel.{standing, trace_of, Continues};
+ghost use Rattle.st_kernel.specs.Kernel.{played_so_far, trace_of, Continues};
 
 use crate::kernel::{Kernel, StepFault};
 use st_law::{ReadSchedule, ScheduleLine, What};
@@ -42,8 +42,8 @@ impl Kernel<'_> {
         count: u32,
         recorder: &mut R,
     ) -> Result<(), StepFault>
-        ensures ok { OnOk result (repeated count choice self.old.input (standing self.old) ≡ Some (standing self.new)) }
-        ensures not_enabled { result ≡ Err StepFault.NotEnabled → repeated count choice self.old.input (standing self.old) ≡ None }
+        ensures ok { OnOk result (repeated count choice self.old.input (played_so_far self.old) ≡ Some (played_so_far self.new)) }
+        ensures not_enabled { result ≡ Err StepFault.NotEnabled → repeated count choice self.old.input (played_so_far self.old) ≡ None }
         ensures made { Continues self.old self.new }
         ensures input { self.new.input ≡ self.old.input }
         ensures noted { OnOk result (R.has_noted recorder.old self.old.input (trace_of self.old) → R.has_noted recorder.new self.new.input (trace_of self.new)) }
@@ -64,8 +64,8 @@ impl Kernel<'_> {
         line: ScheduleLine,
         recorder: &mut R,
     ) -> Result<(), StepFault>
-        ensures ok { OnOk result (line_played line.what line.count self.old.input (standing self.old) ≡ Some (standing self.new)) }
-        ensures not_enabled { result ≡ Err StepFault.NotEnabled → line_played line.what line.count self.old.input (standing self.old) ≡ None }
+        ensures ok { OnOk result (line_played line.what line.count self.old.input (played_so_far self.old) ≡ Some (played_so_far self.new)) }
+        ensures not_enabled { result ≡ Err StepFault.NotEnabled → line_played line.what line.count self.old.input (played_so_far self.old) ≡ None }
         ensures made { Continues self.old self.new }
         ensures input { self.new.input ≡ self.old.input }
         ensures noted { OnOk result (R.has_noted recorder.old self.old.input (trace_of self.old) → R.has_noted recorder.new self.new.input (trace_of self.new)) }
@@ -84,8 +84,8 @@ impl Kernel<'_> {
         schedule: &ReadSchedule,
         recorder: &mut R,
     ) -> Result<(), PlayFault>
-        ensures ok { OnOk result (lines_played schedule.now.lines schedule.now.bad self.old.input (standing self.old) ≡ Choices self.new.choices) }
-        ensures bad_line { (line : ℕ) → result ≡ Err (PlayFault.BadLine line) → lines_played schedule.now.lines schedule.now.bad self.old.input (standing self.old) ≡ BadLine line }
+        ensures ok { OnOk result (lines_played schedule.now.lines schedule.now.bad self.old.input (played_so_far self.old) ≡ Choices self.new.choices) }
+        ensures bad_line { (line : ℕ) → result ≡ Err (PlayFault.BadLine line) → lines_played schedule.now.lines schedule.now.bad self.old.input (played_so_far self.old) ≡ BadLine line }
         ensures made { Continues self.old self.new }
         ensures input { self.new.input ≡ self.old.input }
         ensures noted { OnOk result (R.has_noted recorder.old self.old.input (trace_of self.old) → R.has_noted recorder.new self.new.input (trace_of self.new)) }

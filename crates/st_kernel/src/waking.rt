@@ -2,15 +2,15 @@
 ghost use Rattle.std.specs.Prelude.{◌≡◌, ◌⊎◌, ◌==◌, ◌≤◌, ◌<◌, ℕ, suc, true, false, length};
 ghost use Rattle.std.specs.List.{list_any};
 ghost use Rattle.st_law.specs.State.{State};
-ghost use Rattle.st_next.specs.Holding.{is_alike, message_held};
-ghost use Rattle.st_next.specs.Machine.{IsMachine};
-ghost use Rattle.st_messages.specs.Messages.{thread_at};
+ghost use Rattle.st_decide.specs.Holding.{is_same_rule, message_held};
+ghost use Rattle.st_decide.specs.Machine.{Refines};
+ghost use Rattle.st_messages.specs.Messages.{thread_of_number};
 ghost use Rattle.st_reached.specs.Waiting.{is_message_by, wakes, wakes_all};
 ghost use Rattle.st_kernel.specs.Waking.{holder_woken, is_asleep, is_woken, woken_by};
 
 use st_base::{Seq, Tid};
+use st_decide::View;
 use st_lookaside::Head;
-use st_next::View;
 use st_trace::{Change, Entry};
 
 /// Which threads may be able to move after an entry, and couldn't before.
@@ -19,7 +19,7 @@ pub enum Woken {
     Nobody,
     One(Tid),
     /// The threads that hold calls of the same policy and rule as the message of this number.
-    Alike(Seq),
+    SameRule(Seq),
     Everybody,
 }
 
@@ -42,8 +42,8 @@ fn wakes_some(changes: &[Change]) -> bool
 
 // The thread that holds the call of a number, or all threads if the holder isn't known.
 fn holder(machine: &View<'_, '_>, seq: Seq) -> Woken
-    ensures whom { result ≡ holder_woken (thread_at machine.now.workers.calls seq) }
-    ensures law { (st : State) → IsMachine machine.now st → (t : ℕ) → is_message_by st t seq ≡ true → is_woken machine.now result t ≡ true }
+    ensures whom { result ≡ holder_woken (thread_of_number machine.now.workers.calls seq) }
+    ensures law { (st : State) → Refines machine.now st → (t : ℕ) → is_message_by st t seq ≡ true → is_woken machine.now result t ≡ true }
 {
     match machine.holder(seq) {
         Some(tid) => Woken::One(tid),
@@ -54,7 +54,7 @@ fn holder(machine: &View<'_, '_>, seq: Seq) -> Woken
 /// Which threads an entry may wake, according to the machine after it.
 pub fn woken_by(machine: &View<'_, '_>, entry: &Entry) -> Woken
     ensures whom { result ≡ woken_by machine.now.workers.calls entry.now }
-    ensures law { (st : State) → IsMachine machine.now st → (t : ℕ) → wakes st entry.now t ≡ true → is_woken machine.now result t ≡ true }
+    ensures law { (st : State) → Refines machine.now st → (t : ℕ) → wakes st entry.now t ≡ true → is_woken machine.now result t ≡ true }
 {
     match entry {
         Entry::Used { changes, .. } => {
@@ -76,7 +76,7 @@ pub fn woken_by(machine: &View<'_, '_>, entry: &Entry) -> Woken
                 Woken::Nobody
             }
         }
-        Entry::Learned { seq, .. } | Entry::Replied { seq, .. } => Woken::Alike(*seq),
+        Entry::Learned { seq, .. } | Entry::Replied { seq, .. } => Woken::SameRule(*seq),
         _ => Woken::Nobody,
     }
 }
@@ -98,8 +98,8 @@ fn first_alike(machine: &View<'_, '_>, message: &Head, first: Tid) -> Tid
     requires { 1 ≤ first }
     ensures from { 1 ≤ result }
     ensures to { result ≤ first }
-    ensures here { (result ≡ first) ⊎ (is_alike message.now (message_held machine.now result) ≡ true) }
-    ensures before { (t : ℕ) → 1 ≤ t → t < result → is_alike message.now (message_held machine.now t) ≡ false }
+    ensures here { (result ≡ first) ⊎ (is_same_rule message.now (message_held machine.now result) ≡ true) }
+    ensures before { (t : ℕ) → 1 ≤ t → t < result → is_same_rule message.now (message_held machine.now t) ≡ false }
 {
     for tid in 1..first {
         if machine.holds_alike(tid, message) {
@@ -112,11 +112,11 @@ fn first_alike(machine: &View<'_, '_>, message: &Head, first: Tid) -> Tid
 // Marks the threads that hold calls of the same policy and rule as a message as awake. None of them is before `from`.
 fn wake_alike(machine: &View<'_, '_>, message: &Head, from: Tid, asleep: &mut [bool])
     requires from { 1 ≤ from }
-    requires before { (t : ℕ) → 1 ≤ t → t < from → is_alike message.now (message_held machine.now t) ≡ false }
+    requires before { (t : ℕ) → 1 ≤ t → t < from → is_same_rule message.now (message_held machine.now t) ≡ false }
     ensures count { length asleep.new ≡ length asleep.old }
     ensures before { (place : ℕ) → is_asleep asleep.new place ≡ true → is_asleep asleep.old place ≡ true }
-    ensures woken { (place : ℕ) → is_asleep asleep.new place ≡ true → is_alike message.now (message_held machine.now (suc place)) ≡ false }
-    ensures others { (place : ℕ) → is_asleep asleep.old place ≡ true → is_alike message.now (message_held machine.now (suc place)) ≡ false → is_asleep asleep.new place ≡ true }
+    ensures woken { (place : ℕ) → is_asleep asleep.new place ≡ true → is_same_rule message.now (message_held machine.now (suc place)) ≡ false }
+    ensures others { (place : ℕ) → is_asleep asleep.old place ≡ true → is_same_rule message.now (message_held machine.now (suc place)) ≡ false → is_asleep asleep.new place ≡ true }
 {
     for tid in from..machine.thread_count() + 1 {
         if machine.holds_alike(tid, message) {
@@ -138,7 +138,7 @@ impl Woken {
             Woken::Nobody => first,
             Woken::One(0) => first,
             Woken::One(tid) => first.min(tid),
-            Woken::Alike(seq) => match machine.message(seq) {
+            Woken::SameRule(seq) => match machine.message(seq) {
                 Some(message) => first_alike(machine, message, first),
                 None => 1,
             },
@@ -158,7 +158,7 @@ impl Woken {
         match self {
             Woken::Nobody => {}
             Woken::One(tid) => mark_awake(tid, asleep),
-            Woken::Alike(seq) => match machine.message(seq) {
+            Woken::SameRule(seq) => match machine.message(seq) {
                 Some(message) => wake_alike(machine, message, from, asleep),
                 None => asleep.fill(false),
             },

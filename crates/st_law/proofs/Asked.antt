@@ -38,20 +38,20 @@ use Rattle.st_effects.specs.Progress.{Progress, Word, Look, Stuck, Ready}
 use Rattle.st_law.specs.declared.input.Input.{Input}
 use Rattle.st_law.specs.declared.input.Mode.{Mode}
 use Rattle.st_law.specs.declared.input.Mode.TheVariants.{Enforce, Learn, AskText}
-use Rattle.st_law.specs.Meaning.{IsWorker, IsAt, AreCopies, IsWordAt, IsKeptFor, IsFirstKept, AreKeptFor, IsFirstFilter, IsPlainPermit, IsPlainDenial, IsLeft, IsNextReply, IsAsking, IsMadeWith, IsFoundAs, AreArgumentsOf}
+use Rattle.st_law.specs.Meaning.{IsWorker, IsWorkerAt, AreCopies, IsWordAt, IsKeptFor, IsFirstKept, AreKeptFor, IsFirstFilter, IsPlainPermit, IsPlainDenial, IsLeft, IsNextReply, IsAsking, IsMadeWith, IsSystemOfState, AreArgumentsOf}
 use Rattle.st_law.specs.Messages.{Head}
 use Rattle.st_law.specs.Sessions.{SessionFilter, is_kept_for, session_filters, verdict_or, is_reply_for}
-use Rattle.st_law.specs.State.{State, space_of_head, word_for, is_live, is_ready, progress_in, snapshot_in, seq_at_work, worker_at, decision_in, answer_for, filter_count, is_reply_left, next_reply, is_asked, is_undecided, is_open_question, is_question, child_of_pending, request_of, is_worker, progress_of_head, snapshot_with, snapshot_of_progress, system_of, arguments_now}
+use Rattle.st_law.specs.State.{State, space_of_head, word_for, is_live, is_ready, progress_in, snapshot_in, seq_at_work, worker_at, decision_in, answer_for, filter_count, is_reply_left, next_reply, operator_decides, is_undecided, is_open_question, is_question, child_of_pending, request_of, is_worker, progress_of_head, snapshot_with, snapshot_of_progress, system_of, arguments_now}
 use Rattle.st_law.proofs.Least.{least}
 use Rattle.st_law.proofs.OneStepTaken as one_step
 
 -- ---- workers
 
 module _ (st : State) (w q : ℕ) where
-  at : (o : Option ℕ) → st.turns w ≡ o → seq_at_work st o ≡ Some q → IsAt st w q
+  at : (o : Option ℕ) → st.turns w ≡ o → seq_at_work st o ≡ Some q → IsWorkerAt st w q
   at None e f = cc
   at (Some p) e f = by (is_live st p) refl (progress_in st p) refl f where
-    by : (b : Bool) → is_live st p ≡ b → (x : Progress) → progress_in st p ≡ x → cond (b || is_ready x) (Some p) None ≡ Some q → IsAt st w q
+    by : (b : Bool) → is_live st p ≡ b → (x : Progress) → progress_in st p ≡ x → cond (b || is_ready x) (Some p) None ≡ Some q → IsWorkerAt st w q
     by true live x is g = let same : p ≡ q = same_Some p q g in record { turn = e ∙ ap Some same; goes_on = inl (subst (λ k. is_live st k ≡ true) same live) }
     by false dead (Ready args) is g = let same : p ≡ q = same_Some p q g in record { turn = e ∙ ap Some same; goes_on = inr (args, subst (λ k. progress_in st k ≡ Ready args) same is) }
     by false dead (Word part place) is g = cc
@@ -62,7 +62,7 @@ module _ (st : State) (w q : ℕ) where
   goes_on (inl live) = ap (λ b. b || is_ready (progress_in st q)) live
   goes_on (inr ready) = or_right (is_live st q) (is_ready (progress_in st q)) (ap is_ready ready.1)
 
-  pub worker : (worker_at st w ≡ Some q) ↔ IsAt st w q
+  pub worker : (worker_at st w ≡ Some q) ↔ IsWorkerAt st w q
   worker = (at (st.turns w) refl, λ x. ap (seq_at_work st) x.turn ∙ ap (λ b. cond b (Some q) None) (goes_on x.goes_on))
 
 pub workers : (i : Input) (w : ℕ) → (is_worker i w ≡ true) ↔ IsWorker i w
@@ -347,14 +347,14 @@ module _ (i : Input) (st : State) (q : ℕ) where
     is_left None x r y = absurd (x r y)
     is_left (Some k) x r y = refl
 
-    operates : (mode : Mode) → i.options.mode ≡ mode → is_asked i st s mode ≡ true → Operates
+    operates : (mode : Mode) → i.options.mode ≡ mode → operator_decides i st s mode ≡ true → Operates
     operates Enforce e f = cc
     operates Learn e f = inl e
     operates AskText e f = inr (e, some_left (next_reply i st s.policy s.rule) (reply i st s.policy s.rule) f)
 
-    asked : Operates → is_asked i st s i.options.mode ≡ true
-    asked (inl e) = ap (is_asked i st s) e
-    asked (inr x) = ap (is_asked i st s) x.0 ∙ is_left (next_reply i st s.policy s.rule) (reply i st s.policy s.rule) x.1.0 x.1.1
+    asked : Operates → operator_decides i st s i.options.mode ≡ true
+    asked (inl e) = ap (operator_decides i st s) e
+    asked (inr x) = ap (operator_decides i st s) x.0 ∙ is_left (next_reply i st s.policy s.rule) (reply i st s.policy s.rule) x.1.0 x.1.1
 
     none_decides : verdict (read_filters i.policies s.policy s.rule) s ≡ Unmatched → verdict (session_filters st.session s.policy s.rule) s ≡ Unmatched → decision_in i st s ≡ Unmatched
     none_decides unread unkept =
@@ -364,7 +364,7 @@ module _ (i : Input) (st : State) (q : ℕ) where
   asks : is_live st q ≡ true → (st.messages q).answered ≡ true → (o : Option Snapshot) → snapshot_in st q ≡ o → is_open_question i st o ≡ true → IsAsking i st q
   asks live answered None e f = cc
   asks live answered (Some s) e f =
-      let both = and_parts (is_undecided (decision_in i st s)) (is_asked i st s i.options.mode) f in
+      let both = and_parts (is_undecided (decision_in i st s)) (operator_decides i st s i.options.mode) f in
       let none = both_undecided (verdict (read_filters i.policies s.policy s.rule) s)
       (verdict_from (suc (length (read_filters i.policies s.policy s.rule))) (session_filters st.session s.policy s.rule) s) (undecided (decision_in i st s) both.0) in record {
         live = live;
@@ -387,7 +387,7 @@ module _ (i : Input) (st : State) (q : ℕ) where
     back : IsAsking i st q → is_question i st q ≡ true
     back x = and_from (is_live st q && (st.messages q).answered) (is_open_question i st (snapshot_in st q))
         (and_from (is_live st q) (st.messages q).answered x.live x.answered)
-        (ap (is_open_question i st) x.copied ∙ and_from (is_undecided (decision_in i st x.copies)) (is_asked i st x.copies i.options.mode)
+        (ap (is_open_question i st) x.copied ∙ and_from (is_undecided (decision_in i st x.copies)) (operator_decides i st x.copies i.options.mode)
         (ap is_undecided (none_decides x.copies x.unread x.unkept)) (asked x.copies x.operator))
 
 -- ---- calls
@@ -396,7 +396,7 @@ pub made_with : (i : Input) (st : State) (t : ℕ) (regs : List ℕ) (args : Lis
 made_with i st t regs args ids =
     record { tid_is = refl; pid_is = refl; ids_are = refl; regs_are = refl; args_are = refl; child_is = λ entered e. ap child_of_pending e; inherit_is = refl }
 
-pub found_as : (i : Input) (st : State) → IsFoundAs st (system_of i st)
+pub found_as : (i : Input) (st : State) → IsSystemOfState st (system_of i st)
 found_as i st = record {
   tree_is = refl;
   memory_is = refl;

@@ -92,36 +92,36 @@ module _ (i : Input) (t n : ℕ) (call : SysCall) (regs : List ℕ) (errno : Err
 -- ---- all later entries
 
 module _ (i : Input) (startable : IsStartable i) (t n : ℕ) (call : SysCall) (regs : List ℕ) where
-  abbrev behind : History → History → History
-  behind later earlier = later ++ Entered t call regs (Barred n) ∷ earlier
+  abbrev following : History → History → History
+  following later earlier = later ++ Entered t call regs (Barred n) ∷ earlier
 
-  entering : (later earlier : History) → IsLawfulBack i (behind later earlier) → IsEntered i (looking_back i earlier) t call regs (Barred n)
+  entering : (later earlier : History) → IsLawfulBack i (following later earlier) → IsEntered i (looking_back i earlier) t call regs (Barred n)
   entering [] earlier lawful = lawful.0
   entering (e ∷ later) earlier lawful = entering later earlier lawful.1
 
-  bars_since : (errno : Errno) (later earlier : History) → answer_at i earlier t call regs ≡ answer.Refuse errno → IsLawfulBack i (behind later earlier) → NoneTouches (EndsCallOf t) later (Entered t call regs (Barred n) ∷ earlier)
-      → Bars i t n call regs errno (looking_back i (behind later earlier))
+  bars_since : (errno : Errno) (later earlier : History) → answer_at i earlier t call regs ≡ answer.Refuse errno → IsLawfulBack i (following later earlier) → NoneTouches (EndsCallOf t) later (Entered t call regs (Barred n) ∷ earlier)
+      → Bars i t n call regs errno (looking_back i (following later earlier))
   bars_since errno [] earlier refused lawful waits = entered_bars i t n call regs errno (looking_back i earlier) lawful.0 refused
   bars_since errno (e ∷ later) earlier refused lawful waits =
-      let x : Bars i t n call regs errno (looking_back i (behind later earlier)) = bars_since errno later earlier refused lawful.1 waits.1 in
-      let whole : Whole i (looking_back i (behind later earlier)) = whole_of i startable (behind later earlier) lawful.1 in
-      bars_on i t n call regs errno (looking_back i (behind later earlier)) x whole.calls e (behind later earlier) lawful.0 waits.0
+      let x : Bars i t n call regs errno (looking_back i (following later earlier)) = bars_since errno later earlier refused lawful.1 waits.1 in
+      let whole : Whole i (looking_back i (following later earlier)) = whole_of i startable (following later earlier) lawful.1 in
+      bars_on i t n call regs errno (looking_back i (following later earlier)) x whole.calls e (following later earlier) lawful.0 waits.0
 
   module _ (later earlier : History) (since : IsBarredSince i t n call regs later earlier) where
     first : IsEntered i (looking_back i earlier) t call regs (Barred n)
     first = entering later earlier since.lawful
 
     abbrev Still : Type 0
-    Still = Bars i t n call regs first.way_is.2 (looking_back i (behind later earlier))
+    Still = Bars i t n call regs first.way_is.2 (looking_back i (following later earlier))
 
     still : Still
     still = bars_since first.way_is.2 later earlier first.way_is.3 since.lawful since.waits
 
-    pub stands : is_dying_at i (behind later earlier) t ≡ false → answer_at i (behind later earlier) t call regs ≡ answer_at i earlier t call regs
+    pub stands : is_dying_at i (following later earlier) t ≡ false → answer_at i (following later earlier) t call regs ≡ answer_at i earlier t call regs
     stands undying = let x : Still = still in x.refused undying ∙ sym first.way_is.3
 
     -- the pending call is this call
-    same_call : (made : SysCall) (given : List ℕ) (way : Way) (child : ℕ) → ((looking_back i (behind later earlier)).threads t).pending ≡ Some (record { call = made; regs = given; way = way; child = child }) → (Barred n ≡ way) × (call ≡ made) × (regs ≡ given)
+    same_call : (made : SysCall) (given : List ℕ) (way : Way) (child : ℕ) → ((looking_back i (following later earlier)).threads t).pending ≡ Some (record { call = made; regs = given; way = way; child = child }) → (Barred n ≡ way) × (call ≡ made) × (regs ≡ given)
     same_call made given way child e =
         let x : Still = still in
         let same : Barring i t n call regs first.way_is.2 x.child ≡ record { call = made; regs = given; way = way; child = child } =
@@ -131,17 +131,17 @@ module _ (i : Input) (startable : IsStartable i) (t n : ℕ) (call : SysCall) (r
     not_held : (q : ℕ) → Barred n ≡ Held q → ⊥
     not_held q e = cc
 
-    pub unmade : (seq : Option ℕ) (made : SysCall) (given : List ℕ) (args : List ArgText) (ids : Ids) (result : CallResult) (changes : List Change) → IsLawfulBack i (Used t seq made given args ids result changes ∷ behind later earlier) → ⊥
+    pub unmade : (seq : Option ℕ) (made : SysCall) (given : List ℕ) (args : List ArgText) (ids : Ids) (result : CallResult) (changes : List Change) → IsLawfulBack i (Used t seq made given args ids result changes ∷ following later earlier) → ⊥
     unmade None made given args ids result changes lawful =
         let same = same_call made given lawful.0.way lawful.0.entered.0 lawful.0.entered.1 in subst IsUnheld (sym same.0) lawful.0.unheld
     unmade (Some q) made given args ids result changes lawful =
         let same = same_call made given (Held lawful.0.held.first) lawful.0.held.entered.0 lawful.0.held.entered.1 in not_held lawful.0.held.first same.0
 
-    pub denied : (seq : Option ℕ) (errno : Errno) (cause : Cause) → IsLawfulBack i (Denied t seq errno cause ∷ behind later earlier) → IsDeniedByBar i t call regs earlier seq errno cause
+    pub denied : (seq : Option ℕ) (errno : Errno) (cause : Cause) → IsLawfulBack i (Denied t seq errno cause ∷ following later earlier) → IsDeniedByBar i t call regs earlier seq errno cause
     denied None errno cause lawful =
         let same = same_call lawful.0.call lawful.0.regs (Barred 1) lawful.0.entered.0 lawful.0.entered.1 in record {
           unheld = refl;
-          refused = sym (stands lawful.0.running.undying) ∙ (λ k. answer_at i (behind later earlier) t (same.1 k) (same.2 k)) ∙ lawful.0.refused;
+          refused = sym (stands lawful.0.running.undying) ∙ (λ k. answer_at i (following later earlier) t (same.1 k) (same.2 k)) ∙ lawful.0.refused;
           cause_is = lawful.0.cause_is;
         }
     denied (Some q) errno cause lawful =

@@ -61,26 +61,26 @@ module _ (st : State) (x : Copies st) where
   within_more seen p j short false = x.within p j
 
   -- the bounds are kept by each lawful entry, while the tree's links are short
-  pub copies_behind : (i : Input) → HasShortLinks st.tree → (e : Entry) → IsLawful i st e → Copies (state_after i st e)
-  copies_behind i short (Copied q part place word) y = let few = few_words_due q part place y.due in
+  pub copies_later : (i : Input) → HasShortLinks st.tree → (e : Entry) → IsLawful i st e → Copies (state_after i st e)
+  copies_later i short (Copied q part place word) y = let few = few_words_due q part place y.due in
       record { words = λ p j. word_more q part word p j few.1 (q == p) (part == j) refl refl; lookups = x.lookups; within = x.within }
-  copies_behind i short (Looked q part name seen) y = let few = few_looks_due q part name y.due in record {
+  copies_later i short (Looked q part name seen) y = let few = few_looks_due q part name y.due in record {
     words = x.words;
     lookups = λ p j. look_more q part seen p j few.1 (q == p) (part == j) refl refl;
     within = λ p j. within_more seen p j (subst (λ s. link_parts s ≤ 128) (sym y.seen_is) (looked_short st.tree name short)) (q == p && part == j);
   }
-  copies_behind i short (Stored u place word) y = record { words = x.words; lookups = x.lookups; within = x.within }
-  copies_behind i short (Entered u call regs way) y = record { words = x.words; lookups = x.lookups; within = x.within }
-  copies_behind i short (Claimed w q) y = record { words = x.words; lookups = x.lookups; within = x.within }
-  copies_behind i short (Faulted q errno) y = record { words = x.words; lookups = x.lookups; within = x.within }
-  copies_behind i short (Answered w s v applied) y = record { words = x.words; lookups = x.lookups; within = x.within }
-  copies_behind i short (Used u seq call regs args ids result changes) y = record { words = x.words; lookups = x.lookups; within = x.within }
-  copies_behind i short (Denied u seq errno cause) y = record { words = x.words; lookups = x.lookups; within = x.within }
-  copies_behind i short (Ended u) y = record { words = x.words; lookups = x.lookups; within = x.within }
-  copies_behind i short (Learned q n) y = record { words = x.words; lookups = x.lookups; within = x.within }
-  copies_behind i short (Replied q reply n) y = record { words = x.words; lookups = x.lookups; within = x.within }
+  copies_later i short (Stored u place word) y = record { words = x.words; lookups = x.lookups; within = x.within }
+  copies_later i short (Entered u call regs way) y = record { words = x.words; lookups = x.lookups; within = x.within }
+  copies_later i short (Claimed w q) y = record { words = x.words; lookups = x.lookups; within = x.within }
+  copies_later i short (Faulted q errno) y = record { words = x.words; lookups = x.lookups; within = x.within }
+  copies_later i short (Answered w s v applied) y = record { words = x.words; lookups = x.lookups; within = x.within }
+  copies_later i short (Used u seq call regs args ids result changes) y = record { words = x.words; lookups = x.lookups; within = x.within }
+  copies_later i short (Denied u seq errno cause) y = record { words = x.words; lookups = x.lookups; within = x.within }
+  copies_later i short (Ended u) y = record { words = x.words; lookups = x.lookups; within = x.within }
+  copies_later i short (Learned q n) y = record { words = x.words; lookups = x.lookups; within = x.within }
+  copies_later i short (Replied q reply n) y = record { words = x.words; lookups = x.lookups; within = x.within }
 
 -- the bounds hold after every lawful history
 pub copies_of : (i : Input) → IsStartable i → (h : History) → IsLawfulBack i h → Copies (looking_back i h)
 copies_of i startable [] lawful = record { words = λ q j. omega arith; lookups = λ q j. omega arith; within = λ q j. tt }
-copies_of i startable (e ∷ h) lawful = copies_behind (looking_back i h) (copies_of i startable h lawful.1) i (links_short i startable h lawful.1) e lawful.0
+copies_of i startable (e ∷ h) lawful = copies_later (looking_back i h) (copies_of i startable h lawful.1) i (links_short i startable h lawful.1) e lawful.0

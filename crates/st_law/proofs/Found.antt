@@ -7,7 +7,7 @@ use Rattle.st_effects.specs.System.{HeldCall}
 use Rattle.st_trace.specs.declared.entry.Way.{Way}
 use Rattle.st_trace.specs.declared.entry.Way.TheVariants.{Fast, Barred, Held, Untraced}
 use Rattle.st_law.specs.declared.input.Input.{Input}
-use Rattle.st_law.specs.Laws.{IsOneOf, IsThere, AreHeld}
+use Rattle.st_law.specs.Laws.{IsOneOf, IsProcessLive, AreHeldCalls}
 use Rattle.st_law.specs.Sessions.{least_from}
 use Rattle.st_law.specs.State.{State, thread_count, is_some_thread, is_thread_of, is_running_in, is_live_process, held_by_way, held_by_pending, held_from}
 use Rattle.st_law.specs.Threads.{PendingCall}
@@ -57,9 +57,9 @@ module _ (i : Input) (st : State) (p : ℕ) where
   runs_by a b (inl some) (inr ends) (inr run) =
       absurd (true≢false (sym (and_from ((st.threads run.0).owner == p) (not (st.threads run.0).ended) (eq-eqb (st.threads run.0).owner p run.2) (ap not run.3)) ∙ ends.1 run.0 run.1))
 
-  pub live : (is_live_process i st p ≡ true) ↔ IsThere i st p
+  pub live : (is_live_process i st p ≡ true) ↔ IsProcessLive i st p
   live = (there, lives) where
-    there : is_live_process i st p ≡ true → IsThere i st p
+    there : is_live_process i st p ≡ true → IsProcessLive i st p
     there e =
         let x = and_parts (nat_lt 0 p && nat_lt p st.next_process) (not (is_some_thread i (is_thread_of st p)) || is_some_thread i (is_running_in st p)) e in
         let y = and_parts (nat_lt 0 p) (nat_lt p st.next_process) x.0 in
@@ -69,7 +69,7 @@ module _ (i : Input) (st : State) (p : ℕ) where
           running = running_by (is_some_thread i (is_thread_of st p)) (is_some_thread i (is_running_in st p)) x.1 (some_or_none i (is_thread_of st p)) (some_or_none i (is_running_in st p));
         }
 
-    lives : IsThere i st p → is_live_process i st p ≡ true
+    lives : IsProcessLive i st p → is_live_process i st p ≡ true
     lives x = and_from (nat_lt 0 p && nat_lt p st.next_process) (not (is_some_thread i (is_thread_of st p)) || is_some_thread i (is_running_in st p))
         (and_from (nat_lt 0 p) (nat_lt p st.next_process) (lt-ltb 0 p x.low) (lt-ltb p st.next_process x.given))
         (runs_by (is_some_thread i (is_thread_of st p)) (is_some_thread i (is_running_in st p)) (some_or_none i (is_thread_of st p)) (some_or_none i (is_running_in st p)) x.running)
@@ -129,9 +129,9 @@ module _ (st : State) where
   abbrev IsIn : ℕ → List HeldCall → Type 0
   IsIn t helds = (k : ℕ) × (slice_get helds k ≡ Some (held_of st t))
 
-  behind : (t : ℕ) (front helds : List HeldCall) → IsIn t helds → IsIn t (front ++ helds)
-  behind t [] helds x = x
-  behind t (first ∷ front) helds x = let y : IsIn t (front ++ helds) = behind t front helds x in (suc y.0, y.1)
+  following : (t : ℕ) (front helds : List HeldCall) → IsIn t helds → IsIn t (front ++ helds)
+  following t [] helds x = x
+  following t (first ∷ front) helds x = let y : IsIn t (front ++ helds) = following t front helds x in (suc y.0, y.1)
 
   is_in : (t a count : ℕ) → IsHolder st t → a ≤ t → t < a + count → IsIn t (held_from st a count)
   is_in t a zero x low high = absurd (omega (arith, low, high))
@@ -139,9 +139,9 @@ module _ (st : State) where
     by : (b : Bool) → (a == t) ≡ b → (a ≢ t → IsIn t (held_from st (suc a) count)) → IsIn t (held_by_pending st a (st.threads a).pending ++ held_from st (suc a) count)
     by true e later = subst (λ n. IsIn t (held_by_pending st n (st.threads n).pending ++ held_from st (suc a) count)) (sym (eqb-true a t e))
         (subst (λ front. IsIn t (front ++ held_from st (suc a) count)) (sym (own_of st t x)) (0, refl))
-    by false e later = behind t (held_by_pending st a (st.threads a).pending) (held_from st (suc a) count) (later (eqb-false a t e))
+    by false e later = following t (held_by_pending st a (st.threads a).pending) (held_from st (suc a) count) (later (eqb-false a t e))
 
-pub held : (i : Input) (st : State) → AreHeld i st (held_from st 1 (thread_count i))
+pub held : (i : Input) (st : State) → AreHeldCalls i st (held_from st 1 (thread_count i))
 held i st =
     let all = rises st (suc (thread_count i)) 1 (thread_count i) (omega arith) in record {
       sound = λ k held e. let x = item_of st (suc (thread_count i)) 1 k (held_from st 1 (thread_count i)) held all e in (

@@ -18,7 +18,7 @@ use Rattle.st_law.specs.Processes.{process_count}
 use Rattle.st_law.specs.State.{State}
 use Rattle.st_law.specs.Threads.{History, first_owner, body_of, body_of_row, owner_of_row}
 use Rattle.st_law.proofs.Invariant.{Invariant}
-use Rattle.st_law.proofs.Preserved.{behind}
+use Rattle.st_law.proofs.Preserved.{following}
 use Rattle.st_law.proofs.Steps.{Says}
 use Rattle.st_law.proofs.ThreadSteps.{thread_step}
 use Rattle.st_law.proofs.Ties.{state-is}
@@ -67,7 +67,7 @@ module _ (i : Input) (startable : IsStartable i) where
   -- the invariant holds after a lawful history
   pub invariant_of : (h : History) → IsLawfulBack i h → Invariant i (looking_back i h)
   invariant_of [] lawful = at_first
-  invariant_of (e ∷ h) lawful = behind i (looking_back i h) (invariant_of h lawful.1) e lawful.0
+  invariant_of (e ∷ h) lawful = following i (looking_back i h) (invariant_of h lawful.1) e lawful.0
 
   step_of : (st : State) (c : Choice) → Invariant i st → Says (IsLawful i st) (entry_of i st c)
   step_of st (choice.Thread t) inv = thread_step i st t inv
@@ -92,10 +92,10 @@ run_lawful i startable choices = subst (IsLawfulBack i) (sym (reverse-reverse (h
 
 -- ---- prefixes
 
-behind_front : (i : Input) (later earlier : History) → IsLawfulBack i (later ++ earlier) → IsLawfulBack i earlier
-behind_front i [] earlier lawful = lawful
-behind_front i (e ∷ later) earlier lawful = behind_front i later earlier lawful.1
+after_front : (i : Input) (later earlier : History) → IsLawfulBack i (later ++ earlier) → IsLawfulBack i earlier
+after_front i [] earlier lawful = lawful
+after_front i (e ∷ later) earlier lawful = after_front i later earlier lawful.1
 
 -- every prefix of a lawful trace is lawful
 pub prefix_lawful : (i : Input) (front rest : List Entry) → Lawful i (front ++ rest) → Lawful i front
-prefix_lawful i front rest lawful = behind_front i (reverse rest) (reverse front) (subst (IsLawfulBack i) (reverse-append front rest) lawful)
+prefix_lawful i front rest lawful = after_front i (reverse rest) (reverse front) (subst (IsLawfulBack i) (reverse-append front rest) lawful)

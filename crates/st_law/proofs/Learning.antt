@@ -30,7 +30,7 @@ use Rattle.st_law.specs.Inputs.{IsStartable}
 use Rattle.st_law.specs.Lawful.{IsLearned, IsLawfulBack}
 use Rattle.st_law.specs.Machine.{state_after}
 use Rattle.st_law.specs.Sessions.{SessionFilter, is_kept_for, session_filters, kept_for, learnt_by, replied_by, test_of, learnt_formula, learnt_filter, verdict_or, decision}
-use Rattle.st_law.specs.State.{State, is_live, snapshot_in, snapshot_of_message, read_for, decision_in, is_undecided, is_asked, is_open_question, is_question}
+use Rattle.st_law.specs.State.{State, is_live, snapshot_in, snapshot_of_message, read_for, decision_in, is_undecided, operator_decides, is_open_question, is_question}
 use Rattle.st_law.specs.Threads.{History}
 use Rattle.st_law.proofs.Growth.{session_append}
 use Rattle.st_law.proofs.Laws.{all_at}
@@ -148,7 +148,7 @@ both_undecided Unmatched w e = (refl, e)
 pub question_undecided : (i : Input) (st : State) (q : ℕ) (s : Snapshot) → is_question i st q ≡ true → snapshot_in st q ≡ Some s → decision_in i st s ≡ Unmatched
 question_undecided i st q s e copies =
     let is_open : is_open_question i st (Some s) ≡ true = subst (λ o. is_open_question i st o ≡ true) copies (and_parts (is_live st q && (st.messages q).answered) (is_open_question i st (snapshot_in st q)) e).1 in
-    undecided (decision_in i st s) (and_parts (is_undecided (decision_in i st s)) (is_asked i st s i.options.mode) is_open).0
+    undecided (decision_in i st s) (and_parts (is_undecided (decision_in i st s)) (operator_decides i st s i.options.mode) is_open).0
 
 kept_own : (f : FilterValue) (s : Snapshot) → is_kept_for s.policy s.rule (kept_for f s) ≡ true
 kept_own f s = and_from (bytes_eq s.policy s.policy) (same_rule s.rule s.rule) (same_bytes s.policy) ((same_rule-Decides s.rule s.rule).1 refl)

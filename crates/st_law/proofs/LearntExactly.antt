@@ -11,7 +11,7 @@ use Rattle.st_calls.specs.declared.judged.Snapshot.{Snapshot}
 use Rattle.st_filter.specs.Formula.{Formula, And}
 use Rattle.st_filter.specs.Judging.{holds, ids_match, is_true, test_holds_of}
 use Rattle.st_filter.specs.declared.filter.Op.TheVariants.{Eq}
-use Rattle.st_law.specs.Laws.{StandsAmong, AllStandAmong}
+use Rattle.st_law.specs.Laws.{HasEqualArgument, HaveEqualArguments}
 use Rattle.st_law.specs.Sessions.{test_of, learnt_formula, learnt_filter}
 
 -- ---- one test
@@ -37,7 +37,7 @@ any_of p (first ∷ xs) zero x e f = let same : first ≡ x = cc in or_left (p f
 any_of p (first ∷ xs) (suc k) x e f = or_right (p first) (list_any p xs) (any_of p xs k x e f)
 
 module _ (args : List ArgText) where
-  test_tells : (arg : ArgText) → is_true (test_of arg) args ≡ true → StandsAmong args arg
+  test_tells : (arg : ArgText) → is_true (test_of arg) args ≡ true → HasEqualArgument args arg
   test_tells arg e =
       let x : There (test_holds_of (name_of_label arg.label) arg.index Eq arg.text) args = there_of (test_holds_of (name_of_label arg.label) arg.index Eq arg.text) args e in
       let both = and_parts (bytes_eq (name_of_label x.item.label) (name_of_label arg.label) && x.item.index == arg.index) (bytes_eq x.item.text arg.text) x.holds in
@@ -50,8 +50,8 @@ module _ (args : List ArgText) where
         text = (bytes_eq-Decides x.item.text arg.text).0 both.1;
       }
 
-  test_told : (arg : ArgText) → StandsAmong args arg → is_true (test_of arg) args ≡ true
-  test_told arg x = any_of (test_holds_of (name_of_label arg.label) arg.index Eq arg.text) args x.place x.same x.there
+  test_recorded : (arg : ArgText) → HasEqualArgument args arg → is_true (test_of arg) args ≡ true
+  test_recorded arg x = any_of (test_holds_of (name_of_label arg.label) arg.index Eq arg.text) args x.place x.same x.there
       (and_from (bytes_eq (name_of_label x.same.label) (name_of_label arg.label) && x.same.index == arg.index) (bytes_eq x.same.text arg.text)
       (and_from (bytes_eq (name_of_label x.same.label) (name_of_label arg.label)) (x.same.index == arg.index)
       ((bytes_eq-Decides (name_of_label x.same.label) (name_of_label arg.label)).1 x.label) (eq-eqb x.same.index arg.index x.index))
@@ -62,37 +62,37 @@ module _ (args : List ArgText) where
   abbrev joined : Formula → List ArgText → Formula
   joined f rest = fold (λ formula other. And formula (test_of other)) f rest
 
-  joined_tells : (f : Formula) (rest : List ArgText) → is_true (joined f rest) args ≡ true → (is_true f args ≡ true) × AllStandAmong args rest
+  joined_tells : (f : Formula) (rest : List ArgText) → is_true (joined f rest) args ≡ true → (is_true f args ≡ true) × HaveEqualArguments args rest
   joined_tells f [] e = (e, λ j arg there. absurd (nothing j arg there)) where
     nothing : (j : ℕ) (arg : ArgText) → slice_get [] j ≡ Some arg → ⊥
     nothing zero arg e = cc
     nothing (suc j) arg e = cc
   joined_tells f (first ∷ rest) e =
-      let x : (is_true (And f (test_of first)) args ≡ true) × AllStandAmong args rest = joined_tells (And f (test_of first)) rest e in
+      let x : (is_true (And f (test_of first)) args ≡ true) × HaveEqualArguments args rest = joined_tells (And f (test_of first)) rest e in
       let both = and_parts (is_true f args) (is_true (test_of first) args) x.0 in
       (both.0, each (test_tells first both.1) x.1) where
-        each : StandsAmong args first → AllStandAmong args rest → AllStandAmong args (first ∷ rest)
-        each here later zero arg there = subst (StandsAmong args) (same_Some first arg there) here
+        each : HasEqualArgument args first → HaveEqualArguments args rest → HaveEqualArguments args (first ∷ rest)
+        each here later zero arg there = subst (HasEqualArgument args) (same_Some first arg there) here
         each here later (suc j) arg there = later j arg there
 
-  joined_told : (f : Formula) (rest : List ArgText) → is_true f args ≡ true → AllStandAmong args rest → is_true (joined f rest) args ≡ true
-  joined_told f [] e all = e
-  joined_told f (first ∷ rest) e all =
-      joined_told (And f (test_of first)) rest (and_from (is_true f args) (is_true (test_of first) args) e (test_told first (all 0 first refl))) (λ j arg there. all (suc j) arg there)
+  joined_recorded : (f : Formula) (rest : List ArgText) → is_true f args ≡ true → HaveEqualArguments args rest → is_true (joined f rest) args ≡ true
+  joined_recorded f [] e all = e
+  joined_recorded f (first ∷ rest) e all =
+      joined_recorded (And f (test_of first)) rest (and_from (is_true f args) (is_true (test_of first) args) e (test_recorded first (all 0 first refl))) (λ j arg there. all (suc j) arg there)
 
-  tells : (wanted : List ArgText) → is_true (learnt_formula wanted) args ≡ true → AllStandAmong args wanted
+  tells : (wanted : List ArgText) → is_true (learnt_formula wanted) args ≡ true → HaveEqualArguments args wanted
   tells [] e = (joined_tells (learnt_formula []) [] e).1
   tells (first ∷ rest) e = each (joined_tells (test_of first) rest e) where
-    each : (is_true (test_of first) args ≡ true) × AllStandAmong args rest → AllStandAmong args (first ∷ rest)
-    each x zero arg there = subst (StandsAmong args) (same_Some first arg there) (test_tells first x.0)
+    each : (is_true (test_of first) args ≡ true) × HaveEqualArguments args rest → HaveEqualArguments args (first ∷ rest)
+    each x zero arg there = subst (HasEqualArgument args) (same_Some first arg there) (test_tells first x.0)
     each x (suc j) arg there = x.1 j arg there
 
-  told : (wanted : List ArgText) → AllStandAmong args wanted → is_true (learnt_formula wanted) args ≡ true
-  told [] all = refl
-  told (first ∷ rest) all = joined_told (test_of first) rest (test_told first (all 0 first refl)) (λ j arg there. all (suc j) arg there)
+  recorded : (wanted : List ArgText) → HaveEqualArguments args wanted → is_true (learnt_formula wanted) args ≡ true
+  recorded [] all = refl
+  recorded (first ∷ rest) all = joined_recorded (test_of first) rest (test_recorded first (all 0 first refl)) (λ j arg there. all (suc j) arg there)
 
-pub exactly : (s u : Snapshot) → (holds (learnt_filter s) u ≡ true) ↔ AllStandAmong u.parts s.parts
+pub exactly : (s u : Snapshot) → (holds (learnt_filter s) u ≡ true) ↔ HaveEqualArguments u.parts s.parts
 exactly s u = (
   λ e. tells u.parts s.parts (and_parts (is_true (learnt_formula s.parts) u.parts) (ids_match None u.ids) e).0,
-  λ all. and_from (is_true (learnt_formula s.parts) u.parts) (ids_match None u.ids) (told u.parts s.parts all) refl,
+  λ all. and_from (is_true (learnt_formula s.parts) u.parts) (ids_match None u.ids) (recorded u.parts s.parts all) refl,
 )

@@ -94,11 +94,11 @@ module _ (i : Input) (st : State) (whole : Whole i st) (copies : Copies st) wher
   pub copies_stay : (new : State) → Moves st new → (p : ℕ) → p ≤ st.posted → (new.messages p).words ≡ (st.messages p).words → (new.messages p).lookups ≡ (st.messages p).lookups → snapshot_in new p ≡ snapshot_in st p
   copies_stay new moved p low words lookups = λ k. snapshot_of_progress p (moved.heads p low k) (progress_of_head (moved.heads p low k) (words k) (lookups k))
 
-  pub behind_entered : (u : ℕ) (call : SysCall) (regs : List ℕ) (way : Way) → IsEntered i st u call regs way → Lessens (Entered u call regs way)
-  behind_entered u call regs Fast y = entered_less u call regs Fast y (omega arith)
-  behind_entered u call regs Untraced y = entered_less u call regs Untraced y (omega arith)
-  behind_entered u call regs (Barred n) y = entered_less u call regs (Barred n) y (omega arith)
-  behind_entered u call regs (Held q) y = entered_less u call regs (Held q) y
+  pub after_entered : (u : ℕ) (call : SysCall) (regs : List ℕ) (way : Way) → IsEntered i st u call regs way → Lessens (Entered u call regs way)
+  after_entered u call regs Fast y = entered_less u call regs Fast y (omega arith)
+  after_entered u call regs Untraced y = entered_less u call regs Untraced y (omega arith)
+  after_entered u call regs (Barred n) y = entered_less u call regs (Barred n) y (omega arith)
+  after_entered u call regs (Held q) y = entered_less u call regs (Held q) y
       (let most = messages_more i st copies (state_after i st (Entered u call regs (Held q))) [] (sym (append-nil st.session)) 1 (let e : suc st.posted ≡ st.posted + 1 = omega arith in e)
       (λ p from to. record { claimed = refl; taken_is = refl; turn = λ e. e; copies = copies_stay (state_after i st (Entered u call regs (Held q))) (moves i st whole.calls (Entered u call regs (Held q)) y) p to refl refl }) in
       omega (arith, most))
@@ -150,12 +150,12 @@ module _ (i : Input) (st : State) (whole : Whole i st) (copies : Copies st) wher
         (λ t e. let other = other_pending u t e in omega (arith, other))
         (let low = moved.posted in let high = x.1 in let most = used_messages moved (used.posted - st.posted) (omega (arith, low)) in omega (arith, most, high, low)) (omega arith)
 
-  pub behind_used : thread_count i ≤ 64 → (u : ℕ) (seq : Option ℕ) (call : SysCall) (regs : List ℕ) (args : List ArgText) (ids : Ids) (result : CallResult) (changes : List Change) → IsUsed i st u seq call regs args ids result changes → Lessens (Used u seq call regs args ids result changes)
-  behind_used few u None call regs args ids result changes y = used_less few u None call regs args ids result changes y.way y.running y.entered
+  pub after_used : thread_count i ≤ 64 → (u : ℕ) (seq : Option ℕ) (call : SysCall) (regs : List ℕ) (args : List ArgText) (ids : Ids) (result : CallResult) (changes : List Change) → IsUsed i st u seq call regs args ids result changes → Lessens (Used u seq call regs args ids result changes)
+  after_used few u None call regs args ids result changes y = used_less few u None call regs args ids result changes y.way y.running y.entered
       (moves i st whole.calls (Used u None call regs args ids result changes) y) (used_posts i st few u call regs args ids result changes None y)
-  behind_used few u (Some q) call regs args ids result changes y = used_less few u (Some q) call regs args ids result changes (Held y.held.first) y.running y.held.entered
+  after_used few u (Some q) call regs args ids result changes y = used_less few u (Some q) call regs args ids result changes (Held y.held.first) y.running y.held.entered
       (moves i st whole.calls (Used u (Some q) call regs args ids result changes) y) (used_posts i st few u call regs args ids result changes (Some q) y)
 
-  pub behind_denied : (u : ℕ) (seq : Option ℕ) (errno : Errno) (cause : Cause) → IsDenied i st u seq errno cause → Lessens (Denied u seq errno cause)
-  behind_denied u None errno cause y = denied_less u None errno cause y.call y.regs (Barred 1) y.running y.entered
-  behind_denied u (Some q) errno cause y = denied_less u (Some q) errno cause y.call y.regs (Held y.held.first) y.running y.held.entered
+  pub after_denied : (u : ℕ) (seq : Option ℕ) (errno : Errno) (cause : Cause) → IsDenied i st u seq errno cause → Lessens (Denied u seq errno cause)
+  after_denied u None errno cause y = denied_less u None errno cause y.call y.regs (Barred 1) y.running y.entered
+  after_denied u (Some q) errno cause y = denied_less u (Some q) errno cause y.call y.regs (Held y.held.first) y.running y.held.entered

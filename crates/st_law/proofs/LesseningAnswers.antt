@@ -12,12 +12,12 @@ use Rattle.st_trace.specs.declared.entry.Entry.TheVariants.{Stored, Entered, Cla
 use Rattle.st_law.specs.declared.input.Input.{Input}
 use Rattle.st_law.specs.Lawful.{IsReplied, IsLearned, IsLawful}
 use Rattle.st_law.specs.Machine.{state_after}
-use Rattle.st_law.specs.Schedules.{step_of}
+use Rattle.st_law.specs.Schedules.{served_number}
 use Rattle.st_law.specs.Sessions.{SessionFilter, learnt_by, replied_by, is_reply_for, least_from}
 use Rattle.st_law.specs.State.{State, thread_count, is_live, is_open_question, is_question, is_undecided, snapshot_in}
 use Rattle.st_law.proofs.Copies.{Copies, few_words_due, few_looks_due}
 use Rattle.st_law.proofs.Learning.{IsPlain, question_undecided, learned_permits}
-use Rattle.st_law.proofs.Lessening.{Lessens, copies_stay, stored_less, behind_entered, behind_used, behind_denied, ended_less}
+use Rattle.st_law.proofs.Lessening.{Lessens, copies_stay, stored_less, after_entered, after_used, after_denied, ended_less}
 use Rattle.st_law.proofs.LesseningWork.{number_low, IsStepOn, step_on, step_less, step_taken, same_session, claimed_step, copied_step, looked_step, faulted_step, answered_step}
 use Rattle.st_model.specs.Tree.{is_number}
 use Rattle.st_law.proofs.Lowering.{unmoved_low, turn_gone, messages_more}
@@ -46,11 +46,11 @@ module _ (i : Input) (st : State) (whole : Whole i st) (copies : Copies st) wher
       let before : message_cost i st q ≡ step_unless false =
       (λ k. remaining (claimed k) (nobody k) (taken (st.messages q)) (may_be_learnt i st (y.asked.copies k)))
       ∙ ap (λ v. step_unless (not (is_undecided v))) (question_undecided i st q y.copies y.asked.question y.asked.copies) in
-      let behind : message_cost i (state_after i st (Learned q n)) q ≡ step_unless true =
+      let following : message_cost i (state_after i st (Learned q n)) q ≡ step_unless true =
       (λ k. remaining (claimed k) (nobody k) (taken (st.messages q)) (may_be_learnt i (state_after i st (Learned q n)) (y.asked.copies k)))
       ∙ ap (λ v. step_unless (not (is_undecided v))) (learned_permits i st plain q n y) in
       step_on i st whole copies (Learned q n) q (learnt_by (snapshot_in st q)) refl (omega arith) (omega arith) refl
-      (number_low i st whole copies q head.0 head.1) (live_low i st whole.calls q parts.0) (omega (arith, before, behind))
+      (number_low i st whole copies q head.0 head.1) (live_low i st whole.calls q parts.0) (omega (arith, before, following))
       (λ p differ. record { claimed = refl; taken_is = refl; turn = λ e. e; copies = refl })
 
   -- ---- replies
@@ -72,9 +72,9 @@ module _ (i : Input) (st : State) (whole : Whole i st) (copies : Copies st) wher
       let low = range.0 in
       let high = range.1 in
       let before : step_unless (st.replied reply) ≡ step_unless false = ap step_unless (not_given (st.replied reply) parts.1) in
-      let behind : step_unless (reply == reply || st.replied reply) ≡ step_unless true = ap step_unless (or_left (reply == reply) (st.replied reply) (eq-eqb reply reply refl)) in
+      let following : step_unless (reply == reply || st.replied reply) ≡ step_unless true = ap step_unless (or_left (reply == reply) (st.replied reply) (eq-eqb reply reply refl)) in
       let replies : replies_cost i (state_after i st (Replied q reply n)) + 1 ≤ replies_cost i st =
-      total_drop (reply_cost (state_after i st (Replied q reply n))) (reply_cost st) 1 (length i.replies) reply 1 (λ m from to. given m (reply == m)) low (omega (arith, high)) (omega (arith, before, behind)) in
+      total_drop (reply_cost (state_after i st (Replied q reply n))) (reply_cost st) 1 (length i.replies) reply 1 (λ m from to. given m (reply == m)) low (omega (arith, high)) (omega (arith, before, following)) in
       let messages = messages_more i st copies (state_after i st (Replied q reply n)) (replied_by (item_at_number i.replies reply) (snapshot_in st q)) refl 0 (let e : st.posted ≡ st.posted + 0 = omega arith in e)
       (λ p from to. record { claimed = refl; taken_is = refl; turn = λ e. e; copies = refl }) in
       omega (arith, replies, messages) where
@@ -87,14 +87,14 @@ module _ (i : Input) (st : State) (whole : Whole i st) (copies : Copies st) wher
   -- after a lawful entry at least one step less is left
   pub lessens : thread_count i ≤ 64 → IsPlain st.session → (e : Entry) → IsLawful i st e → Less e
   lessens few plain (Stored u place word) y = stored_less i st whole copies u place word y
-  lessens few plain (Entered u call regs way) y = behind_entered i st whole copies u call regs way y
+  lessens few plain (Entered u call regs way) y = after_entered i st whole copies u call regs way y
   lessens few plain (Claimed w q) y = step_less i st whole copies (Claimed w q) q (claimed_step i st whole copies w q y)
   lessens few plain (Copied q part place word) y = step_less i st whole copies (Copied q part place word) q (copied_step i st whole copies y.served.number q y.served.at part place word (few_words_due st copies q part place y.due))
   lessens few plain (Looked q part name seen) y = step_less i st whole copies (Looked q part name seen) q (looked_step i st whole copies y.served.number q y.served.at part name seen (few_looks_due st copies q part name y.due))
   lessens few plain (Faulted q errno) y = step_less i st whole copies (Faulted q errno) q (faulted_step i st whole copies y.served.number q y.served.at errno)
   lessens few plain (Answered w s v applied) y = step_less i st whole copies (Answered w s v applied) s.seq (answered_step i st whole copies w s v applied y)
-  lessens few plain (Used u seq call regs args ids result changes) y = behind_used i st whole copies few u seq call regs args ids result changes y
-  lessens few plain (Denied u seq errno cause) y = behind_denied i st whole copies u seq errno cause y
+  lessens few plain (Used u seq call regs args ids result changes) y = after_used i st whole copies few u seq call regs args ids result changes y
+  lessens few plain (Denied u seq errno cause) y = after_denied i st whole copies u seq errno cause y
   lessens few plain (Ended u) y = ended_less i st whole copies u y
   lessens few plain (Learned q n) y = step_less i st whole copies (Learned q n) q (learned_step plain q n y)
   lessens few plain (Replied q reply n) y = replied_less q reply n y
@@ -104,7 +104,7 @@ module _ (i : Input) (st : State) (whole : Whole i st) (copies : Copies st) wher
   -- the steps left for a number, with the step that an entry is for it, are at most those left before
   module _ (p : ℕ) where
     abbrev Takes : Entry → Type 0
-    Takes e = message_cost i (state_after i st e) p + step_unless (not (is_number p (step_of e))) ≤ message_cost i st p
+    Takes e = message_cost i (state_after i st e) p + step_unless (not (is_number p (served_number e))) ≤ message_cost i st p
 
     -- a posted message has the cost that it had, and one that wasn't posted has that of a new one
     posted_takes : (new : State) → Moves st new → (more : List SessionFilter) → new.session ≡ st.session ++ more → new.turns ≡ st.turns → ((new.messages p).claimed ≡ (st.messages p).claimed) → ((new.messages p).words ≡ (st.messages p).words) → ((new.messages p).lookups ≡ (st.messages p).lookups) → message_cost i new p ≤ message_cost i st p
@@ -124,8 +124,8 @@ module _ (i : Input) (st : State) (whole : Whole i st) (copies : Copies st) wher
         copies = copies_stay i st whole copies new moved p low words lookups;
       })
 
-    moved_takes : (e : Entry) → step_of e ≡ None → message_cost i (state_after i st e) p ≤ message_cost i st p → Takes e
-    moved_takes e none low = let same : step_unless (not (is_number p (step_of e))) ≡ step_unless (not false) = ap (λ o. step_unless (not (is_number p o))) none in omega (arith, low, same)
+    moved_takes : (e : Entry) → served_number e ≡ None → message_cost i (state_after i st e) p ≤ message_cost i st p → Takes e
+    moved_takes e none low = let same : step_unless (not (is_number p (served_number e))) ≡ step_unless (not false) = ap (λ o. step_unless (not (is_number p o))) none in omega (arith, low, same)
 
     -- each lawful entry takes the step that it is for a number
     pub takes : IsPlain st.session → (e : Entry) → IsLawful i st e → Takes e

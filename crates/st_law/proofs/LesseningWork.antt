@@ -90,8 +90,8 @@ module _ (i : Input) (st : State) (whole : Whole i st) (copies : Copies st) wher
     claimed_drop =
         let before : message_cost i st q ≡ 9605 = ap (λ c. remaining c (is_turn i st q) (taken (st.messages q)) (may_be_learnt i st (snapshot_in st q))) y.unclaimed in
         let own : claimed.turns w ≡ Some q = ap (λ b. cond b (Some q) (st.turns w)) (eq-eqb w w refl) in
-        let behind : message_cost i claimed q ≡ 9604 - taken (claimed.messages q) = λ k. remaining (or_left (q == q) (st.messages q).claimed (eq-eqb q q refl) k) (turn_there i claimed w q y.worker own k) (taken (claimed.messages q)) (may_be_learnt i claimed (snapshot_in claimed q)) in
-        omega (arith, before, behind)
+        let following : message_cost i claimed q ≡ 9604 - taken (claimed.messages q) = λ k. remaining (or_left (q == q) (st.messages q).claimed (eq-eqb q q refl) k) (turn_there i claimed w q y.worker own k) (taken (claimed.messages q)) (may_be_learnt i claimed (snapshot_in claimed q)) in
+        omega (arith, before, following)
 
     pub claimed_step : IsStepOn (Claimed w q) q
     claimed_step = let head : (h : Head) × ((st.messages q).head ≡ Some h) = live_head st q y.live in
@@ -128,8 +128,8 @@ module _ (i : Input) (st : State) (whole : Whole i st) (copies : Copies st) wher
       copied_drop : (taken (copied.messages q) ≡ taken (st.messages q) + 1) → taken (copied.messages q) ≤ 9602 → message_cost i copied q + 1 ≤ message_cost i st q
       copied_drop more few =
           let before = had in
-          let behind : message_cost i copied q ≡ 9604 - taken (copied.messages q) = λ k. remaining (whole.turns.claimed w q turn k) (turn_there i copied w q (whole.turns.worker w q turn) turn k) (taken (copied.messages q)) (may_be_learnt i copied (snapshot_in copied q)) in
-          omega (arith, before, behind, more, few)
+          let following : message_cost i copied q ≡ 9604 - taken (copied.messages q) = λ k. remaining (whole.turns.claimed w q turn k) (turn_there i copied w q (whole.turns.worker w q turn) turn k) (taken (copied.messages q)) (may_be_learnt i copied (snapshot_in copied q)) in
+          omega (arith, before, following, more, few)
 
       copied_by : (taken (copied.messages q) ≡ taken (st.messages q) + 1) → taken (copied.messages q) ≤ 9602 → IsStepOn (Copied q part place word) q
       copied_by more few = step_on (Copied q part place word) q [] same_session (omega arith) (omega arith) refl low high (copied_drop more few)
@@ -168,8 +168,8 @@ module _ (i : Input) (st : State) (whole : Whole i st) (copies : Copies st) wher
       looked_by : (taken (looked.messages q) ≡ taken (st.messages q) + 1) → taken (looked.messages q) ≤ 9602 → IsStepOn (Looked q part name seen) q
       looked_by more few = step_on (Looked q part name seen) q [] same_session (omega arith) (omega arith) refl low high
           (let before = had in
-          let behind : message_cost i looked q ≡ 9604 - taken (looked.messages q) = λ k. remaining (whole.turns.claimed w q turn k) (turn_there i looked w q (whole.turns.worker w q turn) turn k) (taken (looked.messages q)) (may_be_learnt i looked (snapshot_in looked q)) in
-          omega (arith, before, behind, more, few))
+          let following : message_cost i looked q ≡ 9604 - taken (looked.messages q) = λ k. remaining (whole.turns.claimed w q turn k) (turn_there i looked w q (whole.turns.worker w q turn) turn k) (taken (looked.messages q)) (may_be_learnt i looked (snapshot_in looked q)) in
+          omega (arith, before, following, more, few))
           (λ p differ. record {
             claimed = refl;
             taken_is = (λ k. length ((st.messages p).words 0) + length ((st.messages p).words 1) + length (same_lookups p differ 0 k) + length (same_lookups p differ 1 k));
@@ -197,9 +197,9 @@ module _ (i : Input) (st : State) (whole : Whole i st) (copies : Copies st) wher
     turn_over new claimed gone =
         let before = had in
         let few = taken_few i st copies q in
-        let behind : message_cost i new q ≡ may_be_learnt i new (snapshot_in new q) = λ k. remaining ((claimed ∙ whole.turns.claimed w q turn) k) (gone k) (taken (new.messages q)) (may_be_learnt i new (snapshot_in new q)) in
+        let following : message_cost i new q ≡ may_be_learnt i new (snapshot_in new q) = λ k. remaining ((claimed ∙ whole.turns.claimed w q turn) k) (gone k) (taken (new.messages q)) (may_be_learnt i new (snapshot_in new q)) in
         let most = learnt_most i new (snapshot_in new q) in
-        omega (arith, before, few, behind, most)
+        omega (arith, before, few, following, most)
 
     not_own : (o : Option ℕ) (p : ℕ) → unless_same q o ≡ Some p → (o ≡ Some p) × (q ≢ p)
     not_own None p e = cc

@@ -30,7 +30,7 @@ pub mod MessageHistory
 pub mod Moves
 pub mod Numbering
 pub mod OneStepTaken
-pub mod OperatorTold
+pub mod OperatorRecorded
 pub mod Playing
 pub mod Potential
 pub mod Preserved
@@ -60,9 +60,9 @@ pub mod Steps
 pub mod Sums
 pub mod ThreadHistory
 pub mod ThreadSteps
-pub mod ThreadsTold
+pub mod ThreadsRecorded
 pub mod Ties
-pub mod Told
+pub mod Recorded
 pub mod Turns
 pub mod TurnsKept
 pub mod UsedKept
@@ -71,6 +71,6 @@ pub mod UsedShapes
 pub mod Whole
 pub mod Words
 pub mod WorkerSteps
-pub mod WorkersTold
+pub mod WorkersRecorded
 pub mod Writing
 pub mod WrongRuns

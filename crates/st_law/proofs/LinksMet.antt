@@ -19,7 +19,7 @@ use Rattle.st_model.specs.declared.object.Kind.TheVariants as object_kind
 use Rattle.st_names.specs.Name.{Components, components_of}
 use Rattle.st_effects.specs.Names.{is_link}
 use Rattle.st_law.specs.Arguments.{is_link_node, is_link_at, link_along, link_on_way, first_of_two, link_of_part, link_among, link_met}
-use Rattle.st_law.specs.Links.{IsLinkName, IsOnWay, IsUnlinked, IsFound, IsNamePart, NoneMeets, IsMetAmong, IsMet}
+use Rattle.st_law.specs.Links.{IsLinkName, IsOnWay, IsUnlinked, IsLinkFound, IsNamePart, NoPartHasLink, IsFirstLinkAmongParts, IsFirstLinkInWay}
 
 -- ---- the test of one name
 
@@ -127,9 +127,9 @@ along tree follow done (part ∷ rest) = by (is_link_at tree (done ++ part ∷ [
   by true e further = here e
   by false e further = later e (link_along tree follow (done ++ part ∷ []) rest) further
 
-pub on_way : (tree : Tree) (follow : Bool) (name : Components) → IsFound tree follow name (link_on_way tree follow name)
+pub on_way : (tree : Tree) (follow : Bool) (name : Components) → IsLinkFound tree follow name (link_on_way tree follow name)
 on_way tree follow name = by (link_on_way tree follow name) (along tree follow [] name) where
-  by : (o : Option Components) → FoundFrom tree follow [] name o → IsFound tree follow name o
+  by : (o : Option Components) → FoundFrom tree follow [] name o → IsLinkFound tree follow name o
   by None x = x
   by (Some link) x = record {
     on_way = subst (IsOnWay follow name) (sym x.2) x.1;
@@ -160,29 +160,29 @@ name_of_link _ tree follow text link e = cc
 module _ (tree : Tree) (call : SysCall) (regs : List ℕ) where
   -- the first link on the way to the first part, if that is a name
   abbrev OfPart : ArgSpec → ArgText → Option Components → Type 0
-  OfPart spec arg o = spec.kind ≡ kind.Name → IsFound tree (follows call regs spec.register) (components_of arg.text) o
+  OfPart spec arg o = spec.kind ≡ kind.Name → IsLinkFound tree (follows call regs spec.register) (components_of arg.text) o
 
   by_kind : (spec : ArgSpec) (arg : ArgText) (k : PartKind) → spec.kind ≡ k → OfPart spec arg (link_of_part k tree (follows call regs spec.register) arg.text)
-  by_kind spec arg k e is = subst (λ k. IsFound tree (follows call regs spec.register) (components_of arg.text) (link_of_part k tree (follows call regs spec.register) arg.text)) (sym is ∙ e)
+  by_kind spec arg k e is = subst (λ k. IsLinkFound tree (follows call regs spec.register) (components_of arg.text) (link_of_part k tree (follows call regs spec.register) arg.text)) (sym is ∙ e)
       (on_way tree (follows call regs spec.register) (components_of arg.text))
 
   module _ (spec : ArgSpec) (specs : List ArgSpec) (arg : ArgText) (args : List ArgText) where
     -- what is found for the first part is found for it as one of the parts
     first_found : (o : Option Components) → OfPart spec arg o → (register : ℕ) (text : List ℕ) → IsNamePart (spec ∷ specs) (arg ∷ args) 0 register text
-        → IsFound tree (follows call regs register) (components_of text) o
+        → IsLinkFound tree (follows call regs register) (components_of text) o
     first_found o found register text x =
         let same_spec : spec ≡ x.spec = same_Some spec x.spec x.spec_is in
         let same_arg : arg ≡ x.arg = same_Some arg x.arg x.arg_is in
-        subst (λ r. IsFound tree (follows call regs r) (components_of text) o) (ap (λ s. s.register) same_spec ∙ x.register_is)
-        (subst (λ words. IsFound tree (follows call regs spec.register) (components_of words) o) (ap (λ a. a.text) same_arg ∙ x.text_is)
+        subst (λ r. IsLinkFound tree (follows call regs r) (components_of text) o) (ap (λ s. s.register) same_spec ∙ x.register_is)
+        (subst (λ words. IsLinkFound tree (follows call regs spec.register) (components_of words) o) (ap (λ a. a.text) same_arg ∙ x.text_is)
         (found (ap (λ s. s.kind) same_spec ∙ x.kind)))
 
-    none_meets : OfPart spec arg None → NoneMeets tree call regs specs args → NoneMeets tree call regs (spec ∷ specs) (arg ∷ args)
+    none_meets : OfPart spec arg None → NoPartHasLink tree call regs specs args → NoPartHasLink tree call regs (spec ∷ specs) (arg ∷ args)
     none_meets found rest zero register text x = first_found None found register text x
     none_meets found rest (suc j) register text x = rest j register text (rest_part spec specs arg args j register text x)
 
     joined : (o : Option Components) → OfPart spec arg o → ((link : Components) → o ≡ Some link → spec.kind ≡ kind.Name) → (other : Option Components)
-        → IsMetAmong tree call regs specs args other → IsMetAmong tree call regs (spec ∷ specs) (arg ∷ args) (first_of_two o other)
+        → IsFirstLinkAmongParts tree call regs specs args other → IsFirstLinkAmongParts tree call regs (spec ∷ specs) (arg ∷ args) (first_of_two o other)
     joined (Some link) found named other rest = record {
       j = 0;
       register = spec.register;
@@ -204,11 +204,11 @@ module _ (tree : Tree) (call : SysCall) (regs : List ℕ) where
       before zero other words low x = first_found None found other words x
       before (suc k) other words low x = rest.before k other words (omega (arith, low)) (rest_part spec specs arg args k other words x)
 
-  among : (specs : List ArgSpec) (args : List ArgText) → IsMetAmong tree call regs specs args (link_among tree call regs specs args)
+  among : (specs : List ArgSpec) (args : List ArgText) → IsFirstLinkAmongParts tree call regs specs args (link_among tree call regs specs args)
   among [] args = λ j register text x. absurd (no_part j x.spec x.spec_is)
   among (spec ∷ specs) [] = λ j register text x. absurd (no_part j x.arg x.arg_is)
   among (spec ∷ specs) (arg ∷ args) = joined spec specs arg args (link_of_part spec.kind tree (follows call regs spec.register) arg.text) (by_kind spec arg spec.kind refl)
       (λ link. name_of_link spec.kind tree (follows call regs spec.register) arg.text link) (link_among tree call regs specs args) (among specs args)
 
-pub call_meets : (tree : Tree) (rule : Rule) (call : SysCall) (regs : List ℕ) (args : List ArgText) → IsMet tree rule call regs args (link_met tree rule call regs args)
+pub call_meets : (tree : Tree) (rule : Rule) (call : SysCall) (regs : List ℕ) (args : List ArgText) → IsFirstLinkInWay tree rule call regs args (link_met tree rule call regs args)
 call_meets tree rule call regs args = among tree call regs (args_of rule) args

@@ -33,7 +33,7 @@ use Rattle.st_law.proofs.Preserved.{UsedKeeps, used_keeps}
 use Rattle.st_law.proofs.RenewalKept.{open_of, unclosed_fresh}
 use Rattle.st_law.proofs.Renewals.{EachHeld, head_below, one_more, renewals_same}
 use Rattle.st_law.proofs.Shapes.{IsQuiet, AreQuiet, Shape, quiet, forked, execed, renewed}
-use Rattle.st_law.proofs.Splitting.{kept_behind, when_same}
+use Rattle.st_law.proofs.Splitting.{kept_later, when_same}
 use Rattle.st_law.proofs.ThreadHistory as threads
 use Rattle.st_law.proofs.UsedShapes.{used_shape}
 use Rattle.st_law.proofs.Whole.{Whole, whole_of}
@@ -301,18 +301,18 @@ module _ (i : Input) (startable : IsStartable i) (q : ℕ) (head : Head) where
       moves i (looking_back i (later ++ earlier)) (whole_of i startable (later ++ earlier) lawful.1).calls e lawful.0 in
       record { low = let low = y.low in let more = moved.posted in omega (arith, low, more); posted = moved.heads q y.low ∙ y.posted }
 
-  behind : (later earlier : History) → IsLawfulBack i (later ++ earlier) → IsLawfulBack i earlier
-  behind [] earlier lawful = lawful
-  behind (e ∷ later) earlier lawful = behind later earlier lawful.1
+  following : (later earlier : History) → IsLawfulBack i (later ++ earlier) → IsLawfulBack i earlier
+  following [] earlier lawful = lawful
+  following (e ∷ later) earlier lawful = following later earlier lawful.1
 
   lives_at : (later earlier : History) (e : Entry) → IsLawfulBack i (later ++ e ∷ earlier) → Posts q e earlier → head_at i (e ∷ earlier) q ≡ Some head
       → NoneTouches (Closes q) later (e ∷ earlier) → NoneTouches (LeavesDying i head.tid) later (e ∷ earlier) → is_live (looking_back i (later ++ e ∷ earlier)) q ≡ true
   lives_at later earlier e lawful posts posted unclosed undying =
-      let then : IsLawfulBack i (e ∷ earlier) = behind later (e ∷ earlier) lawful in
+      let then : IsLawfulBack i (e ∷ earlier) = following later (e ∷ earlier) lawful in
       let first : IsFresh i q head e earlier = fresh i q head earlier (whole_of i startable earlier then.1) e then.0 posts posted in
       let x : Stays (later ++ e ∷ earlier) = head_stays later (e ∷ earlier) lawful (record { low = low_of (e ∷ earlier) (whole_of i startable (e ∷ earlier) then) posted; posted = posted }) in
-      let closed : is_closed_at (later ++ e ∷ earlier) q ≡ false = kept_behind (λ h. is_closed_at h q) (Closes q) (closed_kept q) later (e ∷ earlier) unclosed ∙ first.0 in
-      let dying : is_dying_at i (later ++ e ∷ earlier) head.tid ≡ false = kept_behind (λ h. is_dying_at i h head.tid) (LeavesDying i head.tid) (dying_kept i head.tid) later (e ∷ earlier) undying ∙ first.1 in
+      let closed : is_closed_at (later ++ e ∷ earlier) q ≡ false = kept_later (λ h. is_closed_at h q) (Closes q) (closed_kept q) later (e ∷ earlier) unclosed ∙ first.0 in
+      let dying : is_dying_at i (later ++ e ∷ earlier) head.tid ≡ false = kept_later (λ h. is_dying_at i h head.tid) (LeavesDying i head.tid) (dying_kept i head.tid) later (e ∷ earlier) undying ∙ first.1 in
       (λ k. is_live_by (x.posted k) (closed k) (is_dying_at i (later ++ e ∷ earlier))) ∙ ap not dying
 
 pub lives : (i : Input) → IsStartable i → (h : History) → IsLawfulBack i h → (q : ℕ) (head : Head) → LivesSince i q head h → is_live (looking_back i h) q ≡ true

@@ -11,7 +11,7 @@ use Rattle.st_trace.specs.declared.entry.Change.TheVariants.{Put, Forked}
 use Rattle.st_trace.specs.declared.entry.Entry.{Entry}
 use Rattle.st_trace.specs.declared.entry.Entry.TheVariants.{Stored, Used, Ended}
 use Rattle.st_law.specs.declared.input.Input.{Input}
-use Rattle.st_law.specs.Entries.{Covers, GivesByte, GivesByteIn, GivesTable, IsLastOne, LiesAt, TouchesByte, changes_so_far}
+use Rattle.st_law.specs.Entries.{Covers, GivesByte, GivesByteIn, GivesTable, IsLastOne, IsByteAt, TouchesByte, changes_so_far}
 use Rattle.st_law.specs.History.{descriptors_at, looking_back}
 use Rattle.st_law.specs.Processes.{byte_at, first_descriptors, first_tree, space_at, tree_at}
 use Rattle.st_law.specs.Splits.{GivesSome, IsLastGiven, IsLastOf}
@@ -43,16 +43,16 @@ covers_step own s b memory (Put space at bytes) none =
 covers_step own s b memory (Forked pid space tid) none = when_other s space (memory own b) (memory s b) (λ e. none (sym e))
 covers_step own s b memory _ none = refl
 
-byte_there : (b at : ℕ) (bytes : List ℕ) (v : ℕ) → LiesAt b at bytes v → slice_index bytes (b - at) ≡ v
+byte_there : (b at : ℕ) (bytes : List ℕ) (v : ℕ) → IsByteAt b at bytes v → slice_index bytes (b - at) ≡ v
 byte_there b at bytes v x =
     let place = x.place in
     let far : b - at ≡ length x.first = omega (arith, place) in
     ap (λ n. slice_index bytes n) far ∙ ap (λ all. slice_index all (length x.first)) x.split ∙ get_or-append_seam x.first v x.rest 0
 
-byte_within : (b at : ℕ) (bytes : List ℕ) (v : ℕ) → LiesAt b at bytes v → b < at + length bytes
+byte_within : (b at : ℕ) (bytes : List ℕ) (v : ℕ) → IsByteAt b at bytes v → b < at + length bytes
 byte_within b at bytes v x = let place = x.place in omega (arith, place, ap length x.split, length-append x.first (v ∷ x.rest))
 
-byte_from : (b at : ℕ) (bytes : List ℕ) (v : ℕ) → LiesAt b at bytes v → at ≤ b
+byte_from : (b at : ℕ) (bytes : List ℕ) (v : ℕ) → IsByteAt b at bytes v → at ≤ b
 byte_from b at bytes v x = let place = x.place in omega (arith, place)
 
 change_gives : (i : Input) (s b u : ℕ) (h : History) (before : List Change) (c : Change) (v : ℕ) → GivesByteIn i s b u h before c v

@@ -14,9 +14,9 @@ use Rattle.st_law.specs.declared.input.Input.{Input}
 use Rattle.st_law.specs.Entries.{AnswersTo, Claims, Closes, GivesFault, GivesHead, GivesHeadIn, GivesLookups, GivesTurn, GivesWords, IsRenewedHead, Posts, Renews, RenewsTo, new_numbers, numbers_so_far}
 use Rattle.st_law.specs.Messages.{Head, head_after_change, head_at, is_answered_at, is_claimed_at, is_closed_at, is_renewed_by, lookups_at, fault_at, posted_after_change, posted_at, renewed_head, turn_at, unless_same, words_at}
 use Rattle.st_law.specs.Processes.{process_at}
-use Rattle.st_law.specs.Splits.{IsLastGiven, IsLastOf, IsTrueBehind, SomeIn, GivesSome}
+use Rattle.st_law.specs.Splits.{IsLastGiven, IsLastOf, IsTrueAfter, SomeIn, GivesSome}
 use Rattle.st_law.specs.Threads.{History, owner_at}
-use Rattle.st_law.proofs.Splitting.{when_same, when_other, same_part, other_part, either_true, or_left_true, or_right_true, same_by, none_in, fold_kept, fold_last, flag_up, flag_stays, flag_only, last_given, last_of, true_behind}
+use Rattle.st_law.proofs.Splitting.{when_same, when_other, same_part, other_part, either_true, or_left_true, or_right_true, same_by, none_in, fold_kept, fold_last, flag_up, flag_stays, flag_only, last_given, last_of, true_after}
 
 -- ---- claims
 
@@ -32,8 +32,8 @@ claim_only : (q : ℕ) (e : Entry) (h : History) → is_claimed_at (e ∷ h) q �
 claim_only q (Claimed w p) h x = same_by p q (is_claimed_at h q) (either_true (p == q) (is_claimed_at h q) x)
 claim_only q _ h x = inr x
 
-pub claimed : (q : ℕ) → IsTrueBehind (λ h. is_claimed_at h q) (Claims q)
-claimed q = true_behind (λ h. is_claimed_at h q) (Claims q) refl (claim_up q) (claim_stays q) (claim_only q)
+pub claimed : (q : ℕ) → IsTrueAfter (λ h. is_claimed_at h q) (Claims q)
+claimed q = true_after (λ h. is_claimed_at h q) (Claims q) refl (claim_up q) (claim_stays q) (claim_only q)
 
 -- ---- answers
 
@@ -57,8 +57,8 @@ answer_only : (q : ℕ) (e : Entry) (h : History) → is_answered_at (e ∷ h) q
 answer_only q (Answered w s verdict applied) h x = answer_by q s.seq applied (is_answered_at h q) (either_true (s.seq == q && applied) (is_answered_at h q) x)
 answer_only q _ h x = inr x
 
-pub answered : (q : ℕ) → IsTrueBehind (λ h. is_answered_at h q) (AnswersTo q)
-answered q = true_behind (λ h. is_answered_at h q) (AnswersTo q) refl (answer_up q) (answer_stays q) (answer_only q)
+pub answered : (q : ℕ) → IsTrueAfter (λ h. is_answered_at h q) (AnswersTo q)
+answered q = true_after (λ h. is_answered_at h q) (AnswersTo q) refl (answer_up q) (answer_stays q) (answer_only q)
 
 -- ---- closed numbers
 
@@ -123,8 +123,8 @@ closed_only q (Used t seq call regs args ids result changes) h x =
 closed_only q (Denied t seq errno cause) h x = denied_only q seq (is_closed_at h q) (either_true (is_number q seq) (is_closed_at h q) x)
 closed_only q _ h x = inr x
 
-pub closed : (q : ℕ) → IsTrueBehind (λ h. is_closed_at h q) (Closes q)
-closed q = true_behind (λ h. is_closed_at h q) (Closes q) refl (closed_up q) (closed_stays q) (closed_only q)
+pub closed : (q : ℕ) → IsTrueAfter (λ h. is_closed_at h q) (Closes q)
+closed q = true_after (λ h. is_closed_at h q) (Closes q) refl (closed_up q) (closed_stays q) (closed_only q)
 
 -- ---- copies, and the fault
 

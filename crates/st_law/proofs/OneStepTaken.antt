@@ -16,7 +16,7 @@ use Rattle.st_names.specs.Name.{Components}
 use Rattle.st_names.specs.declared.seen.SeenText.{SeenText}
 use Rattle.st_effects.specs.Progress.{Progress, ArgRequest, progress_from, progress_of_walk, progress_of_text, progress_of_spelling}
 use Rattle.st_law.specs.Arguments.{Surroundings, spelled_within, spelled_on, part_of_text, part_of_spelling, parts_from}
-use Rattle.st_law.specs.OneStep.{AreWordsOf, AreLookupsOf, AreTaken}
+use Rattle.st_law.specs.OneStep.{AreWordsOf, AreLookupsOf, AreTakenInOneStep}
 
 -- ---- extending a list by one item at a time
 
@@ -149,7 +149,7 @@ module _ (asked : ArgRequest) (around : Surroundings) where
       ∙ part_same j spec (spell spec.kind (value_of spec) (words_of spec)) (parts_from (j + 1) specs asked around)
       ∙ (λ k. progress_of_spelling j spec asked.cwd (follow_of spec) (lookups_in (there k)) (spell spec.kind (value_of spec) (words_in (there k))) (rest k))
 
-  pub arguments_taken : (words : ℕ → List ℕ) × (lookups : ℕ → List SeenText) × AreTaken asked around words lookups
+  pub arguments_taken : (words : ℕ → List ℕ) × (lookups : ℕ → List SeenText) × AreTakenInOneStep asked around words lookups
   arguments_taken = (
     all_words,
     all_lookups,

@@ -7,7 +7,7 @@ use Rattle.st_calls.specs.declared.judged.Snapshot.{Snapshot}
 use Rattle.st_model.specs.Tree.{is_number}
 use Rattle.st_trace.specs.declared.start.Instr.{Instr}
 use Rattle.st_law.specs.declared.input.Input.{Input}
-use Rattle.st_law.specs.Schedules.{sets_ids, is_set_id}
+use Rattle.st_law.specs.Schedules.{sets_ids, is_set_id_instruction}
 use Rattle.st_law.specs.Sessions.{least_from}
 use Rattle.st_law.specs.State.{ThreadState, Message, State, thread_count, snapshot_in, decision_in, is_undecided}
 use Rattle.st_law.specs.Threads.{PendingCall}
@@ -17,7 +17,7 @@ use Rattle.st_law.proofs.Sums.{total}
 
 -- the cost of an instruction, with the message that its call may post; a call that sets ids renews up to 64 numbers
 abbrev pub weight : Instr → ℕ
-weight instruction = cond (is_set_id instruction) 650000 10000
+weight instruction = cond (is_set_id_instruction instruction) 650000 10000
 
 abbrev pub cost : List Instr → ℕ
 cost [] = 0

@@ -68,8 +68,8 @@ module _ (i : Input) (st : State) (inv : Invariant i st) where
   used_keeps u (Some q) call regs args ids result changes x = let is_open : IsOpenSeq st u (Some q) = held_open u q call regs x.running x.held in
       record { open_seq = is_open; keeps = shape_keeps u (Some q) is_open call regs args ids result (Held x.held.first) x.held.entered changes (used_shape i st u call regs args ids result changes (Some q) x) }
 
-  behind_used : (u : ℕ) (seq : Option ℕ) (call : SysCall) (regs : List ℕ) (args : List ArgText) (ids : Ids) (result : CallResult) (changes : List Change) → IsUsed i st u seq call regs args ids result changes → Invariant i (state_after i st (Used u seq call regs args ids result changes))
-  behind_used u seq call regs args ids result changes x =
+  after_used : (u : ℕ) (seq : Option ℕ) (call : SysCall) (regs : List ℕ) (args : List ArgText) (ids : Ids) (result : CallResult) (changes : List Change) → IsUsed i st u seq call regs args ids result changes → Invariant i (state_after i st (Used u seq call regs args ids result changes))
+  after_used u seq call regs args ids result changes x =
       let y : UsedKeeps u seq call regs args ids result changes = used_keeps u seq call regs args ids result changes x in
       used_kept i st inv u seq y.open_seq call regs args ids result changes y.keeps
 
@@ -111,9 +111,9 @@ module _ (i : Input) (st : State) (inv : Invariant i st) where
       fine = λ t. denied_fine t (u == t) refl;
     }
 
-  behind_denied : (u : ℕ) (seq : Option ℕ) (errno : Errno) (cause : Cause) → IsDenied i st u seq errno cause → Invariant i (state_after i st (Denied u seq errno cause))
-  behind_denied u None errno cause x = denied_kept u None errno cause tt
-  behind_denied u (Some q) errno cause x = denied_kept u (Some q) errno cause (held_open u q x.call x.regs x.running x.held)
+  after_denied : (u : ℕ) (seq : Option ℕ) (errno : Errno) (cause : Cause) → IsDenied i st u seq errno cause → Invariant i (state_after i st (Denied u seq errno cause))
+  after_denied u None errno cause x = denied_kept u None errno cause tt
+  after_denied u (Some q) errno cause x = denied_kept u (Some q) errno cause (held_open u q x.call x.regs x.running x.held)
 
   -- ---- instructions
 
@@ -215,8 +215,8 @@ module _ (i : Input) (st : State) (inv : Invariant i st) where
           fine = λ undying. fine_by i st held_state t entered.call entered.regs entered.way (λ policy rule no f. f) refl (λ first held. other_open t e entered.call entered.regs) (y.fine undying);
         }) (inv.fine t)
 
-    behind_held : Invariant i held_state
-    behind_held = record {
+    after_held : Invariant i held_state
+    after_held = record {
       started = inv.started;
       bodies = λ t. left_at u t (u == t);
       children = λ t. entered_child u call regs (Held q) x t (u == t) refl;
@@ -226,13 +226,13 @@ module _ (i : Input) (st : State) (inv : Invariant i st) where
       fine = λ t. held_fine t (u == t) refl;
     }
 
-  behind_entered : (u : ℕ) (call : SysCall) (regs : List ℕ) (way : Way) → IsEntered i st u call regs way → Invariant i (state_after i st (Entered u call regs way))
-  behind_entered u call regs Fast x = entered_by u call regs Fast x refl (λ q. refl) (λ t. refl) (λ t same. tt)
-  behind_entered u call regs Untraced x = entered_by u call regs Untraced x refl (λ q. refl) (λ t. refl) (λ t same. tt)
-  behind_entered u call regs (Barred n) x = entered_by u call regs (Barred n) x refl (λ q. refl) (λ t. refl)
+  after_entered : (u : ℕ) (call : SysCall) (regs : List ℕ) (way : Way) → IsEntered i st u call regs way → Invariant i (state_after i st (Entered u call regs way))
+  after_entered u call regs Fast x = entered_by u call regs Fast x refl (λ q. refl) (λ t. refl) (λ t same. tt)
+  after_entered u call regs Untraced x = entered_by u call regs Untraced x refl (λ q. refl) (λ t. refl) (λ t same. tt)
+  after_entered u call regs (Barred n) x = entered_by u call regs (Barred n) x refl (λ q. refl) (λ t. refl)
       (λ t same. subst (λ v. IsFine i (state_after i st (Entered u call regs (Barred n))) v call regs (Barred n)) (sym same)
       (record { first = x.way_is.1; errno = x.way_is.2; refused = x.way_is.3 }))
-  behind_entered u call regs (Held q) x = behind_held u q call regs x x.way_is.1
+  after_entered u call regs (Held q) x = after_held u q call regs x x.way_is.1
 
   -- ---- entries that leave the state's parts, and those by which the session grows
 
@@ -244,16 +244,16 @@ module _ (i : Input) (st : State) (inv : Invariant i st) where
       }) (inv.fine t)
 
   -- the invariant of the state is kept by each lawful entry
-  pub behind : (e : Entry) → IsLawful i st e → Invariant i (state_after i st e)
-  behind (Stored u place word) x = record { started = inv.started; bodies = λ t. left_at u t (u == t); children = inv.children; owners = inv.owners; heads = inv.heads; closed = inv.closed; fine = λ t. grown_fine (Stored u place word) t (λ policy rule no f. f) refl (omega arith) (record { owner = refl; ids = refl; number = refl; head = refl; closed = λ unclosed. unclosed }) refl }
-  behind (Entered u call regs way) x = behind_entered u call regs way x
-  behind (Used u seq call regs args ids result changes) x = behind_used u seq call regs args ids result changes x
-  behind (Denied u seq errno cause) x = behind_denied u seq errno cause x
-  behind (Claimed w q) x = record { started = inv.started; bodies = inv.bodies; children = inv.children; owners = inv.owners; heads = inv.heads; closed = inv.closed; fine = λ t. grown_fine (Claimed w q) t (λ policy rule no f. f) refl (omega arith) (record { owner = refl; ids = refl; number = refl; head = refl; closed = λ unclosed. unclosed }) refl }
-  behind (Copied q part place word) x = record { started = inv.started; bodies = inv.bodies; children = inv.children; owners = inv.owners; heads = inv.heads; closed = inv.closed; fine = λ t. grown_fine (Copied q part place word) t (λ policy rule no f. f) refl (omega arith) (record { owner = refl; ids = refl; number = refl; head = refl; closed = λ unclosed. unclosed }) refl }
-  behind (Looked q part name seen) x = record { started = inv.started; bodies = inv.bodies; children = inv.children; owners = inv.owners; heads = inv.heads; closed = inv.closed; fine = λ t. grown_fine (Looked q part name seen) t (λ policy rule no f. f) refl (omega arith) (record { owner = refl; ids = refl; number = refl; head = refl; closed = λ unclosed. unclosed }) refl }
-  behind (Faulted q errno) x = record { started = inv.started; bodies = inv.bodies; children = inv.children; owners = inv.owners; heads = inv.heads; closed = inv.closed; fine = λ t. grown_fine (Faulted q errno) t (λ policy rule no f. f) refl (omega arith) (record { owner = refl; ids = refl; number = refl; head = refl; closed = λ unclosed. unclosed }) refl }
-  behind (Answered w s v applied) x = record { started = inv.started; bodies = inv.bodies; children = inv.children; owners = inv.owners; heads = inv.heads; closed = inv.closed; fine = λ t. grown_fine (Answered w s v applied) t (λ policy rule no f. f) refl (omega arith) (record { owner = refl; ids = refl; number = refl; head = refl; closed = λ unclosed. unclosed }) refl }
-  behind (Ended u) x = record { started = inv.started; bodies = inv.bodies; children = inv.children; owners = inv.owners; heads = inv.heads; closed = inv.closed; fine = λ t. grown_fine (Ended u) t (λ policy rule no f. f) refl (omega arith) (record { owner = refl; ids = refl; number = refl; head = refl; closed = λ unclosed. unclosed }) refl }
-  behind (Learned q n) x = record { started = inv.started; bodies = inv.bodies; children = inv.children; owners = inv.owners; heads = inv.heads; closed = inv.closed; fine = λ t. grown_fine (Learned q n) t (refuses_learned i st q n) refl (omega arith) (record { owner = refl; ids = refl; number = refl; head = refl; closed = λ unclosed. unclosed }) refl }
-  behind (Replied q reply n) x = record { started = inv.started; bodies = inv.bodies; children = inv.children; owners = inv.owners; heads = inv.heads; closed = inv.closed; fine = λ t. grown_fine (Replied q reply n) t (refuses_replied i st q reply n) refl (omega arith) (record { owner = refl; ids = refl; number = refl; head = refl; closed = λ unclosed. unclosed }) refl }
+  pub following : (e : Entry) → IsLawful i st e → Invariant i (state_after i st e)
+  following (Stored u place word) x = record { started = inv.started; bodies = λ t. left_at u t (u == t); children = inv.children; owners = inv.owners; heads = inv.heads; closed = inv.closed; fine = λ t. grown_fine (Stored u place word) t (λ policy rule no f. f) refl (omega arith) (record { owner = refl; ids = refl; number = refl; head = refl; closed = λ unclosed. unclosed }) refl }
+  following (Entered u call regs way) x = after_entered u call regs way x
+  following (Used u seq call regs args ids result changes) x = after_used u seq call regs args ids result changes x
+  following (Denied u seq errno cause) x = after_denied u seq errno cause x
+  following (Claimed w q) x = record { started = inv.started; bodies = inv.bodies; children = inv.children; owners = inv.owners; heads = inv.heads; closed = inv.closed; fine = λ t. grown_fine (Claimed w q) t (λ policy rule no f. f) refl (omega arith) (record { owner = refl; ids = refl; number = refl; head = refl; closed = λ unclosed. unclosed }) refl }
+  following (Copied q part place word) x = record { started = inv.started; bodies = inv.bodies; children = inv.children; owners = inv.owners; heads = inv.heads; closed = inv.closed; fine = λ t. grown_fine (Copied q part place word) t (λ policy rule no f. f) refl (omega arith) (record { owner = refl; ids = refl; number = refl; head = refl; closed = λ unclosed. unclosed }) refl }
+  following (Looked q part name seen) x = record { started = inv.started; bodies = inv.bodies; children = inv.children; owners = inv.owners; heads = inv.heads; closed = inv.closed; fine = λ t. grown_fine (Looked q part name seen) t (λ policy rule no f. f) refl (omega arith) (record { owner = refl; ids = refl; number = refl; head = refl; closed = λ unclosed. unclosed }) refl }
+  following (Faulted q errno) x = record { started = inv.started; bodies = inv.bodies; children = inv.children; owners = inv.owners; heads = inv.heads; closed = inv.closed; fine = λ t. grown_fine (Faulted q errno) t (λ policy rule no f. f) refl (omega arith) (record { owner = refl; ids = refl; number = refl; head = refl; closed = λ unclosed. unclosed }) refl }
+  following (Answered w s v applied) x = record { started = inv.started; bodies = inv.bodies; children = inv.children; owners = inv.owners; heads = inv.heads; closed = inv.closed; fine = λ t. grown_fine (Answered w s v applied) t (λ policy rule no f. f) refl (omega arith) (record { owner = refl; ids = refl; number = refl; head = refl; closed = λ unclosed. unclosed }) refl }
+  following (Ended u) x = record { started = inv.started; bodies = inv.bodies; children = inv.children; owners = inv.owners; heads = inv.heads; closed = inv.closed; fine = λ t. grown_fine (Ended u) t (λ policy rule no f. f) refl (omega arith) (record { owner = refl; ids = refl; number = refl; head = refl; closed = λ unclosed. unclosed }) refl }
+  following (Learned q n) x = record { started = inv.started; bodies = inv.bodies; children = inv.children; owners = inv.owners; heads = inv.heads; closed = inv.closed; fine = λ t. grown_fine (Learned q n) t (refuses_learned i st q n) refl (omega arith) (record { owner = refl; ids = refl; number = refl; head = refl; closed = λ unclosed. unclosed }) refl }
+  following (Replied q reply n) x = record { started = inv.started; bodies = inv.bodies; children = inv.children; owners = inv.owners; heads = inv.heads; closed = inv.closed; fine = λ t. grown_fine (Replied q reply n) t (refuses_replied i st q reply n) refl (omega arith) (record { owner = refl; ids = refl; number = refl; head = refl; closed = λ unclosed. unclosed }) refl }

@@ -38,7 +38,7 @@ use Rattle.st_law.specs.Lawful.{IsRunning}
 use Rattle.st_law.specs.Machine.{next_instruction_entry, unheld_entry, barred_entry, decided_entry, answered_entry, held_entry, pending_entry, running_entry, claimed_entry, least_waiting, answer_entry, working_entry, turn_entry, reply_entry, question_entry, asked_entry, operator_entry, least_question, entry_of, history, state_of_run, IsEnabled}
 use Rattle.st_law.specs.Messages.{Head}
 use Rattle.st_law.specs.Sessions.{least_from}
-use Rattle.st_law.specs.State.{State, process_in, is_live, is_waiting, progress_in, snapshot_of_progress, snapshot_in, is_worker, worker_at, arguments_now, decision_in, is_question, is_open_question, is_undecided, is_asked, next_reply}
+use Rattle.st_law.specs.State.{State, process_in, is_live, is_waiting, progress_in, snapshot_of_progress, snapshot_in, is_worker, worker_at, arguments_now, decision_in, is_question, is_open_question, is_undecided, operator_decides, next_reply}
 use Rattle.st_law.specs.Threads.{PendingCall, owner_at, has_ended_at}
 use Rattle.st_law.proofs.Invariant.{IsFine, Fine, IfPending}
 use Rattle.st_law.proofs.Least.{least}
@@ -170,14 +170,14 @@ module _ (i : Input) (st : State) (whole : Whole i st) (some_worker : 1 ≤ i.op
   reply_is q s None e = cc
   reply_is q s (Some reply) e = (_, refl)
 
-  question_is : (q : ℕ) (s : Snapshot) (mode : Mode) → is_asked i st s mode ≡ true → Is (question_entry i st q s mode)
+  question_is : (q : ℕ) (s : Snapshot) (mode : Mode) → operator_decides i st s mode ≡ true → Is (question_entry i st q s mode)
   question_is q s Enforce e = cc
   question_is q s Learn e = (_, refl)
   question_is q s AskText e = reply_is q s (next_reply i st s.policy s.rule) e
 
   asked_is : (q : ℕ) (o : Option Snapshot) → is_open_question i st o ≡ true → Is (asked_entry i st q o)
   asked_is q None e = cc
-  asked_is q (Some s) e = question_is q s i.options.mode (and_parts (is_undecided (decision_in i st s)) (is_asked i st s i.options.mode) e).1
+  asked_is q (Some s) e = question_is q s i.options.mode (and_parts (is_undecided (decision_in i st s)) (operator_decides i st s i.options.mode) e).1
 
   operator_enabled : (q : ℕ) → is_question i st q ≡ true → 1 ≤ q → q ≤ st.posted → Enabled
   operator_enabled q e low high =

@@ -10,10 +10,10 @@ use Rattle.st_law.specs.declared.input.Input.{Input}
 use Rattle.st_law.specs.Entries.{GivesSession, Replies}
 use Rattle.st_law.specs.History.{is_replied_at, message_at, session_at}
 use Rattle.st_law.specs.Sessions.{SessionFilter, kept_for, learnt_by, learnt_filter, replied_by}
-use Rattle.st_law.specs.Splits.{GivesSome, IsLastOf, IsTrueBehind}
+use Rattle.st_law.specs.Splits.{GivesSome, IsLastOf, IsTrueAfter}
 use Rattle.st_law.specs.State.{snapshot_of_message}
 use Rattle.st_law.specs.Threads.{History}
-use Rattle.st_law.proofs.Splitting.{same_by, either_true, or_left_true, or_right_true, last_of, true_behind}
+use Rattle.st_law.proofs.Splitting.{same_by, either_true, or_left_true, or_right_true, last_of, true_after}
 
 -- nothing is learnt if there are no copies
 nothing_learnt : (before : List SessionFilter) (o : Option Snapshot) → ((s : Snapshot) → o ≡ Some s → ⊥) → before ++ learnt_by o ≡ before
@@ -53,5 +53,5 @@ replied_only : (n : ℕ) (e : Entry) (h : History) → is_replied_at (e ∷ h) n
 replied_only n (Replied q reply number) h x = same_by reply n (is_replied_at h n) (either_true (reply == n) (is_replied_at h n) x)
 replied_only n _ h x = inr x
 
-pub replied : (n : ℕ) → IsTrueBehind (λ h. is_replied_at h n) (Replies n)
-replied n = true_behind (λ h. is_replied_at h n) (Replies n) refl (replied_up n) (replied_stays n) (replied_only n)
+pub replied : (n : ℕ) → IsTrueAfter (λ h. is_replied_at h n) (Replies n)
+replied n = true_after (λ h. is_replied_at h n) (Replies n) refl (replied_up n) (replied_stays n) (replied_only n)

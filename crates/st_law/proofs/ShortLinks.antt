@@ -139,19 +139,19 @@ module _ (i : Input) (st : State) (x : Short i st) where
   ended_files t false = x.files
 
   -- the invariant is kept by each lawful entry
-  pub short_behind : (e : Entry) → IsLawful i st e → Short i (state_after i st e)
-  short_behind (Used t seq call regs args ids result changes) y = call_short t seq call regs args ids result changes y
-  short_behind (Entered t call regs way) y = record { links = x.links; root = x.root; files = x.files; rules = λ q. rule_entered i st.processes (st.threads t).owner t call regs way (λ p. (st.messages p).head) x.rules q }
-  short_behind (Ended t) y = record { links = x.links; root = x.root; files = ended_files t (is_last_thread i st t); rules = x.rules }
-  short_behind (Stored t place word) y = record { links = x.links; root = x.root; files = x.files; rules = x.rules }
-  short_behind (Claimed w q) y = record { links = x.links; root = x.root; files = x.files; rules = x.rules }
-  short_behind (Copied q part place word) y = record { links = x.links; root = x.root; files = x.files; rules = x.rules }
-  short_behind (Looked q part name seen) y = record { links = x.links; root = x.root; files = x.files; rules = x.rules }
-  short_behind (Faulted q errno) y = record { links = x.links; root = x.root; files = x.files; rules = x.rules }
-  short_behind (Answered w s v applied) y = record { links = x.links; root = x.root; files = x.files; rules = x.rules }
-  short_behind (Denied t seq errno cause) y = record { links = x.links; root = x.root; files = x.files; rules = x.rules }
-  short_behind (Learned q n) y = record { links = x.links; root = x.root; files = x.files; rules = x.rules }
-  short_behind (Replied q reply n) y = record { links = x.links; root = x.root; files = x.files; rules = x.rules }
+  pub short_later : (e : Entry) → IsLawful i st e → Short i (state_after i st e)
+  short_later (Used t seq call regs args ids result changes) y = call_short t seq call regs args ids result changes y
+  short_later (Entered t call regs way) y = record { links = x.links; root = x.root; files = x.files; rules = λ q. rule_entered i st.processes (st.threads t).owner t call regs way (λ p. (st.messages p).head) x.rules q }
+  short_later (Ended t) y = record { links = x.links; root = x.root; files = ended_files t (is_last_thread i st t); rules = x.rules }
+  short_later (Stored t place word) y = record { links = x.links; root = x.root; files = x.files; rules = x.rules }
+  short_later (Claimed w q) y = record { links = x.links; root = x.root; files = x.files; rules = x.rules }
+  short_later (Copied q part place word) y = record { links = x.links; root = x.root; files = x.files; rules = x.rules }
+  short_later (Looked q part name seen) y = record { links = x.links; root = x.root; files = x.files; rules = x.rules }
+  short_later (Faulted q errno) y = record { links = x.links; root = x.root; files = x.files; rules = x.rules }
+  short_later (Answered w s v applied) y = record { links = x.links; root = x.root; files = x.files; rules = x.rules }
+  short_later (Denied t seq errno cause) y = record { links = x.links; root = x.root; files = x.files; rules = x.rules }
+  short_later (Learned q n) y = record { links = x.links; root = x.root; files = x.files; rules = x.rules }
+  short_later (Replied q reply n) y = record { links = x.links; root = x.root; files = x.files; rules = x.rules }
 
 -- ---- every lawful history
 
@@ -168,7 +168,7 @@ short_first i startable =
 -- the invariant holds after each lawful history
 pub short_of : (i : Input) → IsStartable i → (h : History) → IsLawfulBack i h → Short i (looking_back i h)
 short_of i startable [] lawful = short_first i startable
-short_of i startable (e ∷ h) lawful = short_behind i (looking_back i h) (short_of i startable h lawful.1) e lawful.0
+short_of i startable (e ∷ h) lawful = short_later i (looking_back i h) (short_of i startable h lawful.1) e lawful.0
 
 -- every link of the tree has a target of at most 255 bytes
 pub links_short : (i : Input) → IsStartable i → (h : History) → IsLawfulBack i h → HasShortLinks (looking_back i h).tree

@@ -3,7 +3,7 @@ use Rattle.std.proofs.Common.{◌≡◌, ◌⊎◌, ℕ, Bool, true, false, cond
 use Rattle.std.proofs.lemmas.Bool.{true≢false, eq-eqb, ne_eqb, eqb-true, and_from}
 use Rattle.st_trace.specs.declared.entry.Change.{Change}
 use Rattle.st_trace.specs.declared.entry.Entry.{Entry}
-use Rattle.st_law.specs.Splits.{NoneIn, SomeIn, LastGives, NoneTouches, IsLastGiven, GivesSome, IsLastOf, Contains, IsTrueBehind}
+use Rattle.st_law.specs.Splits.{NoneIn, SomeIn, LastGives, NoneTouches, IsLastGiven, GivesSome, IsLastOf, Contains, IsTrueAfter}
 use Rattle.st_law.specs.Threads.{History}
 
 -- ---- tests of numbers
@@ -96,18 +96,18 @@ module _ (f : Bool → Change → Bool) (Is : Change → Type 0) (up : (b : Bool
 -- ---- entries
 
 -- entries that don't touch a part leave it
-pub kept_behind : {V : Type 0} (value : History → V) (Touches : Entry → History → Type 0) → ((e : Entry) (h : History) → (Touches e h → ⊥) → value (e ∷ h) ≡ value h)
+pub kept_later : {V : Type 0} (value : History → V) (Touches : Entry → History → Type 0) → ((e : Entry) (h : History) → (Touches e h → ⊥) → value (e ∷ h) ≡ value h)
     → (later earlier : History) → NoneTouches Touches later earlier → value (later ++ earlier) ≡ value earlier
-kept_behind value Touches step [] earlier none = refl
-kept_behind value Touches step (e ∷ later) earlier none = step e (later ++ earlier) none.0 ∙ kept_behind value Touches step later earlier none.1
+kept_later value Touches step [] earlier none = refl
+kept_later value Touches step (e ∷ later) earlier none = step e (later ++ earlier) none.0 ∙ kept_later value Touches step later earlier none.1
 
 pub last_given : {V : Type 0} (value : History → V) (first : V) (Touches : Entry → History → Type 0) (Gives : Entry → History → V → Type 0) → value [] ≡ first
     → ((e : Entry) (h : History) → (Touches e h → ⊥) → value (e ∷ h) ≡ value h) → ((e : Entry) (h : History) (v : V) → Gives e h v → value (e ∷ h) ≡ v)
     → IsLastGiven value first Touches Gives
 last_given value first Touches Gives start step gives = record {
   at_first = start;
-  given = λ later earlier e v x none. kept_behind value Touches step later (e ∷ earlier) none ∙ gives e earlier v x;
-  kept = kept_behind value Touches step;
+  given = λ later earlier e v x none. kept_later value Touches step later (e ∷ earlier) none ∙ gives e earlier v x;
+  kept = kept_later value Touches step;
 }
 
 pub last_of : {V : Type 0} (value : History → V) (first : V) (Gives : Entry → History → V → Type 0) → value [] ≡ first
@@ -133,5 +133,5 @@ module _ (value : History → Bool) (Is : Entry → History → Type 0) (start :
   contains [] x = absurd (true≢false (sym x ∙ start))
   contains (e ∷ h) x = contains_by e h (contains h) (only e h x)
 
-  pub true_behind : IsTrueBehind value Is
-  true_behind = record { behind = λ later earlier e x. true_since later (e ∷ earlier) (up e earlier x); nowhere_else = contains }
+  pub true_after : IsTrueAfter value Is
+  true_after = record { following = λ later earlier e x. true_since later (e ∷ earlier) (up e earlier x); nowhere_else = contains }

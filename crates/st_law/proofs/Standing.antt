@@ -153,33 +153,33 @@ decision_stands i later earlier s some = let x : Grows i later earlier = session
 -- ---- a call is made as it was answered
 
 module _ (i : Input) (startable : IsStartable i) (later earlier : History) (w : ℕ) (s : Snapshot) (v : Verdict) where
-  abbrev behind : History
-  behind = later ++ Answered w s v true ∷ earlier
+  abbrev following : History
+  following = later ++ Answered w s v true ∷ earlier
 
   answer_verdict : (later : History) → IsLawfulBack i (later ++ Answered w s v true ∷ earlier) → v ≡ verdict (read_for i s.policy s.rule) s
   answer_verdict [] lawful = lawful.0.verdict_is
   answer_verdict (e ∷ later) lawful = answer_verdict later lawful.1
 
   -- the copies that are decided on are those that the answer was for, and the decision is the answer's verdict if that decides
-  pub same_copies : IsLawfulBack i behind → (u : Snapshot) → snapshot_in (looking_back i behind) s.seq ≡ Some u → u ≡ s
+  pub same_copies : IsLawfulBack i following → (u : Snapshot) → snapshot_in (looking_back i following) s.seq ≡ Some u → u ≡ s
   same_copies lawful u e = same_Some u s (sym e ∙ (answer_stands i startable later earlier w s v lawful).copies)
 
-  pub same_decision : IsLawfulBack i behind → v ≢ Unmatched → decision_in i (looking_back i behind) s ≡ v
-  same_decision lawful some = read_decides (read_for i s.policy s.rule) (session_filters (session_at i behind) s.policy s.rule) s v (sym (answer_verdict later lawful)) some
+  pub same_decision : IsLawfulBack i following → v ≢ Unmatched → decision_in i (looking_back i following) s ≡ v
+  same_decision lawful some = read_decides (read_for i s.policy s.rule) (session_filters (session_at i following) s.policy s.rule) s v (sym (answer_verdict later lawful)) some
 
-  pub used_as_answered : (t : ℕ) (call : SysCall) (regs : List ℕ) (args : List ArgText) (ids : Ids) (result : CallResult) (changes : List Change) → IsLawfulBack i (Used t (Some s.seq) call regs args ids result changes ∷ behind) → IsUsedAsAnswered s v call regs args ids
+  pub used_as_answered : (t : ℕ) (call : SysCall) (regs : List ℕ) (args : List ArgText) (ids : Ids) (result : CallResult) (changes : List Change) → IsLawfulBack i (Used t (Some s.seq) call regs args ids result changes ∷ following) → IsUsedAsAnswered s v call regs args ids
   used_as_answered t call regs args ids result changes lawful =
-      let y : IsUsedHeld i (looking_back i behind) t s.seq call regs args ids result changes = lawful.0 in
+      let y : IsUsedHeld i (looking_back i following) t s.seq call regs args ids result changes = lawful.0 in
       let same : y.copies ≡ s = same_copies lawful.1 y.copies y.permitted.judged.copies in record {
         call_is = sym (ap (λ u. u.call) same) ∙ y.call_is;
         regs_are = sym (ap (λ u. u.regs) same) ∙ y.regs_are;
         args_are = y.args_are ∙ ap (λ u. u.parts) same;
-        ids_are = λ some. (y.permitted.filter, sym (same_decision lawful.1 some) ∙ sym (ap (decision_in i (looking_back i behind)) same) ∙ y.permitted.permitted);
+        ids_are = λ some. (y.permitted.filter, sym (same_decision lawful.1 some) ∙ sym (ap (decision_in i (looking_back i following)) same) ∙ y.permitted.permitted);
       }
 
   -- a filter that is the cause of the denial is the one that the answer named
-  pub denied_as_answered : (t : ℕ) (errno : Errno) (n : ℕ) → IsLawfulBack i (Denied t (Some s.seq) errno (Filter n) ∷ behind) → v ≢ Unmatched → v ≡ Refuse n errno
+  pub denied_as_answered : (t : ℕ) (errno : Errno) (n : ℕ) → IsLawfulBack i (Denied t (Some s.seq) errno (Filter n) ∷ following) → v ≢ Unmatched → v ≡ Refuse n errno
   denied_as_answered t errno n lawful some =
-      let y : IsDeniedHeld i (looking_back i behind) t s.seq errno (Filter n) = lawful.0 in
+      let y : IsDeniedHeld i (looking_back i following) t s.seq errno (Filter n) = lawful.0 in
       let same : y.cause_is.0 ≡ s = same_copies lawful.1 y.cause_is.0 y.cause_is.1.copies in
-      sym (same_decision lawful.1 some) ∙ sym (ap (decision_in i (looking_back i behind)) same) ∙ y.cause_is.2
+      sym (same_decision lawful.1 some) ∙ sym (ap (decision_in i (looking_back i following)) same) ∙ y.cause_is.2

@@ -11,9 +11,9 @@ use Rattle.st_trace.specs.declared.start.Instr.{Instr}
 use Rattle.st_trace.specs.declared.start.Instr.TheVariants.{Store, Call, Fork}
 use Rattle.st_law.specs.declared.input.Input.{Input}
 use Rattle.st_law.specs.Entries.{Forks, GivesLeft, GivesNumber, GivesPending, IsChild, IsEnd, IsFork, Kills, LeavesDying, Renews, RenewsAs, Starts, StartsIn, TouchesNumber}
-use Rattle.st_law.specs.Splits.{IsLastGiven, IsLastOf, IsTrueBehind, NoneIn, NoneTouches, GivesSome}
+use Rattle.st_law.specs.Splits.{IsLastGiven, IsLastOf, IsTrueAfter, NoneIn, NoneTouches, GivesSome}
 use Rattle.st_law.specs.Threads.{History, PendingCall, body_of, changes_of, child_of_next, has_ended_at, is_dying_at, left_at, number_at, owner_at, pending_at}
-use Rattle.st_law.proofs.Splitting.{when_same, when_other, when_either, same_part, other_part, same_by, either_true, or_left_true, or_right_true, none_in, fold_apart, fold_kept, flag_up, flag_stays, flag_only, kept_behind, last_given, last_of, true_behind}
+use Rattle.st_law.proofs.Splitting.{when_same, when_other, when_either, same_part, other_part, same_by, either_true, or_left_true, or_right_true, none_in, fold_apart, fold_kept, flag_up, flag_stays, flag_only, kept_later, last_given, last_of, true_after}
 
 -- ---- its process
 
@@ -35,7 +35,7 @@ not_started_step i t (Used u seq call regs args ids result changes) h none =
 not_started_step i t _ h none = refl
 
 pub not_started : (i : Input) (t : ℕ) (later earlier : History) → NoneTouches (Forks t) later earlier → owner_at i (later ++ earlier) t ≡ owner_at i earlier t
-not_started i t = kept_behind (λ h. owner_at i h t) (Forks t) (not_started_step i t)
+not_started i t = kept_later (λ h. owner_at i h t) (Forks t) (not_started_step i t)
 
 pub started_once : (i : Input) (t : ℕ) (later earlier : History) → owner_at i earlier t ≢ 0 → owner_at i (later ++ earlier) t ≡ owner_at i earlier t
 started_once i t [] earlier there = refl
@@ -197,8 +197,8 @@ dying_only i t (Used u seq call regs args ids result changes) h x =
     flag_only (falls i t u h) (Kills i t u h) (kill_up i t u h) (kill_stays i t u h) (kill_only i t u h) (is_dying_at i h t) changes x
 dying_only i t _ h x = inr x
 
-pub dying : (i : Input) (t : ℕ) → IsTrueBehind (λ h. is_dying_at i h t) (LeavesDying i t)
-dying i t = true_behind (λ h. is_dying_at i h t) (LeavesDying i t) refl (dying_up i t) (dying_stays i t) (dying_only i t)
+pub dying : (i : Input) (t : ℕ) → IsTrueAfter (λ h. is_dying_at i h t) (LeavesDying i t)
+dying i t = true_after (λ h. is_dying_at i h t) (LeavesDying i t) refl (dying_up i t) (dying_stays i t) (dying_only i t)
 
 ended_up : (t : ℕ) (e : Entry) (h : History) → IsEnd t e h → has_ended_at (e ∷ h) t ≡ true
 ended_up t (Ended u) h x = or_left_true (u == t) (has_ended_at h t) (eq-eqb u t x)
@@ -212,5 +212,5 @@ ended_only : (t : ℕ) (e : Entry) (h : History) → has_ended_at (e ∷ h) t �
 ended_only t (Ended u) h x = same_by u t (has_ended_at h t) (either_true (u == t) (has_ended_at h t) x)
 ended_only t _ h x = inr x
 
-pub ended : (t : ℕ) → IsTrueBehind (λ h. has_ended_at h t) (IsEnd t)
-ended t = true_behind (λ h. has_ended_at h t) (IsEnd t) refl (ended_up t) (ended_stays t) (ended_only t)
+pub ended : (t : ℕ) → IsTrueAfter (λ h. has_ended_at h t) (IsEnd t)
+ended t = true_after (λ h. has_ended_at h t) (IsEnd t) refl (ended_up t) (ended_stays t) (ended_only t)

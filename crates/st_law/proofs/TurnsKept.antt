@@ -68,8 +68,8 @@ module _ (i : Input) (st : State) (inv : Invariant i st) (x : Turns i st) where
     on_turn P own other v p (inl a) = subst (λ n. P n p) a.0 (subst (P w) a.1 own)
     on_turn P own other v p (inr a) = other v p a.1
 
-    behind_claimed : Turns i claimed_state
-    behind_claimed = record {
+    after_claimed : Turns i claimed_state
+    after_claimed = record {
       worker = λ v p e. on_turn (λ v p. is_worker i v ≡ true) y.worker (λ v p f. x.worker v p f) v p (turn_cases v p (w == v) refl e);
       claimed = λ v p e. on_turn (λ v p. (q == p || (st.messages p).claimed) ≡ true) (claimed_now q refl) (λ v p f. or_right (q == p) (st.messages p).claimed (x.claimed v p f)) v p (turn_cases v p (w == v) refl e);
       unanswered = λ v p e. on_turn (λ v p. (st.messages p).answered ≡ false) q_fresh.answered (λ v p f. x.unanswered v p f) v p (turn_cases v p (w == v) refl e);
@@ -98,8 +98,8 @@ module _ (i : Input) (st : State) (inv : Invariant i st) (x : Turns i st) where
     fresh_other : (p : ℕ) → (st.messages p).claimed ≡ false → q ≢ p
     fresh_other p e same = unlike (st.messages p).claimed (subst (λ n. (st.messages n).claimed ≡ true) same (x.claimed w q turn)) e
 
-    behind_copied : (part place word : ℕ) → Turns i (state_after i st (Copied q part place word))
-    behind_copied part place word = record {
+    after_copied : (part place word : ℕ) → Turns i (state_after i st (Copied q part place word))
+    after_copied part place word = record {
       worker = x.worker;
       claimed = x.claimed;
       unanswered = x.unanswered;
@@ -116,8 +116,8 @@ module _ (i : Input) (st : State) (inv : Invariant i st) (x : Turns i st) where
       same_words : (p : ℕ) → q ≢ p → (j : ℕ) → cond (q == p && part == j) ((st.messages p).words j ++ word ∷ []) ((st.messages p).words j) ≡ (st.messages p).words j
       same_words p differ j = ap (λ b. cond (b && part == j) ((st.messages p).words j ++ word ∷ []) ((st.messages p).words j)) (ne_eqb q p differ)
 
-    behind_looked : (part : ℕ) (name : Components) (seen : SeenText) → Turns i (state_after i st (Looked q part name seen))
-    behind_looked part name seen = record {
+    after_looked : (part : ℕ) (name : Components) (seen : SeenText) → Turns i (state_after i st (Looked q part name seen))
+    after_looked part name seen = record {
       worker = x.worker;
       claimed = x.claimed;
       unanswered = x.unanswered;
@@ -146,8 +146,8 @@ module _ (i : Input) (st : State) (inv : Invariant i st) (x : Turns i st) where
     same_fault : (errno : Errno) (p : ℕ) → q ≢ p → cond (q == p) (Some errno) (st.messages p).fault ≡ (st.messages p).fault
     same_fault errno p differ = ap (λ b. cond b (Some errno) (st.messages p).fault) (ne_eqb q p differ)
 
-    behind_faulted : (errno : Errno) → Turns i (state_after i st (Faulted q errno))
-    behind_faulted errno = record {
+    after_faulted : (errno : Errno) → Turns i (state_after i st (Faulted q errno))
+    after_faulted errno = record {
       worker = λ v p e. x.worker v p (faulted_turn v p (st.turns v) e).0;
       claimed = λ v p e. x.claimed v p (faulted_turn v p (st.turns v) e).0;
       unanswered = λ v p e. x.unanswered v p (faulted_turn v p (st.turns v) e).0;
@@ -207,8 +207,8 @@ module _ (i : Input) (st : State) (inv : Invariant i st) (x : Turns i st) where
           by u turn true g = absurd (eqb-false s.seq p e (some_inj s.seq p (sym own_turn ∙ ap st.turns (eqb-true w u g) ∙ turn)))
           by u turn false g = turn
 
-    behind_answered : Turns i answered_state
-    behind_answered = record {
+    after_answered : Turns i answered_state
+    after_answered = record {
       worker = λ u p e. x.worker u p (other_turn u p (w == u) refl e).0;
       claimed = λ u p e. x.claimed u p (other_turn u p (w == u) refl e).0;
       unanswered = λ u p e. let f : (st.turns u ≡ Some p) × (s.seq ≢ p) = other_turn u p (w == u) refl e in same_answered p f.1 ∙ x.unanswered u p f.0;
@@ -223,16 +223,16 @@ module _ (i : Input) (st : State) (inv : Invariant i st) (x : Turns i st) where
     }
 
   -- the invariant of turns is kept by each lawful entry
-  pub turns_behind : (e : Entry) → IsLawful i st e → Turns i (state_after i st e)
-  turns_behind (Claimed w q) y = behind_claimed w q y
-  turns_behind (Copied q part place word) y = behind_copied y.served.number q y.served.at part place word
-  turns_behind (Looked q part name seen) y = behind_looked y.served.number q y.served.at part name seen
-  turns_behind (Faulted q errno) y = behind_faulted y.served.number q y.served.at errno
-  turns_behind (Answered w s v applied) y = behind_answered w s v applied y
-  turns_behind (Stored u place word) y = turns_moved i st inv x (state_after i st (Stored u place word)) (moves i st inv (Stored u place word) y) refl (λ p. refl) (λ p. refl) (λ p. refl) (λ p. refl) (λ p. refl)
-  turns_behind (Entered u call regs way) y = turns_moved i st inv x (state_after i st (Entered u call regs way)) (moves i st inv (Entered u call regs way) y) refl (λ p. refl) (λ p. refl) (λ p. refl) (λ p. refl) (λ p. refl)
-  turns_behind (Used u seq call regs args ids result changes) y = turns_moved i st inv x (state_after i st (Used u seq call regs args ids result changes)) (moves i st inv (Used u seq call regs args ids result changes) y) refl (λ p. refl) (λ p. refl) (λ p. refl) (λ p. refl) (λ p. refl)
-  turns_behind (Denied u seq errno cause) y = turns_moved i st inv x (state_after i st (Denied u seq errno cause)) (moves i st inv (Denied u seq errno cause) y) refl (λ p. refl) (λ p. refl) (λ p. refl) (λ p. refl) (λ p. refl)
-  turns_behind (Ended u) y = turns_moved i st inv x (state_after i st (Ended u)) (moves i st inv (Ended u) y) refl (λ p. refl) (λ p. refl) (λ p. refl) (λ p. refl) (λ p. refl)
-  turns_behind (Learned q n) y = turns_moved i st inv x (state_after i st (Learned q n)) (moves i st inv (Learned q n) y) refl (λ p. refl) (λ p. refl) (λ p. refl) (λ p. refl) (λ p. refl)
-  turns_behind (Replied q reply n) y = turns_moved i st inv x (state_after i st (Replied q reply n)) (moves i st inv (Replied q reply n) y) refl (λ p. refl) (λ p. refl) (λ p. refl) (λ p. refl) (λ p. refl)
+  pub turns_after : (e : Entry) → IsLawful i st e → Turns i (state_after i st e)
+  turns_after (Claimed w q) y = after_claimed w q y
+  turns_after (Copied q part place word) y = after_copied y.served.number q y.served.at part place word
+  turns_after (Looked q part name seen) y = after_looked y.served.number q y.served.at part name seen
+  turns_after (Faulted q errno) y = after_faulted y.served.number q y.served.at errno
+  turns_after (Answered w s v applied) y = after_answered w s v applied y
+  turns_after (Stored u place word) y = turns_moved i st inv x (state_after i st (Stored u place word)) (moves i st inv (Stored u place word) y) refl (λ p. refl) (λ p. refl) (λ p. refl) (λ p. refl) (λ p. refl)
+  turns_after (Entered u call regs way) y = turns_moved i st inv x (state_after i st (Entered u call regs way)) (moves i st inv (Entered u call regs way) y) refl (λ p. refl) (λ p. refl) (λ p. refl) (λ p. refl) (λ p. refl)
+  turns_after (Used u seq call regs args ids result changes) y = turns_moved i st inv x (state_after i st (Used u seq call regs args ids result changes)) (moves i st inv (Used u seq call regs args ids result changes) y) refl (λ p. refl) (λ p. refl) (λ p. refl) (λ p. refl) (λ p. refl)
+  turns_after (Denied u seq errno cause) y = turns_moved i st inv x (state_after i st (Denied u seq errno cause)) (moves i st inv (Denied u seq errno cause) y) refl (λ p. refl) (λ p. refl) (λ p. refl) (λ p. refl) (λ p. refl)
+  turns_after (Ended u) y = turns_moved i st inv x (state_after i st (Ended u)) (moves i st inv (Ended u) y) refl (λ p. refl) (λ p. refl) (λ p. refl) (λ p. refl) (λ p. refl)
+  turns_after (Learned q n) y = turns_moved i st inv x (state_after i st (Learned q n)) (moves i st inv (Learned q n) y) refl (λ p. refl) (λ p. refl) (λ p. refl) (λ p. refl) (λ p. refl)
+  turns_after (Replied q reply n) y = turns_moved i st inv x (state_after i st (Replied q reply n)) (moves i st inv (Replied q reply n) y) refl (λ p. refl) (λ p. refl) (λ p. refl) (λ p. refl) (λ p. refl)

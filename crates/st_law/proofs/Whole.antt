@@ -15,9 +15,9 @@ use Rattle.st_law.specs.Threads.{History}
 use Rattle.st_law.proofs.Invariant.{Invariant}
 use Rattle.st_law.proofs.Laws.{at_first}
 use Rattle.st_law.proofs.Moves.{Moves, moves}
-use Rattle.st_law.proofs.Preserved.{behind}
+use Rattle.st_law.proofs.Preserved.{following}
 use Rattle.st_law.proofs.Turns.{Turns, unlike}
-use Rattle.st_law.proofs.TurnsKept.{turns_behind}
+use Rattle.st_law.proofs.TurnsKept.{turns_after}
 
 -- no message has the number 0, and each claimed number has a head
 pub record Posted (st : State) : Type 0 where
@@ -50,26 +50,26 @@ module _ (i : Input) (st : State) (whole : Whole i st) where
   claimed_head w q p live true e claimed = subst (λ n. (head : Head) × ((st.messages n).head ≡ Some head)) (eqb-true q p e) (live_head st q live)
   claimed_head w q p live false e claimed = whole.posted.claimed p claimed
 
-  posted_behind : (e : Entry) → IsLawful i st e → Moves st (state_after i st e) → Posted (state_after i st e)
-  posted_behind (Claimed w q) y moved = record { zero = whole.posted.zero; claimed = λ p f. claimed_head w q p y.live (q == p) refl f }
-  posted_behind (Stored u place word) y moved = record { zero = moved.heads 0 (omega arith) ∙ whole.posted.zero; claimed = λ p f. kept_head (state_after i st (Stored u place word)) moved p f }
-  posted_behind (Entered u call regs way) y moved = record { zero = moved.heads 0 (omega arith) ∙ whole.posted.zero; claimed = λ p f. kept_head (state_after i st (Entered u call regs way)) moved p f }
-  posted_behind (Copied q part place word) y moved = record { zero = moved.heads 0 (omega arith) ∙ whole.posted.zero; claimed = λ p f. kept_head (state_after i st (Copied q part place word)) moved p f }
-  posted_behind (Looked q part name seen) y moved = record { zero = moved.heads 0 (omega arith) ∙ whole.posted.zero; claimed = λ p f. kept_head (state_after i st (Looked q part name seen)) moved p f }
-  posted_behind (Faulted q errno) y moved = record { zero = moved.heads 0 (omega arith) ∙ whole.posted.zero; claimed = λ p f. kept_head (state_after i st (Faulted q errno)) moved p f }
-  posted_behind (Answered w s v applied) y moved = record { zero = moved.heads 0 (omega arith) ∙ whole.posted.zero; claimed = λ p f. kept_head (state_after i st (Answered w s v applied)) moved p f }
-  posted_behind (Used u seq call regs args ids result changes) y moved = record { zero = moved.heads 0 (omega arith) ∙ whole.posted.zero; claimed = λ p f. kept_head (state_after i st (Used u seq call regs args ids result changes)) moved p f }
-  posted_behind (Denied u seq errno cause) y moved = record { zero = moved.heads 0 (omega arith) ∙ whole.posted.zero; claimed = λ p f. kept_head (state_after i st (Denied u seq errno cause)) moved p f }
-  posted_behind (Ended u) y moved = record { zero = moved.heads 0 (omega arith) ∙ whole.posted.zero; claimed = λ p f. kept_head (state_after i st (Ended u)) moved p f }
-  posted_behind (Learned q n) y moved = record { zero = moved.heads 0 (omega arith) ∙ whole.posted.zero; claimed = λ p f. kept_head (state_after i st (Learned q n)) moved p f }
-  posted_behind (Replied q reply n) y moved = record { zero = moved.heads 0 (omega arith) ∙ whole.posted.zero; claimed = λ p f. kept_head (state_after i st (Replied q reply n)) moved p f }
+  posted_later : (e : Entry) → IsLawful i st e → Moves st (state_after i st e) → Posted (state_after i st e)
+  posted_later (Claimed w q) y moved = record { zero = whole.posted.zero; claimed = λ p f. claimed_head w q p y.live (q == p) refl f }
+  posted_later (Stored u place word) y moved = record { zero = moved.heads 0 (omega arith) ∙ whole.posted.zero; claimed = λ p f. kept_head (state_after i st (Stored u place word)) moved p f }
+  posted_later (Entered u call regs way) y moved = record { zero = moved.heads 0 (omega arith) ∙ whole.posted.zero; claimed = λ p f. kept_head (state_after i st (Entered u call regs way)) moved p f }
+  posted_later (Copied q part place word) y moved = record { zero = moved.heads 0 (omega arith) ∙ whole.posted.zero; claimed = λ p f. kept_head (state_after i st (Copied q part place word)) moved p f }
+  posted_later (Looked q part name seen) y moved = record { zero = moved.heads 0 (omega arith) ∙ whole.posted.zero; claimed = λ p f. kept_head (state_after i st (Looked q part name seen)) moved p f }
+  posted_later (Faulted q errno) y moved = record { zero = moved.heads 0 (omega arith) ∙ whole.posted.zero; claimed = λ p f. kept_head (state_after i st (Faulted q errno)) moved p f }
+  posted_later (Answered w s v applied) y moved = record { zero = moved.heads 0 (omega arith) ∙ whole.posted.zero; claimed = λ p f. kept_head (state_after i st (Answered w s v applied)) moved p f }
+  posted_later (Used u seq call regs args ids result changes) y moved = record { zero = moved.heads 0 (omega arith) ∙ whole.posted.zero; claimed = λ p f. kept_head (state_after i st (Used u seq call regs args ids result changes)) moved p f }
+  posted_later (Denied u seq errno cause) y moved = record { zero = moved.heads 0 (omega arith) ∙ whole.posted.zero; claimed = λ p f. kept_head (state_after i st (Denied u seq errno cause)) moved p f }
+  posted_later (Ended u) y moved = record { zero = moved.heads 0 (omega arith) ∙ whole.posted.zero; claimed = λ p f. kept_head (state_after i st (Ended u)) moved p f }
+  posted_later (Learned q n) y moved = record { zero = moved.heads 0 (omega arith) ∙ whole.posted.zero; claimed = λ p f. kept_head (state_after i st (Learned q n)) moved p f }
+  posted_later (Replied q reply n) y moved = record { zero = moved.heads 0 (omega arith) ∙ whole.posted.zero; claimed = λ p f. kept_head (state_after i st (Replied q reply n)) moved p f }
 
   -- all invariants are kept by each lawful entry
-  pub whole_behind : (e : Entry) → IsLawful i st e → Whole i (state_after i st e)
-  whole_behind e y = record {
-    calls = behind i st whole.calls e y;
-    turns = turns_behind i st whole.calls whole.turns e y;
-    posted = posted_behind e y (moves i st whole.calls e y);
+  pub whole_after : (e : Entry) → IsLawful i st e → Whole i (state_after i st e)
+  whole_after e y = record {
+    calls = following i st whole.calls e y;
+    turns = turns_after i st whole.calls whole.turns e y;
+    posted = posted_later e y (moves i st whole.calls e y);
   }
 
 turns_first : (i : Input) → Turns i (first_state i)
@@ -89,4 +89,4 @@ turns_first i = record {
 -- all invariants hold after a lawful history
 pub whole_of : (i : Input) → IsStartable i → (h : History) → IsLawfulBack i h → Whole i (looking_back i h)
 whole_of i startable [] lawful = record { calls = at_first i startable; turns = turns_first i; posted = record { zero = refl; claimed = λ q e. cc } }
-whole_of i startable (e ∷ h) lawful = whole_behind i (looking_back i h) (whole_of i startable h lawful.1) e lawful.0
+whole_of i startable (e ∷ h) lawful = whole_after i (looking_back i h) (whole_of i startable h lawful.1) e lawful.0

@@ -170,7 +170,7 @@ Covers s b (Forked pid space tid) = space ≡ s
 Covers s b _ = ⊥
 
 -- v is the byte at address b of bytes that begin at address `at`
-pub record LiesAt (b at : ℕ) (bytes : List ℕ) (v : ℕ) : Type 0 where
+pub record IsByteAt (b at : ℕ) (bytes : List ℕ) (v : ℕ) : Type 0 where
   pub first : List ℕ
   pub rest : List ℕ
   pub split : bytes ≡ first ++ v ∷ rest
@@ -178,7 +178,7 @@ pub record LiesAt (b at : ℕ) (bytes : List ℕ) (v : ℕ) : Type 0 where
 
 -- a change made by thread u gives byte b of space s its value; a child's space has the bytes of its parent's, if no change before wrote it
 abbrev pub GivesByteIn : Input → ℕ → ℕ → ℕ → History → List Change → Change → ℕ → Type 0
-GivesByteIn i s b u h before (Put space at bytes) v = (space ≡ s) × LiesAt b at bytes v
+GivesByteIn i s b u h before (Put space at bytes) v = (space ≡ s) × IsByteAt b at bytes v
 GivesByteIn i s b u h before (Forked pid space tid) v = (space ≡ s) × NoneIn (Covers (memory_of i h u) b) before × (v ≡ byte_at i h (memory_of i h u) b)
 GivesByteIn i s b u h before _ v = ⊥
 

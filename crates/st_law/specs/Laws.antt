@@ -30,7 +30,7 @@ pub record IsUsedAsAnswered (s : Snapshot) (v : Verdict) (call : SysCall) (regs 
   pub ids_are : v ≢ Unmatched → (n : ℕ) × (v ≡ Permit n ids)
 
 -- these arguments have one with the label's name, the index and the text of this argument
-pub record StandsAmong (args : List ArgText) (arg : ArgText) : Type 0 where
+pub record HasEqualArgument (args : List ArgText) (arg : ArgText) : Type 0 where
   pub place : ℕ
   pub same : ArgText
   pub there : slice_get args place ≡ Some same
@@ -39,8 +39,8 @@ pub record StandsAmong (args : List ArgText) (arg : ArgText) : Type 0 where
   pub text : same.text ≡ arg.text
 
 -- these arguments have each of the wanted ones
-abbrev pub AllStandAmong : List ArgText → List ArgText → Type 0
-AllStandAmong args wanted = (j : ℕ) (arg : ArgText) → slice_get wanted j ≡ Some arg → StandsAmong args arg
+abbrev pub HaveEqualArguments : List ArgText → List ArgText → Type 0
+HaveEqualArguments args wanted = (j : ℕ) (arg : ArgText) → slice_get wanted j ≡ Some arg → HasEqualArgument args arg
 
 -- the played state is that of the played choices, and no choice is enabled in it
 pub record IsRested (i : Input) (played : Played) : Type 0 where
@@ -75,7 +75,7 @@ abbrev pub IsOneOf : Input → ℕ → Type 0
 IsOneOf i t = (1 ≤ t) × (t ≤ length i.start.threads)
 
 -- a process exists and hasn't ended: its number was given, and it has no thread, or one that hasn't ended
-pub record IsThere (i : Input) (st : State) (p : ℕ) : Type 0 where
+pub record IsProcessLive (i : Input) (st : State) (p : ℕ) : Type 0 where
   pub low : 1 ≤ p
   pub given : p < st.next_process
   pub running : ((t : ℕ) → IsOneOf i t → (st.threads t).owner ≢ p)
@@ -91,7 +91,7 @@ pub record HoldsCall (i : Input) (st : State) (t : ℕ) : Type 0 where
   pub undying : (st.threads t).dying ≡ false
 
 -- these are the calls that threads hold, in the order of the threads, each with its process and number
-pub record AreHeld (i : Input) (st : State) (helds : List HeldCall) : Type 0 where
+pub record AreHeldCalls (i : Input) (st : State) (helds : List HeldCall) : Type 0 where
   pub sound : (k : ℕ) (held : HeldCall) → slice_get helds k ≡ Some held → HoldsCall i st held.tid
       × (held ≡ record { tid = held.tid; pid = (st.threads held.tid).owner; number = (st.threads held.tid).number })
   pub complete : (t : ℕ) → HoldsCall i st t → (k : ℕ) × (held : HeldCall) × (slice_get helds k ≡ Some held) × (held.tid ≡ t)

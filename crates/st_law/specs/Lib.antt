@@ -16,4 +16,4 @@ pub mod Sessions
 pub mod Splits
 pub mod State
 pub mod Threads
-pub mod Told
+pub mod Recorded

@@ -35,9 +35,9 @@ pub record IsFirstLink (tree : Tree) (follow : Bool) (name link : Components) : 
   pub first : (on : Components) → IsOnWay follow name on → length on < length link → IsLinkName tree on → ⊥
 
 -- the first link on the way to a name, or none
-abbrev pub IsFound : Tree → Bool → Components → Option Components → Type 0
-IsFound tree follow name None = IsUnlinked tree follow name
-IsFound tree follow name (Some link) = IsFirstLink tree follow name link
+abbrev pub IsLinkFound : Tree → Bool → Components → Option Components → Type 0
+IsLinkFound tree follow name None = IsUnlinked tree follow name
+IsLinkFound tree follow name (Some link) = IsFirstLink tree follow name link
 
 -- part j of a call is a name, with this register and text
 pub record IsNamePart (specs : List ArgSpec) (args : List ArgText) (j register : ℕ) (text : List ℕ) : Type 0 where
@@ -50,12 +50,12 @@ pub record IsNamePart (specs : List ArgSpec) (args : List ArgText) (j register :
   pub text_is : arg.text ≡ text
 
 -- no name among the parts has a link on its way
-abbrev pub NoneMeets : Tree → SysCall → List ℕ → List ArgSpec → List ArgText → Type 0
-NoneMeets tree call regs specs args =
+abbrev pub NoPartHasLink : Tree → SysCall → List ℕ → List ArgSpec → List ArgText → Type 0
+NoPartHasLink tree call regs specs args =
     (j register : ℕ) (text : List ℕ) → IsNamePart specs args j register text → IsUnlinked tree (follows call regs register) (components_of text)
 
 -- a name among the parts has this first link on its way, and no name before it has one
-pub record FirstMeets (tree : Tree) (call : SysCall) (regs : List ℕ) (specs : List ArgSpec) (args : List ArgText) (link : Components) : Type 0 where
+pub record FirstPartWithLink (tree : Tree) (call : SysCall) (regs : List ℕ) (specs : List ArgSpec) (args : List ArgText) (link : Components) : Type 0 where
   pub j : ℕ
   pub register : ℕ
   pub text : List ℕ
@@ -64,10 +64,10 @@ pub record FirstMeets (tree : Tree) (call : SysCall) (regs : List ℕ) (specs : 
   pub before : (k other : ℕ) (words : List ℕ) → k < j → IsNamePart specs args k other words → IsUnlinked tree (follows call regs other) (components_of words)
 
 -- the first link on the way to the names among some parts, or none
-abbrev pub IsMetAmong : Tree → SysCall → List ℕ → List ArgSpec → List ArgText → Option Components → Type 0
-IsMetAmong tree call regs specs args None = NoneMeets tree call regs specs args
-IsMetAmong tree call regs specs args (Some link) = FirstMeets tree call regs specs args link
+abbrev pub IsFirstLinkAmongParts : Tree → SysCall → List ℕ → List ArgSpec → List ArgText → Option Components → Type 0
+IsFirstLinkAmongParts tree call regs specs args None = NoPartHasLink tree call regs specs args
+IsFirstLinkAmongParts tree call regs specs args (Some link) = FirstPartWithLink tree call regs specs args link
 
 -- the first link in the way of a call, or none
-abbrev pub IsMet : Tree → Rule → SysCall → List ℕ → List ArgText → Option Components → Type 0
-IsMet tree rule call regs args = IsMetAmong tree call regs (args_of rule) args
+abbrev pub IsFirstLinkInWay : Tree → Rule → SysCall → List ℕ → List ArgText → Option Components → Type 0
+IsFirstLinkInWay tree rule call regs args = IsFirstLinkAmongParts tree call regs (args_of rule) args

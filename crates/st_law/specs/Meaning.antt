@@ -29,7 +29,7 @@ use Rattle.st_trace.specs.declared.start.TreeRow.{TreeRow}
 use Rattle.st_law.specs.declared.input.Input.{Input}
 use Rattle.st_law.specs.declared.input.Mode.TheVariants.{Learn, AskText}
 use Rattle.st_law.specs.Messages.{Head}
-use Rattle.st_law.specs.OneStep.{AreTaken}
+use Rattle.st_law.specs.OneStep.{AreTakenInOneStep}
 use Rattle.st_law.specs.Processes.{first_process}
 use Rattle.st_law.specs.Sessions.{SessionFilter, session_filters}
 use Rattle.st_law.specs.State.{State, is_live, progress_in, snapshot_in}
@@ -42,7 +42,7 @@ abbrev pub IsWorker : Input → ℕ → Type 0
 IsWorker i w = (1 ≤ w) × (w ≤ i.options.workers)
 
 -- a worker is at a number: it has claimed it, and the number is live or all its arguments are complete
-pub record IsAt (st : State) (w q : ℕ) : Type 0 where
+pub record IsWorkerAt (st : State) (w q : ℕ) : Type 0 where
   pub turn : st.turns w ≡ Some q
   pub goes_on : (is_live st q ≡ true) ⊎ ((args : List ArgText) × (progress_in st q ≡ Ready args))
 
@@ -142,7 +142,7 @@ pub record IsMadeWith (i : Input) (st : State) (t : ℕ) (regs : List ℕ) (args
   pub inherit_is : request.inherit ≡ i.options.inherit
 
 -- a call sees the tree, memory, descriptors and processes of the state, and the numbers that come next
-pub record IsFoundAs (st : State) (system : System) : Type 0 where
+pub record IsSystemOfState (st : State) (system : System) : Type 0 where
   pub tree_is : system.tree ≡ st.tree
   pub memory_is : system.memory ≡ st.memory
   pub descriptors_are : system.descriptors ≡ st.descriptors
@@ -157,7 +157,7 @@ abbrev pub AreArgumentsOf : Input → State → ℕ → SysCall → List ℕ →
 AreArgumentsOf i st t call regs arguments =
     let asked : ArgRequest = record { rule = rule_of call regs i.options.aliasing; call = call; regs = regs; cwd = (st.processes (st.threads t).owner).cwd } in
     (words : ℕ → List ℕ) × (lookups : ℕ → List SeenText)
-    × AreTaken asked (record { bytes = st.memory (st.processes (st.threads t).owner).space; tree = st.tree }) words lookups
+    × AreTakenInOneStep asked (record { bytes = st.memory (st.processes (st.threads t).owner).space; tree = st.tree }) words lookups
     × (arguments ≡ progress asked words lookups)
 
 -- ---- how a run begins

@@ -24,7 +24,7 @@ AreLookupsOf tree cwd follow text lookups = (front : List SeenText) (seen : Seen
     → (name : Components) × (start_walk text cwd follow front ≡ Next name) × (seen ≡ look tree name)
 
 -- words from one memory and lookups in one tree, with which a worker gets the arguments that are taken in one step
-pub record AreTaken (asked : ArgRequest) (around : Surroundings) (words : ℕ → List ℕ) (lookups : ℕ → List SeenText) : Type 0 where
+pub record AreTakenInOneStep (asked : ArgRequest) (around : Surroundings) (words : ℕ → List ℕ) (lookups : ℕ → List SeenText) : Type 0 where
   pub words_are : (j : ℕ) (spec : ArgSpec) → slice_get (args_of asked.rule) j ≡ Some spec
       → AreWordsOf around.bytes spec.kind (slice_index_or asked.regs spec.register 0) (words j)
   pub lookups_are : (j : ℕ) (spec : ArgSpec) (text : List ℕ) → slice_get (args_of asked.rule) j ≡ Some spec

@@ -52,17 +52,17 @@ sets_ids SetEgid = true
 sets_ids call = false
 
 -- whether an instruction is a call that sets ids
-abbrev pub is_set_id : Instr → Bool
-is_set_id (Store place word) = false
-is_set_id (Call call regs) = sets_ids call
-is_set_id (Fork child) = false
+abbrev pub is_set_id_instruction : Instr → Bool
+is_set_id_instruction (Store place word) = false
+is_set_id_instruction (Call call regs) = sets_ids call
+is_set_id_instruction (Fork child) = false
 
 -- how many instructions a script has, and how many of them are calls that set ids
 abbrev pub instruction_count : Input → ℕ
 instruction_count i = sum_by (λ row. length row.body) i.start.threads
 
 abbrev pub set_id_count : Input → ℕ
-set_id_count i = sum_by (λ row. count_by is_set_id row.body) i.start.threads
+set_id_count i = sum_by (λ row. count_by is_set_id_instruction row.body) i.start.threads
 
 -- the bound of steps: no run has more
 abbrev pub most_steps : Input → ℕ
@@ -129,15 +129,15 @@ played i schedule = lines_played schedule.lines schedule.bad i (record { choices
 -- ---- the steps of one number
 
 -- the number that an entry is a step for: an entry of a worker, or the one by which the number's filter is learnt
-abbrev pub step_of : Entry → Option ℕ
-step_of (Claimed w q) = Some q
-step_of (Copied q part place word) = Some q
-step_of (Looked q part name seen) = Some q
-step_of (Faulted q errno) = Some q
-step_of (Answered w s v applied) = Some s.seq
-step_of (Learned q n) = Some q
-step_of _ = None
+abbrev pub served_number : Entry → Option ℕ
+served_number (Claimed w q) = Some q
+served_number (Copied q part place word) = Some q
+served_number (Looked q part name seen) = Some q
+served_number (Faulted q errno) = Some q
+served_number (Answered w s v applied) = Some s.seq
+served_number (Learned q n) = Some q
+served_number _ = None
 
 -- how many of these entries are steps for a number
 abbrev pub steps_for : ℕ → List Entry → ℕ
-steps_for q entries = count_by (λ e. is_number q (step_of e)) entries
+steps_for q entries = count_by (λ e. is_number q (served_number e)) entries

@@ -73,6 +73,6 @@ pub record Contains (Is : Entry → History → Type 0) (h : History) : Type 0 w
   pub is : Is entry earlier
 
 -- the part is true after an entry of the kind, and nowhere else
-pub record IsTrueBehind (value : History → Bool) (Is : Entry → History → Type 0) : Type 0 where
-  pub behind : (later earlier : History) (e : Entry) → Is e earlier → value (later ++ e ∷ earlier) ≡ true
+pub record IsTrueAfter (value : History → Bool) (Is : Entry → History → Type 0) : Type 0 where
+  pub following : (later earlier : History) (e : Entry) → Is e earlier → value (later ++ e ∷ earlier) ≡ true
   pub nowhere_else : (h : History) → value h ≡ true → Contains Is h

@@ -222,10 +222,10 @@ abbrev pub next_reply : Input → State → List ℕ → Rule → Option ℕ
 next_reply i st policy rule = least_from (is_reply_left i st policy rule) 1 (length i.replies)
 
 -- whether the operator answers for a call that no filter decides
-abbrev pub is_asked : Input → State → Snapshot → Mode → Bool
-is_asked i st s Enforce = false
-is_asked i st s Learn = true
-is_asked i st s AskText = is_some (next_reply i st s.policy s.rule)
+abbrev pub operator_decides : Input → State → Snapshot → Mode → Bool
+operator_decides i st s Enforce = false
+operator_decides i st s Learn = true
+operator_decides i st s AskText = is_some (next_reply i st s.policy s.rule)
 
 -- whether a verdict decides nothing
 abbrev pub is_undecided : Verdict → Bool
@@ -236,7 +236,7 @@ is_undecided Unmatched = true
 -- whether the operator has to answer for a call with these copies
 abbrev pub is_open_question : Input → State → Option Snapshot → Bool
 is_open_question i st None = false
-is_open_question i st (Some s) = is_undecided (decision_in i st s) && is_asked i st s i.options.mode
+is_open_question i st (Some s) = is_undecided (decision_in i st s) && operator_decides i st s i.options.mode
 
 -- whether a number is a question: it is live and answered, no filter decides, and the operator answers
 abbrev pub is_question : Input → State → ℕ → Bool

@@ -26,15 +26,15 @@ ghost use Rattle.st_law.specs.Arguments.{Surroundings, link_met, link_on_way};
 ghost use Rattle.st_law.specs.History.{looking_back, session_at};
 ghost use Rattle.st_law.specs.Inputs.{IsStartable};
 ghost use Rattle.st_law.specs.Lawful.{IsLawful, IsLawfulBack, Lawful};
-ghost use Rattle.st_law.specs.Laws.{AllStandAmong, AreHeld, HasBegun, IsRested, IsStale, IsThere, IsUsedAsAnswered};
-ghost use Rattle.st_law.specs.Links.{IsFound, IsMet};
+ghost use Rattle.st_law.specs.Laws.{HaveEqualArguments, AreHeldCalls, HasBegun, IsRested, IsStale, IsProcessLive, IsUsedAsAnswered};
+ghost use Rattle.st_law.specs.Links.{IsLinkFound, IsFirstLinkInWay};
 ghost use Rattle.st_law.specs.Machine.{entry_of, history, run, state_of_run, IsEnabled};
-ghost use Rattle.st_law.specs.OneStep.{AreTaken};
+ghost use Rattle.st_law.specs.OneStep.{AreTakenInOneStep};
 ghost use Rattle.st_law.specs.Schedules.{Choices, most_steps, played, rest_from, steps_for};
 ghost use Rattle.st_law.specs.Sessions.{SessionFilter, decision, learnt_filter};
 ghost use Rattle.st_law.specs.State.{State, decision_in, snapshot_in, system_of};
 ghost use Rattle.st_law.specs.Threads.{History, body_of, has_ended_at, left_at, owner_at};
-ghost use Rattle.st_law.specs.Told.{choice_of, choices_told};
+ghost use Rattle.st_law.specs.Recorded.{choice_of, recorded_choices};
 
 /// Every run of the machine is lawful, for every startable input and every list of choices.
 pub fn every_run_is_lawful()
@@ -45,9 +45,9 @@ pub fn every_run_is_lawful()
 /// the run of some choices. Each choice that a lawful trace implies is enabled at its turn, and adds that entry. An entry after a lawful
 /// history is lawful exactly when the choice that it implies adds it.
 pub fn the_law_is_the_machine()
-    ensures both { (input : Input) → IsStartable input → (trace : List Entry) → Lawful input trace ↔ (run input (choices_told input trace) ≡ trace) }
+    ensures both { (input : Input) → IsStartable input → (trace : List Entry) → Lawful input trace ↔ (run input (recorded_choices input trace) ≡ trace) }
     ensures runs { (input : Input) → IsStartable input → (trace : List Entry) → Lawful input trace ↔ ((choices : List Choice) × (run input choices ≡ trace)) }
-    ensures enabled { (input : Input) → IsStartable input → (front rest : List Entry) (e : Entry) → Lawful input (front ++ e ∷ rest) → entry_of input (state_of_run input (choices_told input front)) (choice_of input (looking_back input (reverse front)) e) ≡ Some e }
+    ensures enabled { (input : Input) → IsStartable input → (front rest : List Entry) (e : Entry) → Lawful input (front ++ e ∷ rest) → entry_of input (state_of_run input (recorded_choices input front)) (choice_of input (looking_back input (reverse front)) e) ≡ Some e }
     ensures one { (input : Input) → IsStartable input → (h : History) → IsLawfulBack input h → (e : Entry) → IsLawful input (looking_back input h) e ↔ (entry_of input (looking_back input h) (choice_of input (looking_back input h) e) ≡ Some e) }
 {}
 
@@ -64,7 +64,7 @@ pub fn a_stale_answer_changes_nothing()
 /// After an applied answer, the copies of its number stay those that were judged. If the call of that number is made, it is made with
 /// exactly these copies and, if the answer decided, under the ids that it granted. If the answer decided and a filter denies the call, the
 /// answer named this filter and this error.
-pub fn an_answer_stands()
+pub fn an_answer_is_final()
     ensures copies { (input : Input) → IsStartable input → (later earlier : History) (w : ℕ) (s : Snapshot) (v : Verdict) → IsLawfulBack input (later ++ Answered w s v true ∷ earlier) → snapshot_in (looking_back input (later ++ Answered w s v true ∷ earlier)) s.seq ≡ Some s }
     ensures used { (input : Input) → IsStartable input → (later earlier : History) (w : ℕ) (s : Snapshot) (v : Verdict) (t : ℕ) (call : SysCall) (regs : List ℕ) (args : List ArgText) (ids : Ids) (result : CallResult) (changes : List Change) → IsLawfulBack input (Used t (Some s.seq) call regs args ids result changes ∷ (later ++ Answered w s v true ∷ earlier)) → IsUsedAsAnswered s v call regs args ids }
     ensures denied { (input : Input) → IsStartable input → (later earlier : History) (w : ℕ) (s : Snapshot) (v : Verdict) (t : ℕ) (errno : Errno) (n : ℕ) → IsLawfulBack input (Denied t (Some s.seq) errno (Filter n) ∷ (later ++ Answered w s v true ∷ earlier)) → v ≢ Unmatched → v ≡ Refuse n errno }
@@ -72,7 +72,7 @@ pub fn an_answer_stands()
 
 /// If the filters that were read decide, the session's filters don't matter. Lists of filters grow only at their end. A call that was
 /// decided once, by whichever filter, is decided in the same way ever after.
-pub fn a_decision_stands()
+pub fn a_decision_is_final()
     ensures read { (read session : List FilterValue) (s : Snapshot) (v : Verdict) → verdict read s ≡ v → v ≢ Unmatched → decision read session s ≡ v }
     ensures grows { (input : Input) (later earlier : History) → (more : List SessionFilter) × (session_at input (later ++ earlier) ≡ session_at input earlier ++ more) }
     ensures stays { (input : Input) (later earlier : History) (s : Snapshot) → decision_in input (looking_back input earlier) s ≢ Unmatched → decision_in input (looking_back input (later ++ earlier)) s ≡ decision_in input (looking_back input earlier) s }
@@ -82,16 +82,16 @@ pub fn a_decision_stands()
 /// themselves. Once it is learnt, the decision on the copies is a permit by the filter of this number, under their own ids.
 pub fn what_is_learnt_permits()
     ensures holds { (s : Snapshot) → holds (learnt_filter s) s ≡ true }
-    ensures exactly { (s u : Snapshot) → (holds (learnt_filter s) u ≡ true) ↔ AllStandAmong u.parts s.parts }
+    ensures exactly { (s u : Snapshot) → (holds (learnt_filter s) u ≡ true) ↔ HaveEqualArguments u.parts s.parts }
     ensures number { (input : Input) → IsStartable input → (h : History) (q n : ℕ) (s : Snapshot) → IsLawfulBack input (Learned q n ∷ h) → snapshot_in (looking_back input h) q ≡ Some s → decision_in input (looking_back input (Learned q n ∷ h)) s ≡ Permit n s.ids }
 {}
 
 /// A call takes effect only if no link is in its way: `link_met` is the first such link. The names on the way to a name are its proper
 /// prefixes, and the name itself if a link in its place is followed. Of several names of a call, the first that has a link on its way
 /// counts.
-pub fn the_first_link_is_met()
-    ensures on_way { (tree : Tree) (follow : Bool) (name : Components) → IsFound tree follow name (link_on_way tree follow name) }
-    ensures call { (tree : Tree) (rule : Rule) (call : SysCall) (regs : List ℕ) (args : List ArgText) → IsMet tree rule call regs args (link_met tree rule call regs args) }
+pub fn the_first_link_in_the_way_counts()
+    ensures on_way { (tree : Tree) (follow : Bool) (name : Components) → IsLinkFound tree follow name (link_on_way tree follow name) }
+    ensures call { (tree : Tree) (rule : Rule) (call : SysCall) (regs : List ℕ) (args : List ArgText) → IsFirstLinkInWay tree rule call regs args (link_met tree rule call regs args) }
 {}
 
 /// If a schedule gives choices, each of them is enabled at its turn: the run has one entry for each.
@@ -100,14 +100,14 @@ pub fn each_choice_of_a_schedule_is_enabled()
 {}
 
 /// A call sees the processes that exist and haven't ended, and the calls held by threads that aren't dying, in the order of the threads.
-pub fn what_a_call_finds()
-    ensures live { (input : Input) (st : State) (p : ℕ) → ((system_of input st).is_live p ≡ true) ↔ IsThere input st p }
-    ensures held { (input : Input) (st : State) → AreHeld input st (system_of input st).held }
+pub fn what_a_call_sees()
+    ensures live { (input : Input) (st : State) (p : ℕ) → ((system_of input st).is_live p ≡ true) ↔ IsProcessLive input st p }
+    ensures held { (input : Input) (st : State) → AreHeldCalls input st (system_of input st).held }
 {}
 
 /// A call that isn't held takes the arguments, or the fault, that a worker would get by copying and looking while nothing changes.
 pub fn one_step_takes_what_a_worker_would()
-    ensures { (asked : ArgRequest) (around : Surroundings) → (words : ℕ → List ℕ) × (lookups : ℕ → List SeenText) × AreTaken asked around words lookups }
+    ensures { (asked : ArgRequest) (around : Surroundings) → (words : ℕ → List ℕ) × (lookups : ℕ → List SeenText) × AreTakenInOneStep asked around words lookups }
 {}
 
 /// The instructions that a thread has stored and entered so far, in order, followed by those that it has left, are its body.

@@ -7,7 +7,7 @@ ghost use Rattle.st_law.specs.Inputs.{IsStartable};
 ghost use Rattle.st_law.specs.Lawful.{IsLawfulBack};
 ghost use Rattle.st_law.specs.Messages.{Head, fault_at, head_at, is_answered_at, is_claimed_at, is_closed_at, lookups_at, posted_at, turn_at, words_at};
 ghost use Rattle.st_law.specs.Processes.{byte_at, first_descriptors, first_process, first_tree, next_process_at, next_space_at, process_at, process_count, tree_at};
-ghost use Rattle.st_law.specs.Splits.{IsLastChanged, IsLastGiven, IsLastOf, IsTrueBehind, NoneTouches};
+ghost use Rattle.st_law.specs.Splits.{IsLastChanged, IsLastGiven, IsLastOf, IsTrueAfter, NoneTouches};
 ghost use Rattle.st_law.specs.State.{is_live};
 ghost use Rattle.st_law.specs.Threads.{History, body_of, first_owner, has_ended_at, is_dying_at, left_at, number_at, owner_at, pending_at};
 ghost use Rattle.st_law.specs.declared.input.Input.{Input};
@@ -24,8 +24,8 @@ pub fn a_thread_is_its_history()
     ensures left { (i : Input) (t : ℕ) → IsLastOf (λ h. left_at i h t) (body_of i t) (GivesLeft i t) }
     ensures pending { (i : Input) (t : ℕ) → IsLastOf (λ h. pending_at i h t) None (GivesPending i t) }
     ensures number { (t : ℕ) → IsLastGiven (λ h. number_at h t) 0 (TouchesNumber t) (GivesNumber t) }
-    ensures dying { (i : Input) (t : ℕ) → IsTrueBehind (λ h. is_dying_at i h t) (LeavesDying i t) }
-    ensures ended { (t : ℕ) → IsTrueBehind (λ h. has_ended_at h t) (IsEnd t) }
+    ensures dying { (i : Input) (t : ℕ) → IsTrueAfter (λ h. is_dying_at i h t) (LeavesDying i t) }
+    ensures ended { (t : ℕ) → IsTrueAfter (λ h. has_ended_at h t) (IsEnd t) }
 {}
 
 /// The state of a process, read off the changes: each part has the value that the last change of this part gave it. The same holds of the
@@ -52,19 +52,19 @@ pub fn memory_and_files_are_what_was_written()
 pub fn a_message_is_its_history()
     ensures head { (i : Input) (q : ℕ) → IsLastGiven (λ h. head_at i h q) None (Posts q) (GivesHead i q) }
     ensures posted { (h : History) → posted_at h ≡ length (numbers_so_far h) }
-    ensures claimed { (q : ℕ) → IsTrueBehind (λ h. is_claimed_at h q) (Claims q) }
+    ensures claimed { (q : ℕ) → IsTrueAfter (λ h. is_claimed_at h q) (Claims q) }
     ensures words { (q j : ℕ) → IsLastOf (λ h. words_at h q j) [] (GivesWords q j) }
     ensures lookups { (q j : ℕ) → IsLastOf (λ h. lookups_at h q j) [] (GivesLookups q j) }
     ensures fault { (q : ℕ) → IsLastOf (λ h. fault_at h q) None (GivesFault q) }
-    ensures answered { (q : ℕ) → IsTrueBehind (λ h. is_answered_at h q) (AnswersTo q) }
-    ensures closed { (q : ℕ) → IsTrueBehind (λ h. is_closed_at h q) (Closes q) }
+    ensures answered { (q : ℕ) → IsTrueAfter (λ h. is_answered_at h q) (AnswersTo q) }
+    ensures closed { (q : ℕ) → IsTrueAfter (λ h. is_closed_at h q) (Closes q) }
     ensures turn { (w : ℕ) → IsLastOf (λ h. turn_at h w) None (GivesTurn w) }
 {}
 
 /// A session only grows, by one filter at a time, and a reply that was given stays given.
 pub fn a_session_only_grows()
     ensures session { (i : Input) → IsLastOf (session_at i) [] (GivesSession i) }
-    ensures replied { (n : ℕ) → IsTrueBehind (λ h. is_replied_at h n) (Replies n) }
+    ensures replied { (n : ℕ) → IsTrueAfter (λ h. is_replied_at h n) (Replies n) }
 {}
 
 /// Numbers are 1, 2, 3 and so on, in the order in which they are posted: none is skipped and none is repeated.

@@ -24,8 +24,8 @@ ghost use Rattle.st_law.specs.declared.input.Input.{Input};
 ghost use Rattle.st_law.specs.Bars.{IsBarredSince, IsDeniedByBar, answer_at};
 ghost use Rattle.st_law.specs.Inputs.{IsStartable};
 ghost use Rattle.st_law.specs.Lawful.{IsLawfulBack};
-ghost use Rattle.st_law.specs.Links.{IsMet};
-ghost use Rattle.st_law.specs.Meaning.{AreArgumentsOf, AreCopies, AreKeptFor, ConsolesBegin, IsAsking, IsAt, IsFirstFilter, IsFoundAs, IsMadeWith, IsNextReply, IsPlainDenial, IsPlainPermit, IsWordAt, IsWorker, ProcessBegins, ThreadBegins, TreeBegins};
+ghost use Rattle.st_law.specs.Links.{IsFirstLinkInWay};
+ghost use Rattle.st_law.specs.Meaning.{AreArgumentsOf, AreCopies, AreKeptFor, ConsolesBegin, IsAsking, IsWorkerAt, IsFirstFilter, IsSystemOfState, IsMadeWith, IsNextReply, IsPlainDenial, IsPlainPermit, IsWordAt, IsWorker, ProcessBegins, ThreadBegins, TreeBegins};
 ghost use Rattle.st_law.specs.Messages.{Head};
 ghost use Rattle.st_law.specs.Processes.{first_descriptors, first_tree};
 ghost use Rattle.st_law.specs.Sessions.{session_filters};
@@ -45,7 +45,7 @@ pub fn a_run_begins_as_its_script_says()
 /// the memory of the number's process. The copies of a number are those of its head, with the arguments that its words and lookups give.
 pub fn what_a_worker_is_at()
     ensures workers { (i : Input) (w : ℕ) → (is_worker i w ≡ true) ↔ IsWorker i w }
-    ensures number { (st : State) (w q : ℕ) → (worker_at st w ≡ Some q) ↔ IsAt st w q }
+    ensures number { (st : State) (w q : ℕ) → (worker_at st w ≡ Some q) ↔ IsWorkerAt st w q }
     ensures word { (st : State) (q place : ℕ) (head : Head) → (st.messages q).head ≡ Some head → IsWordAt (st.memory (st.processes head.pid).space) place (word_for st q place) }
     ensures copies { (st : State) (q : ℕ) (s : Snapshot) → (snapshot_in st q ≡ Some s) ↔ AreCopies st q s }
 {}
@@ -73,14 +73,14 @@ pub fn what_the_operator_is_asked()
 /// What a call is made with, which system it sees, which link is in its way, and the arguments of a call that copies and looks in one step.
 pub fn what_a_call_is_made_with()
     ensures request { (i : Input) (st : State) (t : ℕ) (regs : List ℕ) (args : List ArgText) (ids : Ids) → IsMadeWith i st t regs args ids (request_of i st t regs args ids) }
-    ensures link { (i : Input) (st : State) (call : SysCall) (regs : List ℕ) (args : List ArgText) → IsMet st.tree (rule_of call regs i.options.aliasing) call regs args (link_now i st call regs args) }
-    ensures system { (i : Input) (st : State) → IsFoundAs st (system_of i st) }
+    ensures link { (i : Input) (st : State) (call : SysCall) (regs : List ℕ) (args : List ArgText) → IsFirstLinkInWay st.tree (rule_of call regs i.options.aliasing) call regs args (link_now i st call regs args) }
+    ensures system { (i : Input) (st : State) → IsSystemOfState st (system_of i st) }
     ensures arguments { (i : Input) (st : State) (t : ℕ) (call : SysCall) (regs : List ℕ) → AreArgumentsOf i st t call regs (arguments_now i st t call regs) }
 {}
 
 /// A call is barred if the kernel refuses it when it is entered, and this answer is final. While the call is pending and its thread isn't
 /// dying, the kernel's own answer to it doesn't change. The call is never made, and its denial has the error of that answer.
-pub fn a_bar_stands()
+pub fn a_bar_is_final()
     ensures refused { (i : Input) (t n : ℕ) (call : SysCall) (regs : List ℕ) (h : History) → IsLawfulBack i (Entered t call regs (Barred n) ∷ h) → (errno : Errno) × (answer_at i h t call regs ≡ answer.Refuse errno) }
     ensures stands { (i : Input) → IsStartable i → (t n : ℕ) (call : SysCall) (regs : List ℕ) (later earlier : History) → IsBarredSince i t n call regs later earlier → is_dying_at i (later ++ Entered t call regs (Barred n) ∷ earlier) t ≡ false → answer_at i (later ++ Entered t call regs (Barred n) ∷ earlier) t call regs ≡ answer_at i earlier t call regs }
     ensures unmade { (i : Input) → IsStartable i → (t n : ℕ) (call : SysCall) (regs : List ℕ) (later earlier : History) → IsBarredSince i t n call regs later earlier → (seq : Option ℕ) (made : SysCall) (given : List ℕ) (args : List ArgText) (ids : Ids) (result : CallResult) (changes : List Change) → IsLawfulBack i (Used t seq made given args ids result changes ∷ (later ++ Entered t call regs (Barred n) ∷ earlier)) → ⊥ }

@@ -6,7 +6,7 @@ use Rattle.std.specs.Str.{bytes_eq}
 use Rattle.st_calls.specs.declared.rule.Rule.{Rule}
 use Rattle.st_filter.specs.Formula.{FilterValue}
 use Rattle.st_law.specs.Sessions.{SessionFilter, session_filters}
-use Rattle.st_learn.specs.Sessions.{is_of, places_from}
+use Rattle.st_learn.specs.Sessions.{is_filter_for, places_from}
 use Rattle.st_learn.proofs.Filters.{filters_at, is_of_rule, one_longer, there, with_kind}
 
 -- ---- indices are at least the number of the first item
@@ -53,25 +53,25 @@ module _ (of is : SessionFilter → Bool) where
   taken_by false w kept back session n ps i zero at same low later inside place = absurd (let less = low i inside in omega (arith, less, place))
   taken_by false w kept back session n ps i (suc r) at same low later inside place = later i r inside (omega (arith, place))
 
-  taken_behind : (front back : List SessionFilter) (i q : ℕ) → i < length (places_from of (length front) back) → get_or (places_from of (length front) back) i 0 ≡ length front + q
+  taken_after : (front back : List SessionFilter) (i q : ℕ) → i < length (places_from of (length front) back) → get_or (places_from of (length front) back) i 0 ≡ length front + q
       → filters_at (front ++ back) is (take i (places_from of (length front) back)) ≡ filters_of (filter both (take q back))
-  taken_behind front [] i q inside place = absurd (omega (arith, inside))
-  taken_behind front (kept ∷ back) i q inside place =
+  taken_after front [] i q inside place = absurd (omega (arith, inside))
+  taken_after front (kept ∷ back) i q inside place =
       taken_by (of kept) (is kept) kept back (front ++ kept ∷ back) (length front) (places_from of (suc (length front)) back) i q (there front kept back) refl
       (low_from of (suc (length front)) back)
       (subst (λ n. (j r : ℕ) → j < length (places_from of n back) → get_or (places_from of n back) j 0 ≡ n + r → filters_at (front ++ kept ∷ back) is (take j (places_from of n back)) ≡ filters_of (filter both (take r back))) (one_longer front kept)
       (subst (λ session. (j r : ℕ) → j < length (places_from of (length (front ++ kept ∷ [])) back) → get_or (places_from of (length (front ++ kept ∷ [])) back) j 0 ≡ length (front ++ kept ∷ []) + r → filters_at session is (take j (places_from of (length (front ++ kept ∷ [])) back)) ≡ filters_of (filter both (take r back))) (append_assoc front (kept ∷ []) back)
-      (taken_behind (front ++ kept ∷ []) back)))
+      (taken_after (front ++ kept ∷ []) back)))
       inside place
       ∙ ap filters_of (taken_first both kept back q)
 
 -- the filters of a rule at a policy's indices before one of them are all the filters before it of that policy and rule
-pub filters_before : (session : List SessionFilter) (policy : List ℕ) (rule : Rule) (items : List ℕ) (i : ℕ) → items ≡ places_from (is_of policy) 0 session → i < length items
+pub filters_before : (session : List SessionFilter) (policy : List ℕ) (rule : Rule) (items : List ℕ) (i : ℕ) → items ≡ places_from (is_filter_for policy) 0 session → i < length items
     → filters_at session (is_of_rule rule) (take i items) ≡ session_filters (take (get_or items i 0) session) policy rule
 filters_before session policy rule items i are inside =
-    let sum : get_or (places_from (is_of policy) 0 session) i 0 ≡ 0 + get_or (places_from (is_of policy) 0 session) i 0 = omega arith in
+    let sum : get_or (places_from (is_filter_for policy) 0 session) i 0 ≡ 0 + get_or (places_from (is_filter_for policy) 0 session) i 0 = omega arith in
     subst (λ ps. filters_at session (is_of_rule rule) (take i ps) ≡ session_filters (take (get_or ps i 0) session) policy rule) (sym are)
-    (taken_behind (is_of policy) (is_of_rule rule) [] session i (get_or (places_from (is_of policy) 0 session) i 0) (subst (λ ps. i < length ps) are inside) sum)
+    (taken_after (is_filter_for policy) (is_of_rule rule) [] session i (get_or (places_from (is_filter_for policy) 0 session) i 0) (subst (λ ps. i < length ps) are inside) sum)
 
 -- ---- one more index
 
@@ -120,15 +120,15 @@ own_by is true x kept session n ps zero of_x at later inside place = subst (λ e
 own_by is true x kept session n ps (suc i) of_x at later inside place = later i (omega (arith, inside)) place
 own_by is false x kept session n ps i of_x at later inside place = later i inside place
 
-own_behind : (is : SessionFilter → Bool) (kept : SessionFilter) (front back : List SessionFilter) (i : ℕ) → i < length (places_from is (length front) back) → slice_get (front ++ back) (get_or (places_from is (length front) back) i 0) ≡ Some kept → is kept ≡ true
-own_behind is kept front [] i inside place = absurd (omega (arith, inside))
-own_behind is kept front (x ∷ back) i inside place =
+own_after : (is : SessionFilter → Bool) (kept : SessionFilter) (front back : List SessionFilter) (i : ℕ) → i < length (places_from is (length front) back) → slice_get (front ++ back) (get_or (places_from is (length front) back) i 0) ≡ Some kept → is kept ≡ true
+own_after is kept front [] i inside place = absurd (omega (arith, inside))
+own_after is kept front (x ∷ back) i inside place =
     own_by is (is x) x kept (front ++ x ∷ back) (length front) (places_from is (suc (length front)) back) i refl (there front x back)
     (subst (λ n. (j : ℕ) → j < length (places_from is n back) → slice_get (front ++ x ∷ back) (get_or (places_from is n back) j 0) ≡ Some kept → is kept ≡ true) (one_longer front x)
     (subst (λ session. (j : ℕ) → j < length (places_from is (length (front ++ x ∷ [])) back) → slice_get session (get_or (places_from is (length (front ++ x ∷ [])) back) j 0) ≡ Some kept → is kept ≡ true) (append_assoc front (x ∷ []) back)
-    (own_behind is kept (front ++ x ∷ []) back)))
+    (own_after is kept (front ++ x ∷ []) back)))
     inside place
 
-pub own_policy : (session : List SessionFilter) (policy : List ℕ) (items : List ℕ) (i : ℕ) (kept : SessionFilter) → items ≡ places_from (is_of policy) 0 session → i < length items → slice_get session (get_or items i 0) ≡ Some kept → bytes_eq kept.policy policy ≡ true
+pub own_policy : (session : List SessionFilter) (policy : List ℕ) (items : List ℕ) (i : ℕ) (kept : SessionFilter) → items ≡ places_from (is_filter_for policy) 0 session → i < length items → slice_get session (get_or items i 0) ≡ Some kept → bytes_eq kept.policy policy ≡ true
 own_policy session policy items i kept are inside at =
-    own_behind (is_of policy) kept [] session i (subst (λ ps. i < length ps) are inside) (subst (λ ps. slice_get session (get_or ps i 0) ≡ Some kept) are at)
+    own_after (is_filter_for policy) kept [] session i (subst (λ ps. i < length ps) are inside) (subst (λ ps. slice_get session (get_or ps i 0) ≡ Some kept) are at)

@@ -16,7 +16,7 @@ use Rattle.st_filter.specs.declared.set.BinaryPolicy.{BinaryPolicy}
 use Rattle.st_law.specs.Sessions.{SessionFilter, decision, is_kept_for, session_filters, verdict_or}
 use Rattle.st_learn.specs.Learnt.{all_policies, empty_policy, filters_added, learnt_policies, with_policy, with_session}
 use Rattle.st_learn.specs.Learnt.{IsForItsRule}
-use Rattle.st_learn.specs.Sessions.{is_of}
+use Rattle.st_learn.specs.Sessions.{is_filter_for}
 use Rattle.st_learn.proofs.Printing.{has_all}
 
 -- no filter asks, and each is for its own rule, one after the other
@@ -59,10 +59,10 @@ no_policy (p ∷ ps) b none = by (bytes_eq p.binary b) none (no_policy ps b) whe
   by true none later = cc
   by false none later = later none
 
-none_added : (session : List SessionFilter) (b : List ℕ) → list_any (is_of b) session ≡ false → filters_added session b ≡ []
+none_added : (session : List SessionFilter) (b : List ℕ) → list_any (is_filter_for b) session ≡ false → filters_added session b ≡ []
 none_added [] b none = refl
-none_added (kept ∷ session) b none = by (is_of b kept) none (none_added session b) where
-  by : (t : Bool) → (t || list_any (is_of b) session) ≡ false → (list_any (is_of b) session ≡ false → filters_added session b ≡ []) → map (λ each. each.filter) (cond t (kept ∷ filter (is_of b) session) (filter (is_of b) session)) ≡ []
+none_added (kept ∷ session) b none = by (is_filter_for b kept) none (none_added session b) where
+  by : (t : Bool) → (t || list_any (is_filter_for b) session) ≡ false → (list_any (is_filter_for b) session ≡ false → filters_added session b ≡ []) → map (λ each. each.filter) (cond t (kept ∷ filter (is_filter_for b) session) (filter (is_filter_for b) session)) ≡ []
   by true none later = cc
   by false none later = later none
 
@@ -75,16 +75,16 @@ with_added session (p ∷ ps) b = by (bytes_eq p.binary b) refl (with_added sess
 
 -- each policy has the filters that were read and then the session's
 pub policy_learnt : (ps : List BinaryPolicy) (session : List SessionFilter) (b : List ℕ) → policy_of (learnt_policies ps session) b ≡ policy_of ps b ++ filters_added session b
-policy_learnt ps session b = with_added session (all_policies ps session) b ∙ by (has_policy ps b) (list_any (is_of b) session) refl refl (has_all session ps b) where
+policy_learnt ps session b = with_added session (all_policies ps session) b ∙ by (has_policy ps b) (list_any (is_filter_for b) session) refl refl (has_all session ps b) where
   here : policy_of (all_policies ps session) b ++ filters_added session b ≡ policy_of ps b ++ filters_added session b
   here = ap (λ fs. fs ++ filters_added session b) (all_same session ps b)
 
-  by : (read added : Bool) → has_policy ps b ≡ read → list_any (is_of b) session ≡ added → has_policy (all_policies ps session) b ≡ (has_policy ps b || list_any (is_of b) session)
+  by : (read added : Bool) → has_policy ps b ≡ read → list_any (is_filter_for b) session ≡ added → has_policy (all_policies ps session) b ≡ (has_policy ps b || list_any (is_filter_for b) session)
       → cond (has_policy (all_policies ps session) b) (policy_of (all_policies ps session) b ++ filters_added session b) [] ≡ policy_of ps b ++ filters_added session b
-  by true added is more both = (λ k. cond ((both ∙ ap (λ t. t || list_any (is_of b) session) is) k) (policy_of (all_policies ps session) b ++ filters_added session b) []) ∙ here
-  by false true is more both = (λ k. cond ((both ∙ ap (λ t. t || list_any (is_of b) session) is ∙ more) k) (policy_of (all_policies ps session) b ++ filters_added session b) []) ∙ here
+  by true added is more both = (λ k. cond ((both ∙ ap (λ t. t || list_any (is_filter_for b) session) is) k) (policy_of (all_policies ps session) b ++ filters_added session b) []) ∙ here
+  by false true is more both = (λ k. cond ((both ∙ ap (λ t. t || list_any (is_filter_for b) session) is ∙ more) k) (policy_of (all_policies ps session) b ++ filters_added session b) []) ∙ here
   by false false is more both =
-      (λ k. cond ((both ∙ ap (λ t. t || list_any (is_of b) session) is ∙ more) k) (policy_of (all_policies ps session) b ++ filters_added session b) [])
+      (λ k. cond ((both ∙ ap (λ t. t || list_any (is_filter_for b) session) is ∙ more) k) (policy_of (all_policies ps session) b ++ filters_added session b) [])
       ∙ (λ k. sym (no_policy ps b is) k ++ sym (none_added session b more) k)
 
 -- ---- the filters of a rule
@@ -105,7 +105,7 @@ added_by false w rule kept xs ys is later = later
 rule_added : (session : List SessionFilter) (b : List ℕ) (rule : Rule) → AreOwn session → filters_of rule (filters_added session b) ≡ session_filters session b rule
 rule_added [] b rule own = refl
 rule_added (kept ∷ session) b rule own =
-    added_by (is_of b kept) (same_rule kept.rule rule) rule kept (filter (is_of b) session) (filter (is_kept_for b rule) session) (ap (is_for rule) own.0) (rule_added session b rule own.1)
+    added_by (is_filter_for b kept) (same_rule kept.rule rule) rule kept (filter (is_filter_for b) session) (filter (is_kept_for b rule) session) (ap (is_for rule) own.0) (rule_added session b rule own.1)
 
 -- ---- verdicts
 

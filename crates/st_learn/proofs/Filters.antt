@@ -9,8 +9,8 @@ use Rattle.st_filter.specs.Formula.{FilterValue}
 use Rattle.st_law.specs.Sessions.{SessionFilter, session_filters}
 use Rattle.st_learn.specs.Deciding.{asks_first}
 use Rattle.st_learn.specs.Learnt.{filters_added}
-use Rattle.st_learn.specs.Places.{GainsPlace, PolicyPlaces, places_in}
-use Rattle.st_learn.specs.Sessions.{is_of, places_asking, places_from, places_of}
+use Rattle.st_learn.specs.Places.{GainsPlace, PolicyPlaces, policy_places}
+use Rattle.st_learn.specs.Sessions.{is_filter_for, places_asking, places_from, places_of}
 
 -- an optional filter of a session before others, if it exists and is of a kind
 abbrev pub with_kind : (SessionFilter → Bool) → Option SessionFilter → List FilterValue → List FilterValue
@@ -51,29 +51,29 @@ module _ (policy : List ℕ) (is : SessionFilter → Bool) where
       ap (λ o. with_kind is o (filters_at session is ps)) at ∙ (λ k. cond (same k) (kept.filter ∷ filters_at session is ps) (filters_at session is ps)) ∙ later
   found_by false w kept session n ps rest at same later = later
 
-  found_behind : (front back : List SessionFilter) → filters_at (front ++ back) is (places_from (is_of policy) (length front) back) ≡ map (λ each. each.filter) (filter (λ kept. is_of policy kept && is kept) back)
-  found_behind front [] = refl
-  found_behind front (kept ∷ back) =
-      found_by (is_of policy kept) (is kept) kept (front ++ kept ∷ back) (length front) (places_from (is_of policy) (suc (length front)) back) (filter (λ each. is_of policy each && is each) back) (there front kept back) refl
-      (subst (λ n. filters_at (front ++ kept ∷ back) is (places_from (is_of policy) n back) ≡ map (λ each. each.filter) (filter (λ each. is_of policy each && is each) back)) (one_longer front kept)
-      (subst (λ session. filters_at session is (places_from (is_of policy) (length (front ++ kept ∷ [])) back) ≡ map (λ each. each.filter) (filter (λ each. is_of policy each && is each) back)) (append_assoc front (kept ∷ []) back)
-      (found_behind (front ++ kept ∷ []) back)))
+  found_later : (front back : List SessionFilter) → filters_at (front ++ back) is (places_from (is_filter_for policy) (length front) back) ≡ map (λ each. each.filter) (filter (λ kept. is_filter_for policy kept && is kept) back)
+  found_later front [] = refl
+  found_later front (kept ∷ back) =
+      found_by (is_filter_for policy kept) (is kept) kept (front ++ kept ∷ back) (length front) (places_from (is_filter_for policy) (suc (length front)) back) (filter (λ each. is_filter_for policy each && is each) back) (there front kept back) refl
+      (subst (λ n. filters_at (front ++ kept ∷ back) is (places_from (is_filter_for policy) n back) ≡ map (λ each. each.filter) (filter (λ each. is_filter_for policy each && is each) back)) (one_longer front kept)
+      (subst (λ session. filters_at session is (places_from (is_filter_for policy) (length (front ++ kept ∷ [])) back) ≡ map (λ each. each.filter) (filter (λ each. is_filter_for policy each && is each) back)) (append_assoc front (kept ∷ []) back)
+      (found_later (front ++ kept ∷ []) back)))
 
 -- the filters of a rule at the indices of a policy are those of the policy and the rule
 pub filters_found : (session : List SessionFilter) (policy : List ℕ) (rule : Rule) (items : List ℕ) → items ≡ places_of session policy → filters_at session (is_of_rule rule) items ≡ session_filters session policy rule
-filters_found session policy rule items are = ap (filters_at session (is_of_rule rule)) are ∙ found_behind policy (is_of_rule rule) [] session
+filters_found session policy rule items are = ap (filters_at session (is_of_rule rule)) are ∙ found_later policy (is_of_rule rule) [] session
 
 any_by : (b : Bool) (kept : SessionFilter) (xs ys : List SessionFilter) → xs ≡ ys → cond (b && true) (kept ∷ xs) xs ≡ cond b (kept ∷ ys) ys
 any_by true kept xs ys same = ap (λ rest. kept ∷ rest) same
 any_by false kept xs ys same = same
 
-any_of : (policy : List ℕ) (session : List SessionFilter) → filter (λ kept. is_of policy kept && is_any kept) session ≡ filter (is_of policy) session
+any_of : (policy : List ℕ) (session : List SessionFilter) → filter (λ kept. is_filter_for policy kept && is_any kept) session ≡ filter (is_filter_for policy) session
 any_of policy [] = refl
-any_of policy (kept ∷ session) = any_by (is_of policy kept) kept (filter (λ each. is_of policy each && is_any each) session) (filter (is_of policy) session) (any_of policy session)
+any_of policy (kept ∷ session) = any_by (is_filter_for policy kept) kept (filter (λ each. is_filter_for policy each && is_any each) session) (filter (is_filter_for policy) session) (any_of policy session)
 
 -- all filters at the indices of a policy are those of the policy
 pub added_found : (session : List SessionFilter) (policy : List ℕ) (items : List ℕ) → items ≡ places_of session policy → filters_at session is_any items ≡ filters_added session policy
-added_found session policy items are = ap (filters_at session is_any) are ∙ found_behind policy is_any [] session ∙ ap (map (λ each. each.filter)) (any_of policy session)
+added_found session policy items are = ap (filters_at session is_any) are ∙ found_later policy is_any [] session ∙ ap (map (λ each. each.filter)) (any_of policy session)
 
 -- ---- indices
 
@@ -107,7 +107,7 @@ few_from is n (x ∷ xs) = fewer_by (is x) n (length xs) (places_from is (suc n)
 
 -- a policy has at most as many indices as there are filters
 pub few_items : (session : List SessionFilter) (policy : List ℕ) (items : List ℕ) → items ≡ places_of session policy → length items ≤ length session
-few_items session policy items are = subst (λ ps. length ps ≤ length session) (sym are) (few_from (is_of policy) 0 session)
+few_items session policy items are = subst (λ ps. length ps ≤ length session) (sym are) (few_from (is_filter_for policy) 0 session)
 
 -- ---- one more filter
 
@@ -137,8 +137,8 @@ places_added key session kept wanted n is =
 
 -- therefore the indices by keys, such as policies, are those of the filters, with one more filter
 pub added_places : (key : SessionFilter → List ℕ) (old new : List PolicyPlaces) (session : List SessionFilter) (kept : SessionFilter) (n : ℕ)
-    → ((wanted : List ℕ) → places_in old wanted ≡ places_from (λ each. bytes_eq (key each) wanted) 0 session) → GainsPlace old (key kept) n new → n ≡ length session
-    → (wanted : List ℕ) → places_in new wanted ≡ places_from (λ each. bytes_eq (key each) wanted) 0 (session ++ kept ∷ [])
+    → ((wanted : List ℕ) → policy_places old wanted ≡ places_from (λ each. bytes_eq (key each) wanted) 0 session) → GainsPlace old (key kept) n new → n ≡ length session
+    → (wanted : List ℕ) → policy_places new wanted ≡ places_from (λ each. bytes_eq (key each) wanted) 0 (session ++ kept ∷ [])
 added_places key old new session kept n were gains is wanted =
     gains wanted ∙ (λ k. cond (bytes_eq (key kept) wanted) (were wanted k ++ n ∷ []) (were wanted k)) ∙ places_added key session kept wanted n is
 

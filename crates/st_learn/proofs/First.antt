@@ -118,17 +118,17 @@ module _ (of is : SessionFilter → Bool) where
       ap (λ o. cond (is_there is o) (Some n) (first_in session is ps)) at ∙ (λ k. cond (same k) (Some n) (first_in session is ps)) ∙ later ∙ shifted n rest
   found_by false w kept session n ps rest at same later = later ∙ shifted n rest
 
-  found_behind : (front back : List SessionFilter) → first_in (front ++ back) is (places_from of (length front) back) ≡ option_map (λ i. length front + i) (first_at (λ kept. of kept && is kept) back)
-  found_behind front [] = refl
-  found_behind front (kept ∷ back) =
+  found_later : (front back : List SessionFilter) → first_in (front ++ back) is (places_from of (length front) back) ≡ option_map (λ i. length front + i) (first_at (λ kept. of kept && is kept) back)
+  found_later front [] = refl
+  found_later front (kept ∷ back) =
       found_by (of kept) (is kept) kept (front ++ kept ∷ back) (length front) (places_from of (suc (length front)) back) (first_at (λ each. of each && is each) back) (there front kept back) refl
       (subst (λ n. first_in (front ++ kept ∷ back) is (places_from of n back) ≡ option_map (λ i. n + i) (first_at (λ each. of each && is each) back)) (one_longer front kept)
       (subst (λ session. first_in session is (places_from of (length (front ++ kept ∷ [])) back) ≡ option_map (λ i. length (front ++ kept ∷ []) + i) (first_at (λ each. of each && is each) back)) (append_assoc front (kept ∷ []) back)
-      (found_behind (front ++ kept ∷ []) back)))
+      (found_later (front ++ kept ∷ []) back)))
 
 -- the first of the indices of one kind whose filter is of another kind is the first of both kinds
 pub first_found : (session : List SessionFilter) (of is : SessionFilter → Bool) (items : List ℕ) → items ≡ places_from of 0 session → first_in session is items ≡ first_at (λ kept. of kept && is kept) session
-first_found session of is items are = ap (first_in session is) are ∙ found_behind of is [] session ∙ unshifted (first_at (λ kept. of kept && is kept) session)
+first_found session of is items are = ap (first_in session is) are ∙ found_later of is [] session ∙ unshifted (first_at (λ kept. of kept && is kept) session)
 
 -- the first of the indices that are left, if its filter is of the kind
 pub here_first : (session : List SessionFilter) (is : SessionFilter → Bool) (items : List ℕ) (i : ℕ) → i < length items → is_there is (slice_get session (get_or items i 0)) ≡ true → Some (get_or items i 0) ≡ first_in session is (drop i items)

@@ -54,8 +54,8 @@ module _ (s : Snapshot) (x : SessionFilter) where
   here : (xs : List SessionFilter) (kept : SessionFilter) → is_kept_for s.policy s.rule x ≡ true → holds x.filter s ≡ true → x ≡ kept → IsFirst s (x.filter ∷ filters_for s xs) 0 kept
   here xs kept is true_of same = subst (IsFirst s (x.filter ∷ filters_for s xs) 0) same (record { is_kept = is; there = refl; holds_of_call = true_of; none_before = All-nil (λ f. holds f s ≡ false) })
 
-  behind : (filters : List FilterValue) (n : ℕ) (kept : SessionFilter) → holds x.filter s ≡ false → IsFirst s filters n kept → IsFirst s (x.filter ∷ filters) (suc n) kept
-  behind filters n kept is later = record {
+  following : (filters : List FilterValue) (n : ℕ) (kept : SessionFilter) → holds x.filter s ≡ false → IsFirst s filters n kept → IsFirst s (x.filter ∷ filters) (suc n) kept
+  following filters n kept is later = record {
     is_kept = later.is_kept;
     there = later.there;
     holds_of_call = later.holds_of_call;
@@ -70,7 +70,7 @@ module _ (s : Snapshot) (x : SessionFilter) where
   holds_first_by true false xs (Some i) a_is h_is later = λ kept at.
       subst (λ filters. IsFirst s filters (length (filters_for s (x ∷ take i xs))) kept) (sym (with_first true a_is xs))
       (subst (λ before. IsFirst s (x.filter ∷ filters_for s xs) (length before) kept) (sym (with_first true a_is (take i xs)))
-      (behind (filters_for s xs) (length (filters_for s (take i xs))) kept h_is (later kept at)))
+      (following (filters_for s xs) (length (filters_for s (take i xs))) kept h_is (later kept at)))
   holds_first_by false h xs None a_is h_is later = subst (λ filters. NoneHolds filters s) (sym (with_first false a_is xs)) later
   holds_first_by false h xs (Some i) a_is h_is later = λ kept at.
       subst (λ filters. IsFirst s filters (length (filters_for s (x ∷ take i xs))) kept) (sym (with_first false a_is xs))

@@ -10,21 +10,21 @@ use Rattle.st_calls.specs.declared.rule.Rule.{Rule}
 use Rattle.st_filter.specs.Formula.{FilterValue}
 use Rattle.st_law.specs.Sessions.{SessionFilter, is_kept_for, session_filters}
 use Rattle.st_learn.specs.Deciding.{count_for}
-use Rattle.st_learn.specs.Places.{MayGainPlace, PolicyPlaces, places_in}
-use Rattle.st_learn.specs.Sessions.{firsts_behind, firsts_of, is_of}
+use Rattle.st_learn.specs.Places.{MayGainPlace, PolicyPlaces, policy_places}
+use Rattle.st_learn.specs.Sessions.{firsts_after, firsts_of, is_filter_for}
 use Rattle.st_learn.proofs.Asking.{left_of, right_of}
 use Rattle.st_learn.proofs.Filters.{filters_at, inside_by, is_of_rule, mapped, more_by, one_longer, there, with_kind}
 
 -- ---- one more filter
 
 firsts_more : (front : List SessionFilter) (policy : List ℕ) (back : List SessionFilter) (x : SessionFilter)
-    → firsts_behind front policy (back ++ x ∷ []) ≡ firsts_behind front policy back ++ cond (is_of policy x && (count_for (front ++ back) x == 0)) (length (front ++ back) ∷ []) []
-firsts_more front policy [] x = ap (λ before. cond (is_of policy x && (count_for before x == 0)) (length before ∷ []) []) (sym (append-nil front))
+    → firsts_after front policy (back ++ x ∷ []) ≡ firsts_after front policy back ++ cond (is_filter_for policy x && (count_for (front ++ back) x == 0)) (length (front ++ back) ∷ []) []
+firsts_more front policy [] x = ap (λ before. cond (is_filter_for policy x && (count_for before x == 0)) (length before ∷ []) []) (sym (append-nil front))
 firsts_more front policy (kept ∷ back) x =
-    ap (λ ps. cond (is_of policy kept && (count_for front kept == 0)) (length front ∷ ps) ps)
+    ap (λ ps. cond (is_filter_for policy kept && (count_for front kept == 0)) (length front ∷ ps) ps)
     (firsts_more (front ++ kept ∷ []) policy back x
-    ∙ ap (λ before. firsts_behind (front ++ kept ∷ []) policy back ++ cond (is_of policy x && (count_for before x == 0)) (length before ∷ []) []) (append_assoc front (kept ∷ []) back))
-    ∙ more_by (is_of policy kept && (count_for front kept == 0)) (length front) (firsts_behind (front ++ kept ∷ []) policy back) (cond (is_of policy x && (count_for (front ++ kept ∷ back) x == 0)) (length (front ++ kept ∷ back) ∷ []) [])
+    ∙ ap (λ before. firsts_after (front ++ kept ∷ []) policy back ++ cond (is_filter_for policy x && (count_for before x == 0)) (length before ∷ []) []) (append_assoc front (kept ∷ []) back))
+    ∙ more_by (is_filter_for policy kept && (count_for front kept == 0)) (length front) (firsts_after (front ++ kept ∷ []) policy back) (cond (is_filter_for policy x && (count_for (front ++ kept ∷ back) x == 0)) (length (front ++ kept ∷ back) ∷ []) [])
 
 more_of : (b w : Bool) (ps : List ℕ) (n m : ℕ) → n ≡ m → w ≡ true → cond b (ps ++ n ∷ []) ps ≡ ps ++ cond (b && w) (m ∷ []) []
 more_of true w ps n m same first = (λ k. ps ++ cond (sym first k) (same k ∷ []) [])
@@ -35,14 +35,14 @@ none_of true w ps m other = sym (append-nil ps) ∙ (λ k. ps ++ cond (sym other
 none_of false w ps m other = sym (append-nil ps)
 
 -- one more filter has its index among them if it is the first for its rule
-pub firsts_added : (is_first : Bool) (old new : List PolicyPlaces) (session : List SessionFilter) (kept : SessionFilter) (n : ℕ) → ((policy : List ℕ) → places_in old policy ≡ firsts_of session policy) → MayGainPlace is_first old kept.policy n new
-    → n ≡ length session → (count_for session kept == 0) ≡ is_first → (policy : List ℕ) → places_in new policy ≡ firsts_of (session ++ kept ∷ []) policy
+pub firsts_added : (is_first : Bool) (old new : List PolicyPlaces) (session : List SessionFilter) (kept : SessionFilter) (n : ℕ) → ((policy : List ℕ) → policy_places old policy ≡ firsts_of session policy) → MayGainPlace is_first old kept.policy n new
+    → n ≡ length session → (count_for session kept == 0) ≡ is_first → (policy : List ℕ) → policy_places new policy ≡ firsts_of (session ++ kept ∷ []) policy
 firsts_added true old new session kept n were gains is first policy =
     gains policy ∙ (λ k. cond (bytes_eq kept.policy policy) (were policy k ++ n ∷ []) (were policy k))
     ∙ more_of (bytes_eq kept.policy policy) (count_for session kept == 0) (firsts_of session policy) n (length session) is first
     ∙ sym (firsts_more [] policy session kept)
 firsts_added false old new session kept n were gains is first policy =
-    ap (λ rows. places_in rows policy) gains ∙ were policy
+    ap (λ rows. policy_places rows policy) gains ∙ were policy
     ∙ none_of (bytes_eq kept.policy policy) (count_for session kept == 0) (firsts_of session policy) (length session) first
     ∙ sym (firsts_more [] policy session kept)
 
@@ -70,35 +70,35 @@ module _ (policy : List ℕ) (rule : Rule) where
   heads_by false w z kept session n ps rest at same first later = later refl
 
   -- if there was none before, the first filter is the first for its rule
-  is_zero : (front : List SessionFilter) (kept : SessionFilter) → session_filters front policy rule ≡ [] → (is_of policy kept && is_of_rule rule kept) ≡ true → (count_for front kept == 0) ≡ true
+  is_zero : (front : List SessionFilter) (kept : SessionFilter) → session_filters front policy rule ≡ [] → (is_filter_for policy kept && is_of_rule rule kept) ≡ true → (count_for front kept == 0) ≡ true
   is_zero front kept none is =
-      let policy_is : kept.policy ≡ policy = (bytes_eq-Decides kept.policy policy).0 (left_of (is_of policy kept) (is_of_rule rule kept) is) in
-      let rule_is : kept.rule ≡ rule = (same_rule-Decides kept.rule rule).0 (right_of (is_of policy kept) (is_of_rule rule kept) is) in
+      let policy_is : kept.policy ≡ policy = (bytes_eq-Decides kept.policy policy).0 (left_of (is_filter_for policy kept) (is_of_rule rule kept) is) in
+      let rule_is : kept.rule ≡ rule = (same_rule-Decides kept.rule rule).0 (right_of (is_filter_for policy kept) (is_of_rule rule kept) is) in
       (λ k. length (session_filters front (policy_is k) (rule_is k)) == 0) ∙ ap (λ fs. length fs == 0) none
 
-  heads_behind : (front back : List SessionFilter) → session_filters front policy rule ≡ [] → slice_get (filters_at (front ++ back) (is_of_rule rule) (firsts_behind front policy back)) 0 ≡ slice_get (session_filters back policy rule) 0
-  heads_behind front [] none = refl
-  heads_behind front (kept ∷ back) none =
-      heads_by (is_of policy kept) (is_of_rule rule kept) (count_for front kept == 0) kept (front ++ kept ∷ back) (length front) (firsts_behind (front ++ kept ∷ []) policy back) (session_filters back policy rule) (there front kept back) refl
+  heads_after : (front back : List SessionFilter) → session_filters front policy rule ≡ [] → slice_get (filters_at (front ++ back) (is_of_rule rule) (firsts_after front policy back)) 0 ≡ slice_get (session_filters back policy rule) 0
+  heads_after front [] none = refl
+  heads_after front (kept ∷ back) none =
+      heads_by (is_filter_for policy kept) (is_of_rule rule kept) (count_for front kept == 0) kept (front ++ kept ∷ back) (length front) (firsts_after (front ++ kept ∷ []) policy back) (session_filters back policy rule) (there front kept back) refl
       (is_zero front kept none)
-      (λ other. subst (λ session. slice_get (filters_at session (is_of_rule rule) (firsts_behind (front ++ kept ∷ []) policy back)) 0 ≡ slice_get (session_filters back policy rule) 0) (append_assoc front (kept ∷ []) back)
-      (heads_behind (front ++ kept ∷ []) back (none_more front kept none other)))
+      (λ other. subst (λ session. slice_get (filters_at session (is_of_rule rule) (firsts_after (front ++ kept ∷ []) policy back)) 0 ≡ slice_get (session_filters back policy rule) 0) (append_assoc front (kept ∷ []) back)
+      (heads_after (front ++ kept ∷ []) back (none_more front kept none other)))
       ∙ sym (ap (λ fs. slice_get fs 0) (mapped (is_kept_for policy rule kept) kept (filter (is_kept_for policy rule) back)))
 
 -- the first filter of a rule among the first ones of a policy is the first of the policy and the rule
 pub firsts_found : (session : List SessionFilter) (policy : List ℕ) (rule : Rule) (items : List ℕ) → items ≡ firsts_of session policy → slice_get (filters_at session (is_of_rule rule) items) 0 ≡ slice_get (session_filters session policy rule) 0
-firsts_found session policy rule items are = ap (λ ps. slice_get (filters_at session (is_of_rule rule) ps) 0) are ∙ heads_behind policy rule [] session refl
+firsts_found session policy rule items are = ap (λ ps. slice_get (filters_at session (is_of_rule rule) ps) 0) are ∙ heads_after policy rule [] session refl
 
 -- ---- their indices
 
-inside_behind : (front : List SessionFilter) (policy : List ℕ) (back : List SessionFilter) (i d : ℕ) → i < length (firsts_behind front policy back) → get_or (firsts_behind front policy back) i d < length front + length back
-inside_behind front policy [] i d lt = absurd (omega (arith, lt))
-inside_behind front policy (kept ∷ back) i d lt =
-    inside_by (is_of policy kept && (count_for front kept == 0)) (length front) (length front + suc (length back)) (firsts_behind (front ++ kept ∷ []) policy back) i d (omega arith) lt
-    (λ j lt. let later = inside_behind (front ++ kept ∷ []) policy back j d lt in let longer = one_longer front kept in omega (arith, later, longer))
+inside_after : (front : List SessionFilter) (policy : List ℕ) (back : List SessionFilter) (i d : ℕ) → i < length (firsts_after front policy back) → get_or (firsts_after front policy back) i d < length front + length back
+inside_after front policy [] i d lt = absurd (omega (arith, lt))
+inside_after front policy (kept ∷ back) i d lt =
+    inside_by (is_filter_for policy kept && (count_for front kept == 0)) (length front) (length front + suc (length back)) (firsts_after (front ++ kept ∷ []) policy back) i d (omega arith) lt
+    (λ j lt. let later = inside_after (front ++ kept ∷ []) policy back j d lt in let longer = one_longer front kept in omega (arith, later, longer))
 
 -- each is the index of a filter
 pub first_within : (session : List SessionFilter) (policy : List ℕ) (items : List ℕ) (i d : ℕ) → items ≡ firsts_of session policy → i < length items → get_or items i d < length session
 first_within session policy items i d are lt =
     subst (λ ps. get_or ps i d < length session) (sym are)
-    (let inside = inside_behind [] policy session i d (subst (λ ps. i < length ps) are lt) in omega (arith, inside))
+    (let inside = inside_after [] policy session i d (subst (λ ps. i < length ps) are lt) in omega (arith, inside))

@@ -6,6 +6,8 @@ mod First
 mod FirstDeciding
 mod Leading
 mod Numbers
+pub mod OperatorPlaces
 mod Permitting
 mod Printing
+pub mod Replies
 mod Rows

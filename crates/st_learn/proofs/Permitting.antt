@@ -72,9 +72,9 @@ session_own i (Ended u ∷ h) lawful = session_own i h lawful.1
 
 -- ---- what was made
 
-lawful_behind : (i : Input) (later earlier : History) → IsLawfulBack i (later ++ earlier) → IsLawfulBack i earlier
-lawful_behind i [] earlier lawful = lawful
-lawful_behind i (e ∷ later) earlier lawful = lawful_behind i later earlier lawful.1
+lawful_after : (i : Input) (later earlier : History) → IsLawfulBack i (later ++ earlier) → IsLawfulBack i earlier
+lawful_after i [] earlier lawful = lawful
+lawful_after i (e ∷ later) earlier lawful = lawful_after i later earlier lawful.1
 
 decided : (v : Verdict) (n : ℕ) (ids : Ids) → v ≡ Permit n ids → v ≢ Unmatched
 decided v n ids is none = clash (sym is ∙ none) where
@@ -87,7 +87,7 @@ pub permits_made : (i : Input) → NoneAsks i.policies → (later earlier : Hist
     → IsPermittedBy (learnt_policies i.policies (session_at i (later ++ Used t (Some q) call regs args ids result changes ∷ earlier))) (looking_back i earlier) q ids
 permits_made i plain later earlier t q call regs args ids result changes lawful =
     let whole : History = later ++ Used t (Some q) call regs args ids result changes ∷ earlier in
-    let here = lawful_behind i later (Used t (Some q) call regs args ids result changes ∷ earlier) lawful in
+    let here = lawful_after i later (Used t (Some q) call regs args ids result changes ∷ earlier) lawful in
     let y : IsUsedHeld i (looking_back i earlier) t q call regs args ids result changes = here.0 in
     let s : Snapshot = y.copies in
     let so : decision_in i (looking_back i (Used t (Some q) call regs args ids result changes ∷ earlier)) s ≡ Permit y.permitted.filter ids = y.permitted.permitted in

@@ -20,7 +20,7 @@ use Rattle.st_lex.proofs.Pieces.{print-append}
 use Rattle.st_printing.specs.Canon.{canon, canon_filter, filter_pieces, header_pieces, policy_pieces, row_pieces, set_pieces}
 use Rattle.st_learn.specs.Learnt.{all_policies, empty_policy, filters_added, learnt_so_far, rows_text, with_policy, with_session}
 use Rattle.st_learn.proofs.Filters.{filters_at, is_any, with_kind}
-use Rattle.st_learn.specs.Sessions.{is_first_at, is_of, places_from, places_of}
+use Rattle.st_learn.specs.Sessions.{is_first_at, is_filter_for, places_from, places_of}
 
 rows-append : (fs gs : List FilterValue) → rows_text (fs ++ gs) ≡ rows_text fs ++ rows_text gs
 rows-append fs gs =
@@ -111,11 +111,11 @@ or_nil : (x : Bool) → x ≡ (x || false)
 or_nil true = refl
 or_nil false = refl
 
-pub has_all : (session : List SessionFilter) (ps : List BinaryPolicy) (b : List ℕ) → has_policy (all_policies ps session) b ≡ (has_policy ps b || list_any (is_of b) session)
+pub has_all : (session : List SessionFilter) (ps : List BinaryPolicy) (b : List ℕ) → has_policy (all_policies ps session) b ≡ (has_policy ps b || list_any (is_filter_for b) session)
 has_all [] ps b = or_nil (has_policy ps b)
 has_all (kept ∷ session) ps b =
-    has_all session (with_policy ps kept.policy) b ∙ ap (λ x. x || list_any (is_of b) session) (has_begun ps kept.policy b (has_policy ps kept.policy) refl)
-    ∙ or_assoc (has_policy ps b) (bytes_eq kept.policy b) (list_any (is_of b) session)
+    has_all session (with_policy ps kept.policy) b ∙ ap (λ x. x || list_any (is_filter_for b) session) (has_begun ps kept.policy b (has_policy ps kept.policy) refl)
+    ∙ or_assoc (has_policy ps b) (bytes_eq kept.policy b) (list_any (is_filter_for b) session)
 
 -- one more filter begins its policy if it is the first of it and the policy wasn't read
 module _ (all : List SessionFilter) (ps : List BinaryPolicy) (n : ℕ) (kept : SessionFilter) (at : slice_get all n ≡ Some kept) where
@@ -132,12 +132,12 @@ module _ (all : List SessionFilter) (ps : List BinaryPolicy) (n : ℕ) (kept : S
       let next : n + 1 ≡ suc n = omega arith in
       ap (λ m. all_policies ps (take m all)) next ∙ ap (all_policies ps) (one_more all n at) ∙ fold-append (λ qs each. with_policy qs each.policy) ps front (kept ∷ [])
 
-  pub there_already : (out : List ℕ) → (has_policy ps kept.policy || list_any (is_of kept.policy) front) ≡ true → out ≡ learnt_so_far ps all n → out ≡ learnt_so_far ps all (n + 1)
+  pub there_already : (out : List ℕ) → (has_policy ps kept.policy || list_any (is_filter_for kept.policy) front) ≡ true → out ≡ learnt_so_far ps all n → out ≡ learnt_so_far ps all (n + 1)
   there_already out has so_far =
       so_far ∙ ap (λ qs. canon (map (with_session all) qs))
       (sym (more ∙ ap (λ b. cond b (all_policies ps front) (all_policies ps front ++ empty_policy kept.policy ∷ [])) (has_all front ps kept.policy ∙ has)))
 
-  pub begins : (out new : List ℕ) → (has_policy ps kept.policy || list_any (is_of kept.policy) front) ≡ false → out ≡ learnt_so_far ps all n → new ≡ out ++ canon (with_session all (empty_policy kept.policy) ∷ [])
+  pub begins : (out new : List ℕ) → (has_policy ps kept.policy || list_any (is_filter_for kept.policy) front) ≡ false → out ≡ learnt_so_far ps all n → new ≡ out ++ canon (with_session all (empty_policy kept.policy) ∷ [])
       → new ≡ learnt_so_far ps all (n + 1)
   begins out new has so_far written =
       written ∙ ap (λ t. t ++ canon (with_session all (empty_policy kept.policy) ∷ [])) so_far
@@ -168,20 +168,20 @@ first_from is (x ∷ xs) n (suc i) kept at own =
 pub first_place : (session : List SessionFilter) (i : ℕ) (kept : SessionFilter) → slice_get session i ≡ Some kept → is_place (slice_get (places_of session kept.policy) 0) i ≡ is_first_at session i (slice_get session i)
 first_place session i kept at =
     (let same : i ≡ 0 + i = omega arith in ap (is_place (slice_get (places_of session kept.policy) 0)) same)
-    ∙ first_from (is_of kept.policy) session 0 i kept at ((bytes_eq-Decides kept.policy kept.policy).1 refl)
+    ∙ first_from (is_filter_for kept.policy) session 0 i kept at ((bytes_eq-Decides kept.policy kept.policy).1 refl)
     ∙ ap (is_first_at session i) (sym at)
 
 module _ (session : List SessionFilter) (i : ℕ) (kept : SessionFilter) (at : slice_get session i ≡ Some kept) where
   -- no filter before the first of a policy is of the policy
-  pub first_told : is_first_at session i (slice_get session i) ≡ true → list_any (is_of kept.policy) (take i session) ≡ false
-  first_told is = by (list_any (is_of kept.policy) (take i session)) (ap (is_first_at session i) (sym at) ∙ is) where
+  pub first_known : is_first_at session i (slice_get session i) ≡ true → list_any (is_filter_for kept.policy) (take i session) ≡ false
+  first_known is = by (list_any (is_filter_for kept.policy) (take i session)) (ap (is_first_at session i) (sym at) ∙ is) where
     by : (b : Bool) → not b ≡ true → b ≡ false
     by true e = cc
     by false e = refl
 
   -- some filter before a later one of a policy is of the policy
-  pub later_told : is_first_at session i (slice_get session i) ≡ false → (x : Bool) → (x || list_any (is_of kept.policy) (take i session)) ≡ true
-  later_told is x = by x (list_any (is_of kept.policy) (take i session)) (ap (is_first_at session i) (sym at) ∙ is) where
+  pub later_known : is_first_at session i (slice_get session i) ≡ false → (x : Bool) → (x || list_any (is_filter_for kept.policy) (take i session)) ≡ true
+  later_known is x = by x (list_any (is_filter_for kept.policy) (take i session)) (ap (is_first_at session i) (sym at) ∙ is) where
     by : (x b : Bool) → not b ≡ false → (x || b) ≡ true
     by true b e = refl
     by false true e = refl

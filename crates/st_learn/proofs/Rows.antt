@@ -12,7 +12,7 @@ use Rattle.std.specs.Prelude.{is_some, nat_lt, slice_get}
 use Rattle.std.specs.Str.{bytes_eq}
 use Rattle.indexmap.proofs.MapLemmas.{Found-position}
 use Rattle.indexmap.specs.IndexMap.{insert_entry, set_value_at}
-use Rattle.st_learn.specs.Places.{GainsPlace, HasRoom, HasRoomAt, IsRoomLeft, KeepsPlaces, LosesPlace, PlacesEntry, PolicyPlaces, Listing, places_in, places_with, listing_in, row_of, shown_listing, shown_rows}
+use Rattle.st_learn.specs.Places.{GainsPlace, HasRoom, HasRoomAt, IsRoomLeft, KeepsPlaces, LosesPlace, PlacesEntry, PolicyPlaces, Listing, policy_places, places_with, listing_in, policy_row, shown_listing, shown_rows}
 
 abbrev pub is_key : List ℕ → Vec ℕ Global → Bool
 is_key policy key = bytes_eq policy key.items
@@ -102,7 +102,7 @@ abbrev binaries : List PlacesEntry → List (List ℕ)
 binaries es = map (λ (row : PolicyPlaces). row.binary) (shown_rows es)
 
 -- the number of a policy's row is the index of its key in the map
-pub row_kept : (es : List PlacesEntry) (policy : List ℕ) → row_of (shown_rows es) policy ≡ position (is_key policy) (keys_of es)
+pub row_kept : (es : List PlacesEntry) (policy : List ℕ) → policy_row (shown_rows es) policy ≡ position (is_key policy) (keys_of es)
 row_kept es policy = λ k. cond (nat_lt (first es k) (long es k)) (Some (first es k)) None where
   first : (es : List PlacesEntry) → position_or_len (bytes_eq policy) (binaries es) ≡ position_or_len (is_key policy) (keys_of es)
   first [] = refl
@@ -113,14 +113,14 @@ row_kept es policy = λ k. cond (nat_lt (first es k) (long es k)) (Some (first e
   long (e ∷ es) = ap suc (long es)
 
 -- changing what a row has doesn't move rows
-row_stays : (es : List PlacesEntry) (policy : List ℕ) (i : ℕ) (w : Vec ℕ Global) → row_of (shown_rows (set_value_at es i w)) policy ≡ row_of (shown_rows es) policy
+row_stays : (es : List PlacesEntry) (policy : List ℕ) (i : ℕ) (w : Vec ℕ Global) → policy_row (shown_rows (set_value_at es i w)) policy ≡ policy_row (shown_rows es) policy
 row_stays es policy i w = ap (position (bytes_eq policy)) (same es i) where
   same : (es : List PlacesEntry) (i : ℕ) → binaries (set_value_at es i w) ≡ binaries es
   same [] i = refl
   same (e ∷ es) zero = refl
   same (e ∷ es) (suc i) = ap (λ bs. e.0.items ∷ bs) (same es i)
 
-module _ (es : List PlacesEntry) (policy : List ℕ) (i : ℕ) (at : row_of (shown_rows es) policy ≡ Some i) where
+module _ (es : List PlacesEntry) (policy : List ℕ) (i : ℕ) (at : policy_row (shown_rows es) policy ≡ Some i) where
   pub row_is : Some i ≡ position (is_key policy) (keys_of es)
   row_is = sym at ∙ row_kept es policy
 
@@ -136,15 +136,15 @@ pub room_there : (rows : List PolicyPlaces) (policy : List ℕ) (v : Vec ℕ Glo
 room_there rows policy v is left = let had : length v.items < vec_capacity v = subst IsRoomLeft is left in let same : vec_len v ≡ length v.items = v.ok.0 in omega (arith, had, same)
 
 -- there are no indices if there is no row
-pub no_places_there : (es : List PlacesEntry) (policy : List ℕ) → is_some (lookup (is_key policy) es) ≡ false → places_in (shown_rows es) policy ≡ []
+pub no_places_there : (es : List PlacesEntry) (policy : List ℕ) → is_some (lookup (is_key policy) es) ≡ false → policy_places (shown_rows es) policy ≡ []
 no_places_there es policy none = ap places_with (sym (listing_kept es policy) ∙ none_shown (lookup (is_key policy) es) none)
 
 -- ---- room is made in a row
 
 changed_places : (b : Bool) (policy other : List ℕ) (rows : List PolicyPlaces) (v w : Vec ℕ Global) → bytes_eq policy other ≡ b → listing_in rows policy ≡ Some (shown_listing v) → w.items ≡ v.items
-    → places_with (cond b (Some (shown_listing w)) (listing_in rows other)) ≡ places_in rows other
+    → places_with (cond b (Some (shown_listing w)) (listing_in rows other)) ≡ policy_places rows other
 changed_places true policy other rows v w is was same =
-    same ∙ ap places_with (sym was) ∙ ap (places_in rows) ((bytes_eq-Decides policy other).0 is)
+    same ∙ ap places_with (sym was) ∙ ap (policy_places rows) ((bytes_eq-Decides policy other).0 is)
 changed_places false policy other rows v w is was same = refl
 
 changed_room : (b : Bool) (policy other : List ℕ) (rows : List PolicyPlaces) (v w : Vec ℕ Global) → bytes_eq policy other ≡ b → listing_in rows policy ≡ Some (shown_listing v) → w.items ≡ v.items → vec_capacity v ≤ vec_capacity w
@@ -171,19 +171,19 @@ module _ (es : List PlacesEntry) (policy : List ℕ) (i : ℕ) (v w : Vec ℕ Gl
   row_has_room left = record { is = row_stays es policy i w ∙ row_kept es policy ∙ sym at; room = has_room left }
 
   gained_by : (b : Bool) (other : List ℕ) (place : ℕ) → bytes_eq policy other ≡ b → w.items ≡ v.items ++ place ∷ []
-      → places_with (cond b (Some (shown_listing w)) (listing_in (shown_rows es) other)) ≡ cond b (places_in (shown_rows es) other ++ place ∷ []) (places_in (shown_rows es) other)
+      → places_with (cond b (Some (shown_listing w)) (listing_in (shown_rows es) other)) ≡ cond b (policy_places (shown_rows es) other ++ place ∷ []) (policy_places (shown_rows es) other)
   gained_by true other place is more =
-      more ∙ ap (λ ps. ps ++ place ∷ []) (ap places_with (sym was) ∙ ap (places_in (shown_rows es)) ((bytes_eq-Decides policy other).0 is))
+      more ∙ ap (λ ps. ps ++ place ∷ []) (ap places_with (sym was) ∙ ap (policy_places (shown_rows es)) ((bytes_eq-Decides policy other).0 is))
   gained_by false other place is more = refl
 
   pub row_gains : (place : ℕ) → w.items ≡ v.items ++ place ∷ [] → GainsPlace (shown_rows es) policy place (shown_rows (set_value_at es i w))
   row_gains place more other = ap places_with (row_changed es policy i w at other) ∙ gained_by (bytes_eq policy other) other place refl more
 
   -- other indices in the row
-  row_becomes : (change : List ℕ → List ℕ) → w.items ≡ change v.items → (other : List ℕ) → places_in (shown_rows (set_value_at es i w)) other ≡ cond (bytes_eq policy other) (change (places_in (shown_rows es) other)) (places_in (shown_rows es) other)
+  row_becomes : (change : List ℕ → List ℕ) → w.items ≡ change v.items → (other : List ℕ) → policy_places (shown_rows (set_value_at es i w)) other ≡ cond (bytes_eq policy other) (change (policy_places (shown_rows es) other)) (policy_places (shown_rows es) other)
   row_becomes change is other = ap places_with (row_changed es policy i w at other) ∙ by (bytes_eq policy other) refl where
-    by : (b : Bool) → bytes_eq policy other ≡ b → places_with (cond b (Some (shown_listing w)) (listing_in (shown_rows es) other)) ≡ cond b (change (places_in (shown_rows es) other)) (places_in (shown_rows es) other)
-    by true e = is ∙ ap change (ap places_with (sym was) ∙ ap (places_in (shown_rows es)) ((bytes_eq-Decides policy other).0 e))
+    by : (b : Bool) → bytes_eq policy other ≡ b → places_with (cond b (Some (shown_listing w)) (listing_in (shown_rows es) other)) ≡ cond b (change (policy_places (shown_rows es) other)) (policy_places (shown_rows es) other)
+    by true e = is ∙ ap change (ap places_with (sym was) ∙ ap (policy_places (shown_rows es)) ((bytes_eq-Decides policy other).0 e))
     by false e = refl
 
   pub row_loses : (index : ℕ) → w.items ≡ remove v.items index → LosesPlace (shown_rows es) policy index (shown_rows (set_value_at es i w))
@@ -192,9 +192,9 @@ module _ (es : List PlacesEntry) (policy : List ℕ) (i : ℕ) (v w : Vec ℕ Gl
 -- ---- a row is appended
 
 -- what is after the first row is after it in the whole
-behind : (b : Bool) (listing : Listing) (rest more : Option Listing) → cond b (Some listing) (option_or rest more) ≡ option_or (cond b (Some listing) rest) more
-behind true listing rest more = refl
-behind false listing rest more = refl
+following : (b : Bool) (listing : Listing) (rest more : Option Listing) → cond b (Some listing) (option_or rest more) ≡ option_or (cond b (Some listing) rest) more
+following true listing rest more = refl
+following false listing rest more = refl
 
 module _ (key v : Vec ℕ Global) (other : List ℕ) where
   abbrev begun : Option Listing
@@ -210,7 +210,7 @@ module _ (key v : Vec ℕ Global) (other : List ℕ) where
     clash f = cc
   begun_by false e es is none later =
       ap (λ o. cond (bytes_eq e.0.items other) (Some (shown_listing e.1)) o) (later ((λ k. cond (is k) (Some (shown_listing e.1)) (listing_in (shown_rows es) key.items)) ∙ none))
-      ∙ behind (bytes_eq e.0.items other) (shown_listing e.1) (listing_in (shown_rows es) other) begun
+      ∙ following (bytes_eq e.0.items other) (shown_listing e.1) (listing_in (shown_rows es) other) begun
 
   row_begun : (es : List PlacesEntry) → listing_in (shown_rows es) key.items ≡ None → Begun es (insert_entry same_key es key v)
   row_begun [] none = refl
@@ -234,7 +234,7 @@ module _ (key v : Vec ℕ Global) where
   stands [] = (ap (λ b. cond (not b) (1 + 0) 0) ((bytes_eq-Decides key.items key.items).1 refl), omega arith)
   stands (e ∷ es) = stands_by (bytes_eq key.items e.0.items) e es refl (stands es)
 
-  row_stands : (es : List PlacesEntry) → row_of (shown_rows (insert_entry same_key es key v)) key.items ≡ Some (place es)
+  row_stands : (es : List PlacesEntry) → policy_row (shown_rows (insert_entry same_key es key v)) key.items ≡ Some (place es)
   row_stands es =
       let new = keys_of (insert_entry same_key es key v) in
       row_kept (insert_entry same_key es key v) key.items
@@ -254,24 +254,24 @@ module _ (es : List PlacesEntry) (key v : Vec ℕ Global) (policy : List ℕ) (n
   absent : listing_in (shown_rows es) policy ≡ None
   absent = sym (listing_kept es policy) ∙ none_shown (lookup (is_key policy) es) none
 
-  behind_all : (other : List ℕ) → listing_in (shown_rows (insert_entry same_key es key v)) other ≡ option_or (listing_in (shown_rows es) other) (cond (bytes_eq key.items other) (Some (shown_listing v)) None)
-  behind_all other = row_begun key v other es (ap (listing_in (shown_rows es)) key_is ∙ absent)
+  after_all : (other : List ℕ) → listing_in (shown_rows (insert_entry same_key es key v)) other ≡ option_or (listing_in (shown_rows es) other) (cond (bytes_eq key.items other) (Some (shown_listing v)) None)
+  after_all other = row_begun key v other es (ap (listing_in (shown_rows es)) key_is ∙ absent)
 
   -- a row without indices
   pub new_keeps : v.items ≡ [] → KeepsPlaces (shown_rows es) (shown_rows (insert_entry same_key es key v))
   new_keeps empty = record {
-    places = λ other. ap places_with (behind_all other) ∙ no_places (listing_in (shown_rows es) other) (bytes_eq key.items other) v empty;
-    room = λ other left. subst IsRoomLeft (sym (behind_all other)) (still_room (listing_in (shown_rows es) other) (cond (bytes_eq key.items other) (Some (shown_listing v)) None) left);
+    places = λ other. ap places_with (after_all other) ∙ no_places (listing_in (shown_rows es) other) (bytes_eq key.items other) v empty;
+    room = λ other left. subst IsRoomLeft (sym (after_all other)) (still_room (listing_in (shown_rows es) other) (cond (bytes_eq key.items other) (Some (shown_listing v)) None) left);
   }
 
-  has_room_behind : length v.items < vec_capacity v → HasRoom (shown_rows (insert_entry same_key es key v)) policy
-  has_room_behind left =
-      subst IsRoomLeft (sym (behind_all policy ∙ (λ k. option_or (absent k) (cond (bytes_eq (key_is k) policy) (Some (shown_listing v)) None)) ∙ ap (λ b. option_or None (cond b (Some (shown_listing v)) None)) ((bytes_eq-Decides policy policy).1 refl))) left
+  has_room_after : length v.items < vec_capacity v → HasRoom (shown_rows (insert_entry same_key es key v)) policy
+  has_room_after left =
+      subst IsRoomLeft (sym (after_all policy ∙ (λ k. option_or (absent k) (cond (bytes_eq (key_is k) policy) (Some (shown_listing v)) None)) ∙ ap (λ b. option_or None (cond b (Some (shown_listing v)) None)) ((bytes_eq-Decides policy policy).1 refl))) left
 
   pub new_has_room : (i : ℕ) → i ≡ position_or_len (same_key key) (keys_of es) → length v.items < vec_capacity v → HasRoomAt i (shown_rows (insert_entry same_key es key v)) policy
   new_has_room i is left = record {
-    is = ap (row_of (shown_rows (insert_entry same_key es key v))) (sym key_is) ∙ row_stands key v es ∙ ap Some (sym is);
-    room = has_room_behind left;
+    is = ap (policy_row (shown_rows (insert_entry same_key es key v))) (sym key_is) ∙ row_stands key v es ∙ ap Some (sym is);
+    room = has_room_after left;
   }
 
 -- nothing changes

@@ -9,11 +9,11 @@ use Rattle.st_filter.specs.declared.set.BinaryPolicy.{BinaryPolicy}
 use Rattle.st_law.specs.Sessions.{SessionFilter}
 use Rattle.st_lex.specs.Pieces.{print}
 use Rattle.st_printing.specs.Canon.{canon, filter_pieces, row_pieces}
-use Rattle.st_learn.specs.Sessions.{is_of}
+use Rattle.st_learn.specs.Sessions.{is_filter_for}
 
 -- the filters that a session has for a policy, of whatever rule, in order
 abbrev pub filters_added : List SessionFilter → List ℕ → List FilterValue
-filters_added session policy = map (λ kept. kept.filter) (filter (is_of policy) session)
+filters_added session policy = map (λ kept. kept.filter) (filter (is_filter_for policy) session)
 
 -- a policy with the session's filters after its own
 abbrev pub with_session : List SessionFilter → BinaryPolicy → BinaryPolicy

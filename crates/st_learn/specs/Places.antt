@@ -25,8 +25,8 @@ places_with None = []
 places_with (Some listing) = listing.places
 
 -- the indices of the filters of a policy
-abbrev pub places_in : List PolicyPlaces → List ℕ → List ℕ
-places_in rows policy = places_with (listing_in rows policy)
+abbrev pub policy_places : List PolicyPlaces → List ℕ → List ℕ
+policy_places rows policy = places_with (listing_in rows policy)
 
 -- there is room for one more
 abbrev pub IsRoomLeft : Option Listing → Type 0
@@ -38,28 +38,28 @@ abbrev pub HasRoom : List PolicyPlaces → List ℕ → Type 0
 HasRoom rows policy = IsRoomLeft (listing_in rows policy)
 
 -- the number of the row of a policy, if there is one
-abbrev pub row_of : List PolicyPlaces → List ℕ → Option ℕ
-row_of rows policy = position (bytes_eq policy) (map (λ (row : PolicyPlaces). row.binary) rows)
+abbrev pub policy_row : List PolicyPlaces → List ℕ → Option ℕ
+policy_row rows policy = position (bytes_eq policy) (map (λ (row : PolicyPlaces). row.binary) rows)
 
 -- this is the row of a policy, and it has room for one more index
 pub record HasRoomAt (row : ℕ) (rows : List PolicyPlaces) (policy : List ℕ) : Type 0 where
-  pub is : row_of rows policy ≡ Some row
+  pub is : policy_row rows policy ≡ Some row
   pub room : HasRoom rows policy
 
 -- each policy has the same indices as before, and still has room if it had room
 pub record KeepsPlaces (old new : List PolicyPlaces) : Type 0 where
-  pub places : (policy : List ℕ) → places_in new policy ≡ places_in old policy
+  pub places : (policy : List ℕ) → policy_places new policy ≡ policy_places old policy
   pub room : (policy : List ℕ) → HasRoom old policy → HasRoom new policy
 
 -- a policy has one more index, and each other has the same as before
 abbrev pub GainsPlace : List PolicyPlaces → List ℕ → ℕ → List PolicyPlaces → Type 0
 GainsPlace old policy place new =
-    (other : List ℕ) → places_in new other ≡ (if bytes_eq policy other then places_in old other ++ place ∷ [] else places_in old other)
+    (other : List ℕ) → policy_places new other ≡ (if bytes_eq policy other then policy_places old other ++ place ∷ [] else policy_places old other)
 
 -- a policy has lost the index at a position, and each other has the same as before
 abbrev pub LosesPlace : List PolicyPlaces → List ℕ → ℕ → List PolicyPlaces → Type 0
 LosesPlace old policy index new =
-    (other : List ℕ) → places_in new other ≡ (if bytes_eq policy other then remove (places_in old other) index else places_in old other)
+    (other : List ℕ) → policy_places new other ≡ (if bytes_eq policy other then remove (policy_places old other) index else policy_places old other)
 
 -- a policy has one more index if it is wanted; otherwise nothing changes
 abbrev pub MayGainPlace : Bool → List PolicyPlaces → List ℕ → ℕ → List PolicyPlaces → Type 0

@@ -6,7 +6,7 @@ use Rattle.st_calls.specs.declared.rule.Rule.{Rule}
 use Rattle.st_filter.specs.Formula.{FilterValue}
 use Rattle.st_law.specs.Sessions.{SessionFilter}
 use Rattle.st_learn.specs.Deciding.{asks_first, count_for}
-use Rattle.st_learn.specs.Places.{PolicyPlaces, places_in}
+use Rattle.st_learn.specs.Places.{PolicyPlaces, policy_places}
 
 -- the filters of a session, in order
 pub record Session : Type 0 where
@@ -23,8 +23,8 @@ added policy rule filter = record { policy = policy; rule = rule; filter = filte
 -- ---- the filters of a policy
 
 -- whether a filter of a session is for this policy, of whatever rule
-abbrev pub is_of : List ℕ → SessionFilter → Bool
-is_of policy kept = bytes_eq kept.policy policy
+abbrev pub is_filter_for : List ℕ → SessionFilter → Bool
+is_filter_for policy kept = bytes_eq kept.policy policy
 
 -- the numbers of the items of a kind, if the items are numbered from n on
 abbrev pub places_from : {X : Type 0} → (X → Bool) → ℕ → List X → List ℕ
@@ -33,23 +33,23 @@ places_from is n (x ∷ xs) = if is x then n ∷ places_from is (suc n) xs else 
 
 -- the indices of a policy's filters in a session, in order
 abbrev pub places_of : List SessionFilter → List ℕ → List ℕ
-places_of session policy = places_from (is_of policy) 0 session
+places_of session policy = places_from (is_filter_for policy) 0 session
 
 -- whether the optional filter at an index is the first of its policy
 abbrev pub is_first_at : List SessionFilter → ℕ → Option SessionFilter → Bool
 is_first_at session place None = false
-is_first_at session place (Some kept) = not (list_any (is_of kept.policy) (take place session))
+is_first_at session place (Some kept) = not (list_any (is_filter_for kept.policy) (take place session))
 
 -- the indices of those filters of a policy that are the first for their rule, in order, if the session begins with others
-abbrev pub firsts_behind : List SessionFilter → List ℕ → List SessionFilter → List ℕ
-firsts_behind front policy [] = []
-firsts_behind front policy (kept ∷ back) =
-    if is_of policy kept && (count_for front kept == 0) then length front ∷ firsts_behind (front ++ kept ∷ []) policy back
-    else firsts_behind (front ++ kept ∷ []) policy back
+abbrev pub firsts_after : List SessionFilter → List ℕ → List SessionFilter → List ℕ
+firsts_after front policy [] = []
+firsts_after front policy (kept ∷ back) =
+    if is_filter_for policy kept && (count_for front kept == 0) then length front ∷ firsts_after (front ++ kept ∷ []) policy back
+    else firsts_after (front ++ kept ∷ []) policy back
 
 -- the same for a whole session
 abbrev pub firsts_of : List SessionFilter → List ℕ → List ℕ
-firsts_of session policy = firsts_behind [] policy session
+firsts_of session policy = firsts_after [] policy session
 
 -- the indices of the filters that ask for a text first
 abbrev pub places_asking : List SessionFilter → List ℕ → List ℕ
@@ -58,17 +58,17 @@ places_asking session text = places_from (asks_first text) 0 session
 -- ---- as it is kept
 
 -- for each filter, how many before it are for its policy and rule, if the session begins with others
-abbrev pub numbers_behind : List SessionFilter → List SessionFilter → List ℕ
-numbers_behind front [] = []
-numbers_behind front (kept ∷ back) = count_for front kept ∷ numbers_behind (front ++ kept ∷ []) back
+abbrev pub numbers_after : List SessionFilter → List SessionFilter → List ℕ
+numbers_after front [] = []
+numbers_after front (kept ∷ back) = count_for front kept ∷ numbers_after (front ++ kept ∷ []) back
 
 -- the invariant of a session: the indices of each policy are those of its filters, and the first ones those of the first filters for their
 -- rules; the indices of each text are those of the filters that ask for it first; if no filter is said to ask for no text, none does; each
 -- filter has its number; and numbers fit in 32 bits
 pub record IsSession (filters : List SessionFilter) (numbers : List ℕ) (policies firsts texts : List PolicyPlaces) (has_textless : Bool) : Type 0 where
-  pub policies_are : (policy : List ℕ) → places_in policies policy ≡ places_of filters policy
-  pub firsts_are : (policy : List ℕ) → places_in firsts policy ≡ firsts_of filters policy
-  pub texts_are : (text : List ℕ) → places_in texts text ≡ places_asking filters text
+  pub policies_are : (policy : List ℕ) → policy_places policies policy ≡ places_of filters policy
+  pub firsts_are : (policy : List ℕ) → policy_places firsts policy ≡ firsts_of filters policy
+  pub texts_are : (text : List ℕ) → policy_places texts text ≡ places_asking filters text
   pub textless : has_textless ≡ false → places_asking filters [] ≡ []
-  pub numbers_are : numbers ≡ numbers_behind [] filters
+  pub numbers_are : numbers ≡ numbers_after [] filters
   pub few : length filters < 2 ^ 31

@@ -2,18 +2,20 @@
 //! with the session's filters.
 #![tactic(auto)]
 
+mod added_filter;
 mod answering;
 mod asked;
-mod kept;
 pub mod law;
 mod learnt;
+pub mod operator;
 pub mod places;
 mod print;
 pub mod session;
 
+pub use added_filter::AddedFilter;
 pub use answering::read_count;
-pub use kept::Kept;
 pub use learnt::learnt_filter;
+pub use operator::Operator;
 pub use places::Places;
 pub use print::print_learnt;
 pub use session::Session;

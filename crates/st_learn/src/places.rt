@@ -1,5 +1,5 @@
 ghost use Rattle.std.specs.Prelude.{◌≡◌, ◌<◌, ℕ, List, [], length, None, Some, IfOk, OnOk, OnErr};
-ghost use Rattle.st_learn.specs.Places.{places_in, row_of, GainsPlace, HasRoomAt, KeepsPlaces, LosesPlace};
+ghost use Rattle.st_learn.specs.Places.{policy_places, policy_row, GainsPlace, HasRoomAt, KeepsPlaces, LosesPlace};
 
 use indexmap::IndexMap;
 use st_base::Text;
@@ -34,7 +34,7 @@ impl Places {
 
     /// The indices of a policy.
     pub fn of(&self, policy: &[u8]) -> &[usize]
-        ensures { result.now ≡ places_in self.now policy.now }
+        ensures { result.now ≡ policy_places self.now policy.now }
     {
         // Most runs have none, and then nothing is hashed.
         if self.rows.is_empty() {
@@ -48,16 +48,16 @@ impl Places {
 
     /// The row of a policy, if it has one.
     pub fn row_of(&self, policy: &[u8]) -> Option<usize>
-        ensures is { result ≡ row_of self.now policy.now }
-        ensures none { result ≡ None → places_in self.now policy.now ≡ [] }
+        ensures is { result ≡ policy_row self.now policy.now }
+        ensures none { result ≡ None → policy_places self.now policy.now ≡ [] }
     {
         self.rows.get_index_of(policy)
     }
 
     /// The indices of the policy of a row.
     pub fn at(&self, row: usize) -> &[usize]
-        requires { (policy : List ℕ) × (row_of self.now policy ≡ Some row) }
-        ensures { (policy : List ℕ) → row_of self.now policy ≡ Some row → result.now ≡ places_in self.now policy }
+        requires { (policy : List ℕ) × (policy_row self.now policy ≡ Some row) }
+        ensures { (policy : List ℕ) → policy_row self.now policy ≡ Some row → result.now ≡ policy_places self.now policy }
     {
         self.rows[row].as_slice()
     }
@@ -103,8 +103,8 @@ impl Places {
 
     /// Removes the index at a position from those of the policy of a row. It takes no memory.
     pub fn take_out_at(&mut self, row: usize, index: usize)
-        requires { (policy : List ℕ) × ((row_of self.old policy ≡ Some row) × (index < length (places_in self.old policy))) }
-        ensures { (policy : List ℕ) → row_of self.old policy ≡ Some row → LosesPlace self.old policy index self.new }
+        requires { (policy : List ℕ) × ((policy_row self.old policy ≡ Some row) × (index < length (policy_places self.old policy))) }
+        ensures { (policy : List ℕ) → policy_row self.old policy ≡ Some row → LosesPlace self.old policy index self.new }
     {
         let places = &mut self.rows[row];
         places.remove(index);

@@ -4,8 +4,8 @@ ghost use Rattle.st_learn.specs.Deciding.{asks_first, decides, first_at, lesser,
 ghost use Rattle.st_learn.specs.Places.{KeepsPlaces, MayGainPlace};
 ghost use Rattle.st_learn.specs.Sessions.{added, firsts_of, is_first_at, places_asking, places_of, session_with};
 
+use crate::added_filter::AddedFilter;
 use crate::asked::asked_text;
-use crate::kept::Kept;
 use crate::places::Places;
 use st_base::Text;
 use st_calls::{Rule, Snapshot};
@@ -21,7 +21,7 @@ const MOST_KEPT: usize = 0x7fff_ffff;
 #[derive(Debug, Drop)]
 pub struct Session {
     // In the order in which they were added.
-    kept: Vec<Kept>,
+    kept: Vec<AddedFilter>,
     // For each filter, how many before it are for its policy and rule.
     numbers: Vec<u32>,
     // The indices of the filters of each policy,
@@ -122,19 +122,20 @@ impl Session {
         self.texts.push_at(text_row, place);
         self.has_textless |= text.is_empty();
         self.numbers.push_reserved(number);
-        self.kept.push_reserved(Kept::new(binary, rule, filter));
+        self.kept
+            .push_reserved(AddedFilter::new(binary, rule, filter));
         Ok(number)
     }
 
     /// The filters, in order.
-    pub fn filters(&self) -> &[Kept]
+    pub fn filters(&self) -> &[AddedFilter]
         ensures { result.now ≡ self.now.filters }
     {
         self.kept.as_slice()
     }
 
     /// The filter at an index.
-    pub fn kept(&self, place: usize) -> &Kept
+    pub fn kept(&self, place: usize) -> &AddedFilter
         requires { place < length self.now.filters }
         ensures { slice_get self.now.filters place ≡ Some result.now }
     {

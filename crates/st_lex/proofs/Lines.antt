@@ -91,16 +91,16 @@ rows-first us b h =
     ∙ ap (λ (xs : List (List Token)). take (prefix_len is_in_line us) us ∷ xs) (rows-later (drop (prefix_len is_in_line us) us))
     ∙ ap (λ (xs : List Token). take (prefix_len is_in_line us) us ∷ rows xs) (drop-drop 1 (prefix_len is_in_line us) us)
 
-pub next_row_at : (tokens rest behind : List Token) (blank row : ℕ) → rest ≡ drop blank tokens → blank ≡ prefix_len ends_line tokens → 0 < length rest → row ≡ prefix_len is_in_line rest → behind ≡ drop (row + 1) rest → IsNextRow tokens (take row rest) behind
-next_row_at tokens rest behind blank row is_rest is_blank some is_row is_behind =
+pub next_row_at : (tokens rest following : List Token) (blank row : ℕ) → rest ≡ drop blank tokens → blank ≡ prefix_len ends_line tokens → 0 < length rest → row ≡ prefix_len is_in_line rest → following ≡ drop (row + 1) rest → IsNextRow tokens (take row rest) following
+next_row_at tokens rest following blank row is_rest is_blank some is_row is_after =
     let from : rest ≡ drop (prefix_len ends_line tokens) tokens = is_rest ∙ ap (λ (n : ℕ). drop n tokens) is_blank in
     let b : BeginsRow rest = subst BeginsRow (sym from) (begins tokens) in
     let cut : take row rest ≡ take (prefix_len is_in_line rest) rest = ap (λ (n : ℕ). take n rest) is_row in
-    let after : behind ≡ drop (prefix_len is_in_line rest + 1) rest = is_behind ∙ ap (λ (n : ℕ). drop (n + 1) rest) is_row in
+    let after : following ≡ drop (prefix_len is_in_line rest + 1) rest = is_after ∙ ap (λ (n : ℕ). drop (n + 1) rest) is_row in
     let P : List Token → Type 0 = λ xs. All (λ t. ends_line t ≡ false) xs in
-    let n : length behind ≡ length rest - (row + 1) = ap length is_behind ∙ length-drop (row + 1) rest in
+    let n : length following ≡ length rest - (row + 1) = ap length is_after ∙ length-drop (row + 1) rest in
     let m : length rest ≡ length tokens - blank = ap length is_rest ∙ length-drop blank tokens in
-    let first : rows tokens ≡ take row rest ∷ rows behind =
+    let first : rows tokens ≡ take row rest ∷ rows following =
     rows-blank tokens ∙ ap rows (sym from) ∙ rows-first rest b some ∙ ap (λ (xs : List Token). xs ∷ rows (drop (prefix_len is_in_line rest + 1) rest)) (sym cut) ∙ ap (λ (xs : List Token). take row rest ∷ rows xs) (sym after) in
     let size : length (take row rest) ≡ row = ap length cut ∙ length-prefix_len is_in_line rest ∙ sym is_row in
     let place : blank + (row + 1) ≡ blank + length (take row rest) + 1 = omega arith in
@@ -108,7 +108,7 @@ next_row_at tokens rest behind blank row is_rest is_blank some is_row is_behind 
       parts = (
         blank,
         ap (λ (n : ℕ). take n rest) (sym size) ∙ ap (take (length (take row rest))) is_rest,
-        is_behind ∙ ap (drop (row + 1)) is_rest ∙ drop-drop (row + 1) blank tokens ∙ ap (λ (n : ℕ). drop n tokens) place,
+        is_after ∙ ap (drop (row + 1)) is_rest ∙ drop-drop (row + 1) blank tokens ∙ ap (λ (n : ℕ). drop n tokens) place,
       );
       first = first;
       has_token = ap has_token cut ∙ has_token-row rest b some;

@@ -9,8 +9,8 @@ use Rattle.st_lex.specs.declared.token.TokenKind.{TokenKind}
 use Rattle.st_lex.specs.declared.token.Lexed.{Lexed}
 use Rattle.st_lex.specs.declared.token.Front.{Front}
 use Rattle.st_lex.specs.declared.token.Front.TheVariants.{Gap, Piece, Broken}
-use Rattle.st_lex.specs.Tokens.{front_of, is_word_byte, line_after, tokens_from, lexed_text, LiesWithin}
-use Rattle.st_lex.specs.Slices.{newlines, byte_before, IsTokenOf, StandInOrder, AreSlices}
+use Rattle.st_lex.specs.Tokens.{front_of, is_word_byte, line_after, tokens_from, lexed_text, IsFrontWithin}
+use Rattle.st_lex.specs.Slices.{newlines, byte_before, IsTokenOf, AreTokensInOrder, AreSlices}
 use Rattle.st_lex.proofs.Runs.{Ends, IsPiece, Tells, front_tells}
 use Rattle.st_lex.proofs.Skips.{by_front, tokens_from-front}
 use Rattle.st_lex.proofs.Within.{front_of-within}
@@ -24,7 +24,7 @@ Stands-earlier : (text : List ℕ) (a b : ℕ) (ts : List Token) → a ≤ b →
 Stands-earlier text a b [] h s = tt
 Stands-earlier text a b (t ∷ ts) h s = (omega (arith, s.0), s.1, s.2)
 
-in_order : (text : List ℕ) (end : ℕ) (ts : List Token) → Stands text end ts → StandInOrder end ts
+in_order : (text : List ℕ) (end : ℕ) (ts : List Token) → Stands text end ts → AreTokensInOrder end ts
 in_order text end [] s = tt
 in_order text end (t ∷ ts) s = (s.0, in_order text (t.at + t.len) ts s.2)
 
@@ -95,7 +95,7 @@ piece_is text at line b bs kind k e l bound p q is =
           };
     }
 
-stands_front : (text : List ℕ) (at line b : ℕ) (bs : List ℕ) → ((skip at line : ℕ) → drop at text ≡ bs → skip ≤ length bs → line ≡ newlines (take (at + skip) text) + 1 → Bounds text (at + skip) → Stands text (at + skip) (tokens_from skip at line bs).tokens) → drop at text ≡ b ∷ bs → line ≡ newlines (take at text) + 1 → Bounds text at → (f : Front) → LiesWithin (length bs + 1) f → Tells (b ∷ bs) f → Stands text at (by_front at line bs f).tokens
+stands_front : (text : List ℕ) (at line b : ℕ) (bs : List ℕ) → ((skip at line : ℕ) → drop at text ≡ bs → skip ≤ length bs → line ≡ newlines (take (at + skip) text) + 1 → Bounds text (at + skip) → Stands text (at + skip) (tokens_from skip at line bs).tokens) → drop at text ≡ b ∷ bs → line ≡ newlines (take at text) + 1 → Bounds text at → (f : Front) → IsFrontWithin (length bs + 1) f → Tells (b ∷ bs) f → Stands text at (by_front at line bs f).tokens
 unfolding by_front
 stands_front text at line b bs ih e l bound (Gap k) w t =
     let p : 0 < k = w.0 in

@@ -8,7 +8,7 @@ use Rattle.st_lex.specs.declared.token.TokenKind.TheVariants.{Word, Quoted, Colo
 use Rattle.st_lex.specs.declared.token.Lexed.{Lexed}
 use Rattle.st_lex.specs.Quote.{quoted}
 use Rattle.st_lex.specs.Tokens.{line_after, with_token, tokens_from, lexed_text}
-use Rattle.st_lex.specs.Pieces.{Piece, PlainWord, QuotedText, Sign, Space, is_sign, sign_bytes, piece_bytes, print, StandApart, StandWell, SpelledToken, spelled_tokens, piece_tokens, IsReadAs}
+use Rattle.st_lex.specs.Pieces.{Piece, PlainWord, QuotedText, Sign, Space, is_sign, sign_bytes, piece_bytes, print, BeginsWithoutWord, CanBeReadBack, SpelledToken, spelled_tokens, piece_tokens, IsReadAs}
 use Rattle.st_lex.proofs.Fronts.{EndsWord, text_of_part, word_first, quoted_first, sign_first, space_first}
 
 -- the token of some bytes at an offset and a line
@@ -40,7 +40,7 @@ sign_ends Greater rest is = refl
 sign_ends Line rest is = refl
 
 -- no word continues into the text of such pieces
-ends_word : (pieces : List Piece) → StandApart pieces → StandWell pieces → EndsWord (print pieces)
+ends_word : (pieces : List Piece) → BeginsWithoutWord pieces → CanBeReadBack pieces → EndsWord (print pieces)
 ends_word [] apart well = tt
 ends_word (PlainWord bytes ∷ pieces) apart well = absurd apart
 ends_word (QuotedText bytes ∷ pieces) apart well = refl
@@ -48,7 +48,7 @@ ends_word (Sign kind ∷ pieces) apart well = sign_ends kind (print pieces) well
 ends_word (Space ∷ pieces) apart well = refl
 
 -- the tokens of a text of pieces, with their offsets and lines
-pub tokens_from-print : (pieces : List Piece) (at line : ℕ) → StandWell pieces → tokens_from 0 at line (print pieces) ≡ record { tokens = tokens_at at line pieces; fault = None }
+pub tokens_from-print : (pieces : List Piece) (at line : ℕ) → CanBeReadBack pieces → tokens_from 0 at line (print pieces) ≡ record { tokens = tokens_at at line pieces; fault = None }
 tokens_from-print [] at line well = refl
 tokens_from-print (PlainWord bytes ∷ pieces) at line well =
     word_first bytes (print pieces) at line well.0 (ends_word pieces well.1 well.2) ∙ ap (with_token (token_at Word bytes at line)) (tokens_from-print pieces (at + length bytes) line well.2)
@@ -79,8 +79,8 @@ spelled-tokens_at front (QuotedText bytes ∷ pieces) line = spelled_part front 
 spelled-tokens_at front (Sign kind ∷ pieces) line = spelled_part front (sign_bytes kind) kind pieces line (line_after kind line) (spelled-tokens_at (front ++ sign_bytes kind) pieces (line_after kind line))
 spelled-tokens_at front (Space ∷ pieces) line = spelled_after front (32 ∷ []) pieces line (spelled-tokens_at (front ++ 32 ∷ []) pieces line)
 
--- the text of pieces for which `StandWell` holds is read as these pieces
-pub print_is_read : (pieces : List Piece) → StandWell pieces → IsReadAs (print pieces) (piece_tokens pieces)
+-- the text of pieces for which `CanBeReadBack` holds is read as these pieces
+pub print_is_read : (pieces : List Piece) → CanBeReadBack pieces → IsReadAs (print pieces) (piece_tokens pieces)
 print_is_read pieces well =
     let e : lexed_text (print pieces) ≡ record { tokens = tokens_at 0 1 pieces; fault = None } = tokens_from-print pieces 0 1 well in
     record {
@@ -99,22 +99,22 @@ piece_tokens-append (QuotedText bytes ∷ ps) qs = ap (λ (more : List SpelledTo
 piece_tokens-append (Sign kind ∷ ps) qs = ap (λ (more : List SpelledToken). record { kind = kind; text = sign_bytes kind } ∷ more) (piece_tokens-append ps qs)
 piece_tokens-append (Space ∷ ps) qs = piece_tokens-append ps qs
 
-StandApart-append : (ps qs : List Piece) → StandApart ps → StandApart qs → StandApart (ps ++ qs)
+StandApart-append : (ps qs : List Piece) → BeginsWithoutWord ps → BeginsWithoutWord qs → BeginsWithoutWord (ps ++ qs)
 StandApart-append [] qs p q = q
 StandApart-append (PlainWord bytes ∷ ps) qs p q = absurd p
 StandApart-append (QuotedText bytes ∷ ps) qs p q = tt
 StandApart-append (Sign kind ∷ ps) qs p q = tt
 StandApart-append (Space ∷ ps) qs p q = tt
 
--- `StandWell` holds of two lists of pieces together if it holds of each and the second doesn't begin with a Word
-pub StandWell-append : (ps qs : List Piece) → StandWell ps → StandWell qs → StandApart qs → StandWell (ps ++ qs)
+-- `CanBeReadBack` holds of two lists of pieces together if it holds of each and the second doesn't begin with a Word
+pub StandWell-append : (ps qs : List Piece) → CanBeReadBack ps → CanBeReadBack qs → BeginsWithoutWord qs → CanBeReadBack (ps ++ qs)
 StandWell-append [] qs p q apart = q
 StandWell-append (PlainWord bytes ∷ ps) qs p q apart = (p.0, StandApart-append ps qs p.1 apart, StandWell-append ps qs p.2 q apart)
 StandWell-append (QuotedText bytes ∷ ps) qs p q apart = (p.0, StandWell-append ps qs p.1 q apart)
 StandWell-append (Sign kind ∷ ps) qs p q apart = (p.0, StandWell-append ps qs p.1 q apart)
 StandWell-append (Space ∷ ps) qs p q apart = StandWell-append ps qs p q apart
 
-between : (ps qs : List Piece) (last : Piece) → StandApart (ps ++ last ∷ []) → StandApart ((ps ++ last ∷ []) ++ qs)
+between : (ps qs : List Piece) (last : Piece) → BeginsWithoutWord (ps ++ last ∷ []) → BeginsWithoutWord ((ps ++ last ∷ []) ++ qs)
 between [] qs (PlainWord bytes) p = absurd p
 between [] qs (QuotedText bytes) p = tt
 between [] qs (Sign kind) p = tt
@@ -124,8 +124,8 @@ between (QuotedText bytes ∷ ps) qs last p = tt
 between (Sign kind ∷ ps) qs last p = tt
 between (Space ∷ ps) qs last p = tt
 
--- after a quoted text, a sign or a space, as at a line's end, any second list for which `StandWell` holds can follow
-pub StandWell-after : (ps qs : List Piece) (last : Piece) → StandWell (ps ++ last ∷ []) → StandApart (last ∷ []) → StandWell qs → StandWell ((ps ++ last ∷ []) ++ qs)
+-- after a quoted text, a sign or a space, as at a line's end, any second list for which `CanBeReadBack` holds can follow
+pub StandWell-after : (ps qs : List Piece) (last : Piece) → CanBeReadBack (ps ++ last ∷ []) → BeginsWithoutWord (last ∷ []) → CanBeReadBack qs → CanBeReadBack ((ps ++ last ∷ []) ++ qs)
 StandWell-after [] qs (PlainWord bytes) p apart q = absurd apart
 StandWell-after [] qs (QuotedText bytes) p apart q = (p.0, q)
 StandWell-after [] qs (Sign kind) p apart q = (p.0, q)

@@ -29,10 +29,10 @@ plain_first names apart (b ∷ bs) = by (is_plain_byte b) refl (plain_first name
       rw e (first ∙ ap (λ (xs : List ℕ). b ∷ xs) rest ∙ ap (λ (n : ℕ). take n (b ∷ bs) ++ unquoted_from names 0 (drop n (b ∷ bs))) (sym one))
 
 -- a quote directly after inner bytes closes the text, and no fault is before it
-pub closed_behind : (bytes : List ℕ) (d : ℕ) → prefix_len is_inner_byte bytes < length bytes → get_or bytes (prefix_len is_inner_byte bytes) d ≡ 34 →
+pub closed_later : (bytes : List ℕ) (d : ℕ) → prefix_len is_inner_byte bytes < length bytes → get_or bytes (prefix_len is_inner_byte bytes) d ≡ 34 →
     (closing_len bytes ≡ Some (prefix_len is_inner_byte bytes + 1)) × (inner_fault bytes ≡ None)
-closed_behind [] d inside e = absurd (omega (arith, inside))
-closed_behind (b ∷ bs) d inside e = by (is_inner_byte b) refl (closed_behind bs d) where
+closed_later [] d inside e = absurd (omega (arith, inside))
+closed_later (b ∷ bs) d inside e = by (is_inner_byte b) refl (closed_later bs d) where
   by : (inner : Bool) → is_inner_byte b ≡ inner →
       (prefix_len is_inner_byte bs < length bs → get_or bs (prefix_len is_inner_byte bs) d ≡ 34 → (closing_len bs ≡ Some (prefix_len is_inner_byte bs + 1)) × (inner_fault bs ≡ None)) →
       (closing_len (b ∷ bs) ≡ Some (prefix_len is_inner_byte (b ∷ bs) + 1)) × (inner_fault (b ∷ bs) ≡ None)

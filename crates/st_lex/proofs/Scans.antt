@@ -33,14 +33,14 @@ pub Closes-start : (bytes : List ℕ) → Closes false bytes 0
 Closes-start bytes = sym (further-zero (closing_len bytes))
 
 -- after a backslash any byte but a newline ends the pair
-behind : (bytes : List ℕ) (i : ℕ) → i < length bytes → get_or bytes i 0 ≢ 10 → Closes true bytes i → Closes false bytes (i + 1)
-behind bytes i inside n c =
+following : (bytes : List ℕ) (i : ℕ) → i < length bytes → get_or bytes i 0 ≢ 10 → Closes true bytes i → Closes false bytes (i + 1)
+following bytes i inside n c =
     let e : closing_len (92 ∷ drop i bytes) ≡ count_after 2 (closing_len (drop (i + 1) bytes)) = ap (λ (x : List ℕ). closing_len (92 ∷ x)) (at_place bytes i (get_or bytes i 0) inside refl) ∙ closing_len-pair (get_or bytes i 0) (drop (i + 1) bytes) n in
     let k : c.0 + 2 ≡ i + 1 = omega (arith, c.1) in
     c.2 ∙ ap (count_after c.0) e ∙ further-further c.0 2 (closing_len (drop (i + 1) bytes)) ∙ ap (λ (m : ℕ). count_after m (closing_len (drop (i + 1) bytes))) k
 
 pub Closes-after : (escaped next : Bool) (bytes : List ℕ) (i : ℕ) → i < length bytes → get_or bytes i 0 ≢ 10 → escaped ≡ true → next ≡ false → Closes escaped bytes i → Closes next bytes (i + 1)
-Closes-after true false bytes i inside n e f c = behind bytes i inside n c
+Closes-after true false bytes i inside n e f c = following bytes i inside n c
 Closes-after true true bytes i inside n e f c = absurd (cc)
 Closes-after false next bytes i inside n e f c = absurd (cc)
 

@@ -8,10 +8,10 @@ use Rattle.st_lex.specs.Tokens.{front_of, sign_of}
 
 -- a case distinction: the byte is this sign, or one of the rest
 either : (b c : ℕ) (this k : TokenKind) (rest : Option TokenKind) (P : Type 0) → (b ≡ c → this ≡ k → P) → (rest ≡ Some k → P) → (if b == c then Some this else rest) ≡ Some k → P
-either b c this k rest P here behind e = by (nat_eq b c) refl e where
+either b c this k rest P here following e = by (nat_eq b c) refl e where
   by : (t : Bool) → nat_eq b c ≡ t → (if t then Some this else rest) ≡ Some k → P
   by true same e = here (grind (arith, nat_tests)) (cc)
-  by false same e = behind e
+  by false same e = following e
 
 pub sign_in_front : (b : ℕ) (bs : List ℕ) (k : TokenKind) → sign_of b ≡ Some k → front_of (b ∷ bs) ≡ Piece k 1
 sign_in_front b bs k e =

@@ -7,7 +7,7 @@ use Rattle.st_lex.specs.declared.token.LexFault.{LexFault}
 use Rattle.st_lex.specs.declared.token.Lexed.{Lexed}
 use Rattle.st_lex.specs.declared.token.Front.{Front}
 use Rattle.st_lex.specs.declared.token.Front.TheVariants.{Gap, Piece, Broken}
-use Rattle.st_lex.specs.Quoted.{fault_after}
+use Rattle.st_lex.specs.Quoted.{shifted_fault}
 use Rattle.st_lex.specs.Tokens.{front_of, line_after, with_token, tokens_from}
 
 -- skipped bytes only increase the offset
@@ -22,7 +22,7 @@ tokens_from-skip (suc k) at line (b ∷ bs) h =
 unfoldable pub by_front : ℕ → ℕ → List ℕ → Front → Lexed
 by_front at line bs (Gap k) = tokens_from (k - 1) (at + 1) line bs
 by_front at line bs (Piece kind k) = with_token (record { kind = kind; at = at; len = k; line = line }) (tokens_from (k - 1) (at + 1) (line_after kind line) bs)
-by_front at line bs (Broken fault) = record { tokens = []; fault = Some (fault_after at fault) }
+by_front at line bs (Broken fault) = record { tokens = []; fault = Some (shifted_fault at fault) }
 
 pub tokens_from-front : (at line b : ℕ) (bs : List ℕ) → tokens_from 0 at line (b ∷ bs) ≡ by_front at line bs (front_of (b ∷ bs))
 unfolding by_front
@@ -44,7 +44,7 @@ unfolding by_front
 tokens_from-piece kind k at line b bs e p h =
     tokens_from-front at line b bs ∙ ap (by_front at line bs) (sym e) ∙ ap (with_token (record { kind = kind; at = at; len = k; line = line })) (skip_front k at (line_after kind line) b bs p h)
 
-pub tokens_from-broken : (fault : LexFault) (at line b : ℕ) (bs : List ℕ) → Broken fault ≡ front_of (b ∷ bs) → tokens_from 0 at line (b ∷ bs) ≡ record { tokens = []; fault = Some (fault_after at fault) }
+pub tokens_from-broken : (fault : LexFault) (at line b : ℕ) (bs : List ℕ) → Broken fault ≡ front_of (b ∷ bs) → tokens_from 0 at line (b ∷ bs) ≡ record { tokens = []; fault = Some (shifted_fault at fault) }
 unfolding by_front
 tokens_from-broken fault at line b bs e = tokens_from-front at line b bs ∙ ap (by_front at line bs) (sym e)
 
@@ -59,8 +59,8 @@ text_after text at = take (length text - (at + 1)) (drop (at + 1) text)
 parted : (text : List ℕ) (at : ℕ) → at < length text → drop at text ≡ get_or text at 0 ∷ text_after text at
 parted text at h = drop_more text at 0 h ∙ ap (λ (xs : List ℕ). get_or text at 0 ∷ xs) (sym (take_rest text (at + 1)))
 
-pub length-behind : (text : List ℕ) (at : ℕ) → at < length text → at + (length (text_after text at) + 1) ≡ length text
-length-behind text at h =
+pub length-following : (text : List ℕ) (at : ℕ) → at < length text → at + (length (text_after text at) + 1) ≡ length text
+length-following text at h =
     let e : length (text_after text at) ≡ length text - (at + 1) = ap length (take_rest text (at + 1)) ∙ length-drop (at + 1) text in
     omega arith
 

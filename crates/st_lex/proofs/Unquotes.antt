@@ -6,7 +6,7 @@ use Rattle.std.proofs.lemmas.Bool.Decides.{nat_tests}
 use Rattle.st_lex.specs.declared.unquoted.Dollars.{Dollars}
 use Rattle.st_lex.specs.Quote.{hex_digit, escaped_byte, quoted_byte, quoted_bytes, quoted, AreBytes}
 use Rattle.st_lex.specs.Text.{inside}
-use Rattle.st_lex.specs.Unquote.{Named, Spelling, hex_byte, escape_or_backslash, plain_front, named_front, dollar_names, unquoted_from, unquoted, unquoted_plain}
+use Rattle.st_lex.specs.Unquote.{Named, Spelling, byte_of_hex, escape_or_backslash, plain_front, named_front, dollar_names, unquoted_from, unquoted, unquoted_plain}
 use Rattle.st_lex.proofs.Fronts.{take_front, drop_front}
 
 -- bytes that belong to the previous front are skipped
@@ -65,14 +65,14 @@ byte_of-digits m n h l =
     let u : nat_lt n 16 ≡ true = grind (arith, nat_tests) in
     rw (t, u) refl
 
-hex_byte-values : (x y m n : ℕ) → digit_value x ≡ m → digit_value y ≡ n → hex_byte x y ≡ byte_of m n
+hex_byte-values : (x y m n : ℕ) → digit_value x ≡ m → digit_value y ≡ n → byte_of_hex x y ≡ byte_of m n
 unfolding byte_of
 hex_byte-values x y m n e f = ap (λ (a : ℕ). byte_of a (digit_value y)) e ∙ ap (byte_of m) f
 
-pub hex_byte-some : (x y : ℕ) → digit_value x < 16 → digit_value y < 16 → hex_byte x y ≡ Some (digit_value x * 16 + digit_value y)
+pub hex_byte-some : (x y : ℕ) → digit_value x < 16 → digit_value y < 16 → byte_of_hex x y ≡ Some (digit_value x * 16 + digit_value y)
 hex_byte-some x y h l = hex_byte-values x y (digit_value x) (digit_value y) refl refl ∙ byte_of-digits (digit_value x) (digit_value y) h l
 
-hex_byte-digits : (m n : ℕ) → m < 16 → n < 16 → hex_byte (hex_digit m) (hex_digit n) ≡ Some (m * 16 + n)
+hex_byte-digits : (m n : ℕ) → m < 16 → n < 16 → byte_of_hex (hex_digit m) (hex_digit n) ≡ Some (m * 16 + n)
 hex_byte-digits m n h l = hex_byte-values (hex_digit m) (hex_digit n) m n (digit m h) (digit n l) ∙ byte_of-digits m n h l
 
 spells_escaped : (names : List Named) (b : ℕ) → AreApart names → b < 256 → Spells names (escaped_byte b) b
@@ -80,7 +80,7 @@ spells_escaped names b apart h =
     let high : ℕ = hex_digit (b / 16) in
     let low : ℕ = hex_digit (b % 16) in
     let whole : b / 16 * 16 + b % 16 ≡ b = omega arith in
-    let byte : hex_byte high low ≡ Some b = hex_byte-digits (b / 16) (b % 16) (omega arith) (omega arith) ∙ ap (λ (n : ℕ). Some n) whole in
+    let byte : byte_of_hex high low ≡ Some b = hex_byte-digits (b / 16) (b % 16) (omega arith) (omega arith) ∙ ap (λ (n : ℕ). Some n) whole in
     record {
       first = λ rest. apart 92 (120 ∷ high ∷ low ∷ rest) (λ e. absurd (omega arith)) ∙ ap escape_or_backslash byte;
       some = omega arith;

@@ -8,8 +8,8 @@ use Rattle.st_lex.specs.declared.token.Front.{Front}
 use Rattle.st_lex.specs.declared.token.Front.TheVariants.{Gap, Piece, Broken}
 use Rattle.st_lex.specs.declared.token.TokenKind.{TokenKind}
 use Rattle.st_lex.specs.declared.token.TokenKind.TheVariants.{Word, NotEqual}
-use Rattle.st_lex.specs.Quoted.{closing_len, count_after, inner_fault, optional_fault_after, fault_after, place_of}
-use Rattle.st_lex.specs.Tokens.{LiesWithin, front_of, is_blank, is_word_byte, is_no_newline, sign_of, sign_front, quoted_front, not_equal_front}
+use Rattle.st_lex.specs.Quoted.{closing_len, count_after, inner_fault, optional_fault_after, shifted_fault, place_of}
+use Rattle.st_lex.specs.Tokens.{IsFrontWithin, front_of, is_blank, is_word_byte, is_no_newline, sign_of, sign_front, quoted_front, not_equal_front}
 
 -- a property of both values is a property of the chosen value
 chosen : {A : Type 0} (P : A → Type 0) (b : Bool) (x y : A) → P x → P y → P (cond b x y)
@@ -39,7 +39,7 @@ abbrev pub FaultWithin : ℕ → Option LexFault → Type 0
 FaultWithin n None = Unit {0}
 FaultWithin n (Some fault) = place_of fault < n
 
-pub place_of-moved : (k : ℕ) (fault : LexFault) → place_of (fault_after k fault) ≡ k + place_of fault
+pub place_of-moved : (k : ℕ) (fault : LexFault) → place_of (shifted_fault k fault) ≡ k + place_of fault
 place_of-moved k (BadByte n) = refl
 place_of-moved k (OpenQuote n) = refl
 place_of-moved k (BadEscape n) = refl
@@ -60,26 +60,26 @@ inner_fault-within (b ∷ c ∷ cs) =
     let escape : P (Some (BadEscape 0)) = omega arith in
     chosen P (nat_eq b 34) None _ tt (chosen P (nat_eq b 0) (Some (BadByte 0)) _ first (chosen P (nat_eq b 92) _ _ (chosen P (nat_eq c 0) (Some (BadByte 1)) _ second (chosen P _ (Some (BadEscape 0)) _ escape pair)) plain))
 
-pub quoted_front-within : (n : ℕ) (o : Option ℕ) (f : Option LexFault) → CountWithin n o → FaultWithin n f → LiesWithin (n + 1) (quoted_front o f)
+pub quoted_front-within : (n : ℕ) (o : Option ℕ) (f : Option LexFault) → CountWithin n o → FaultWithin n f → IsFrontWithin (n + 1) (quoted_front o f)
 quoted_front-within n None f h g = omega arith
 quoted_front-within n (Some k) None h g = (omega arith, omega arith)
 quoted_front-within n (Some k) (Some fault) h g = omega (arith, place_of-moved 1 fault)
 
-sign_front-within : (n : ℕ) (o : Option TokenKind) → LiesWithin (n + 1) (sign_front o)
+sign_front-within : (n : ℕ) (o : Option TokenKind) → IsFrontWithin (n + 1) (sign_front o)
 sign_front-within n None = omega arith
 sign_front-within n (Some kind) = (omega arith, omega arith)
 
-not_equal_front-within : (bs : List ℕ) → LiesWithin (length bs + 1) (not_equal_front bs)
+not_equal_front-within : (bs : List ℕ) → IsFrontWithin (length bs + 1) (not_equal_front bs)
 not_equal_front-within [] = omega arith
 not_equal_front-within (b ∷ bs) =
-    let P : Front → Type 0 = LiesWithin (length (b ∷ bs) + 1) in
+    let P : Front → Type 0 = IsFrontWithin (length (b ∷ bs) + 1) in
     let two : P (Piece NotEqual 2) = (omega arith, omega arith) in
     let bad : P (Broken (BadByte 0)) = omega arith in
     chosen P (nat_eq b 61) _ _ two bad
 
-pub front_of-within : (b : ℕ) (bs : List ℕ) → LiesWithin (length bs + 1) (front_of (b ∷ bs))
+pub front_of-within : (b : ℕ) (bs : List ℕ) → IsFrontWithin (length bs + 1) (front_of (b ∷ bs))
 front_of-within b bs =
-    let P : Front → Type 0 = LiesWithin (length bs + 1) in
+    let P : Front → Type 0 = IsFrontWithin (length bs + 1) in
     let blank : P (Gap 1) = (omega arith, omega arith) in
     let comment : P (Gap (1 + prefix_len is_no_newline bs)) = (omega arith, omega (arith, prefix_len-le-length is_no_newline bs)) in
     let word : P (Piece Word (1 + prefix_len is_word_byte bs)) = (omega arith, omega (arith, prefix_len-le-length is_word_byte bs)) in

@@ -57,18 +57,18 @@ is_word_text [] = false
 is_word_text (b ∷ bs) = list_all is_word_byte (b ∷ bs)
 
 -- the first piece isn't a Word
-abbrev pub StandApart : List Piece → Type 0
-StandApart [] = Unit {0}
-StandApart (PlainWord bytes ∷ pieces) = ⊥
-StandApart (_ ∷ pieces) = Unit {0}
+abbrev pub BeginsWithoutWord : List Piece → Type 0
+BeginsWithoutWord [] = Unit {0}
+BeginsWithoutWord (PlainWord bytes ∷ pieces) = ⊥
+BeginsWithoutWord (_ ∷ pieces) = Unit {0}
 
 -- each piece can be read back, and no Word directly follows a Word
-abbrev pub StandWell : List Piece → Type 0
-StandWell [] = Unit {0}
-StandWell (PlainWord bytes ∷ pieces) = (is_word_text bytes ≡ true) × StandApart pieces × StandWell pieces
-StandWell (QuotedText bytes ∷ pieces) = AreBytes bytes × StandWell pieces
-StandWell (Sign kind ∷ pieces) = (is_sign kind ≡ true) × StandWell pieces
-StandWell (Space ∷ pieces) = StandWell pieces
+abbrev pub CanBeReadBack : List Piece → Type 0
+CanBeReadBack [] = Unit {0}
+CanBeReadBack (PlainWord bytes ∷ pieces) = (is_word_text bytes ≡ true) × BeginsWithoutWord pieces × CanBeReadBack pieces
+CanBeReadBack (QuotedText bytes ∷ pieces) = AreBytes bytes × CanBeReadBack pieces
+CanBeReadBack (Sign kind ∷ pieces) = (is_sign kind ≡ true) × CanBeReadBack pieces
+CanBeReadBack (Space ∷ pieces) = CanBeReadBack pieces
 
 -- a token's kind and its bytes
 pub record SpelledToken : Type 0 where

@@ -36,10 +36,10 @@ abbrev pub is_inner_byte : ℕ → Bool
 is_inner_byte b = not ((b == 0) || (b == newline) || (b == quote_mark) || (b == backslash))
 
 -- a fault with its offset increased by some bytes
-abbrev pub fault_after : ℕ → LexFault → LexFault
-fault_after k (BadByte at) = BadByte (k + at)
-fault_after k (OpenQuote at) = OpenQuote (k + at)
-fault_after k (BadEscape at) = BadEscape (k + at)
+abbrev pub shifted_fault : ℕ → LexFault → LexFault
+shifted_fault k (BadByte at) = BadByte (k + at)
+shifted_fault k (OpenQuote at) = OpenQuote (k + at)
+shifted_fault k (BadEscape at) = BadEscape (k + at)
 
 -- the offset of a fault
 abbrev pub place_of : LexFault → ℕ
@@ -50,7 +50,7 @@ place_of (BadEscape at) = at
 -- a fault, if there is one, with its offset increased by some bytes
 abbrev pub optional_fault_after : ℕ → Option LexFault → Option LexFault
 optional_fault_after k None = None
-optional_fault_after k (Some fault) = Some (fault_after k fault)
+optional_fault_after k (Some fault) = Some (shifted_fault k fault)
 
 -- whether the bytes after `\x` begin with two hexadecimal digits that spell a byte other than zero
 abbrev pub is_byte_escape : List ℕ → Bool

@@ -31,10 +31,10 @@ has_token (token ∷ tokens) = true
 abbrev pub rows : List Token → List (List Token)
 rows tokens = filter has_token (lines tokens)
 
--- `row` is the first row of the tokens, and `behind` are the tokens after its line
-pub record IsNextRow (tokens row behind : List Token) : Type 0 where
-  pub first : rows tokens ≡ row ∷ rows behind
+-- `row` is the first row of the tokens, and `following` are the tokens after its line
+pub record IsNextRow (tokens row following : List Token) : Type 0 where
+  pub first : rows tokens ≡ row ∷ rows following
   pub has_token : has_token row ≡ true
   pub one_line : All (λ token. ends_line token ≡ false) row
-  pub parts : (blank : ℕ) × (row ≡ take (length row) (drop blank tokens)) × (behind ≡ drop (blank + length row + 1) tokens)
-  pub shorter : length behind < length tokens
+  pub parts : (blank : ℕ) × (row ≡ take (length row) (drop blank tokens)) × (following ≡ drop (blank + length row + 1) tokens)
+  pub shorter : length following < length tokens

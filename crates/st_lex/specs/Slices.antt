@@ -34,11 +34,11 @@ pub record IsTokenOf (text : List ℕ) (token : Token) : Type 0 where
   pub between_quotes : token.kind ≡ Quoted → IsBetweenQuotes text token
 
 -- each token begins at or after the end of the previous token
-abbrev pub StandInOrder : ℕ → List Token → Type 0
-StandInOrder end [] = Unit {0}
-StandInOrder end (token ∷ tokens) = (end ≤ token.at) × StandInOrder (token.at + token.len) tokens
+abbrev pub AreTokensInOrder : ℕ → List Token → Type 0
+AreTokensInOrder end [] = Unit {0}
+AreTokensInOrder end (token ∷ tokens) = (end ≤ token.at) × AreTokensInOrder (token.at + token.len) tokens
 
 -- the tokens are slices of the text, in its order
 pub record AreSlices (text : List ℕ) (tokens : List Token) : Type 0 where
   pub each : All (IsTokenOf text) tokens
-  pub in_order : StandInOrder 0 tokens
+  pub in_order : AreTokensInOrder 0 tokens

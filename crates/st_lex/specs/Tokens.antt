@@ -10,7 +10,7 @@ use Rattle.st_lex.specs.declared.token.LexFault.TheVariants.{BadByte, OpenQuote}
 use Rattle.st_lex.specs.declared.token.Lexed.{Lexed}
 use Rattle.st_lex.specs.declared.token.Front.{Front}
 use Rattle.st_lex.specs.declared.token.Front.TheVariants.{Gap, Piece, Broken}
-use Rattle.st_lex.specs.Quoted.{newline, quote_mark, closing_len, inner_fault, fault_after, place_of}
+use Rattle.st_lex.specs.Quoted.{newline, quote_mark, closing_len, inner_fault, shifted_fault, place_of}
 
 -- whether a byte is a space, a tab or a carriage return
 abbrev pub is_blank : ℕ → Bool
@@ -53,7 +53,7 @@ not_equal_front (b ∷ bs) = if b == 61 then Piece NotEqual 2 else Broken (BadBy
 abbrev pub quoted_front : Option ℕ → Option LexFault → Front
 quoted_front None inside = Broken (OpenQuote 0)
 quoted_front (Some n) None = Piece Quoted (1 + n)
-quoted_front (Some n) (Some fault) = Broken (fault_after 1 fault)
+quoted_front (Some n) (Some fault) = Broken (shifted_fault 1 fault)
 
 -- what is at the front of a text that isn't empty: a gap, a token or a fault
 abbrev pub front_of : List ℕ → Front
@@ -67,10 +67,10 @@ front_of (b ∷ bs) =
     else sign_front (sign_of b)))))
 
 -- a gap or a token has at least one byte and at most the `n` bytes of the text; a fault's offset is within the text
-abbrev pub LiesWithin : ℕ → Front → Type 0
-LiesWithin n (Gap k) = (0 < k) × (k ≤ n)
-LiesWithin n (Piece kind k) = (0 < k) × (k ≤ n)
-LiesWithin n (Broken fault) = place_of fault < n
+abbrev pub IsFrontWithin : ℕ → Front → Type 0
+IsFrontWithin n (Gap k) = (0 < k) × (k ≤ n)
+IsFrontWithin n (Piece kind k) = (0 < k) × (k ≤ n)
+IsFrontWithin n (Broken fault) = place_of fault < n
 
 -- the line of the bytes after a token of this kind on this line
 abbrev pub line_after : TokenKind → ℕ → ℕ
@@ -89,7 +89,7 @@ tokens_from zero at line (b ∷ bs) =
     elim (front_of (b ∷ bs)) [
       | Gap k ↦ tokens_from (k - 1) (at + 1) line bs
       | Piece kind k ↦ with_token (record { kind = kind; at = at; len = k; line = line }) (tokens_from (k - 1) (at + 1) (line_after kind line) bs)
-      | Broken fault ↦ record { tokens = []; fault = Some (fault_after at fault) }
+      | Broken fault ↦ record { tokens = []; fault = Some (shifted_fault at fault) }
     ]
 
 -- the tokens of a text up to its first fault, and that fault
@@ -97,7 +97,7 @@ abbrev pub lexed_text : List ℕ → Lexed
 lexed_text text = tokens_from 0 0 1 text
 
 -- the result of reading the next token, by the tokens that remain before and after it
-abbrev pub IsNext : Result (Option Token) LexFault → Lexed → Lexed → Type 0
-IsNext (Ok (Some token)) old new = old ≡ with_token token new
-IsNext (Ok None) old new = (old ≡ record { tokens = []; fault = None }) × (new ≡ old)
-IsNext (Err fault) old new = (old ≡ record { tokens = []; fault = Some fault }) × (new ≡ old)
+abbrev pub IsNextToken : Result (Option Token) LexFault → Lexed → Lexed → Type 0
+IsNextToken (Ok (Some token)) old new = old ≡ with_token token new
+IsNextToken (Ok None) old new = (old ≡ record { tokens = []; fault = None }) × (new ≡ old)
+IsNextToken (Err fault) old new = (old ≡ record { tokens = []; fault = Some fault }) × (new ≡ old)

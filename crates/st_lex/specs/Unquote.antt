@@ -25,8 +25,8 @@ pub record Spelling : Type 0 where
   pub len : ℕ
 
 -- the byte that two hexadecimal digits of either case spell
-abbrev pub hex_byte : ℕ → ℕ → Option ℕ
-hex_byte high low = if is_digit high 16 && is_digit low 16 then Some (digit_value high * 16 + digit_value low) else None
+abbrev pub byte_of_hex : ℕ → ℕ → Option ℕ
+byte_of_hex high low = if is_digit high 16 && is_digit low 16 then Some (digit_value high * 16 + digit_value low) else None
 
 -- the byte of an escape of four bytes, or a backslash if it begins no escape
 abbrev pub escape_or_backslash : Option ℕ → Spelling
@@ -37,7 +37,7 @@ escape_or_backslash (Some b) = record { text = b ∷ []; len = 4 }
 abbrev pub byte_escape : List ℕ → Spelling
 byte_escape [] = escape_or_backslash None
 byte_escape (high ∷ []) = escape_or_backslash None
-byte_escape (high ∷ low ∷ rest) = escape_or_backslash (hex_byte high low)
+byte_escape (high ∷ low ∷ rest) = escape_or_backslash (byte_of_hex high low)
 
 -- a backslash, by the bytes after it: `\"` is a quote, `\\` a backslash
 abbrev pub escape : List ℕ → Spelling

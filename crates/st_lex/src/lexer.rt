@@ -1,9 +1,9 @@
 ghost use Rattle.std.specs.Prelude.{◌≡◌, ◌+◌, ◌<◌, ◌≤◌, ◌∷◌, ◌^◌, ℕ, List, length, IfOk, IfSome};
 ghost use Rattle.std.specs.List.{prefix_len, list_all};
-ghost use Rattle.st_lex.specs.Pieces.{Piece, StandWell, IsReadAs, print, piece_tokens, is_word_text};
+ghost use Rattle.st_lex.specs.Pieces.{Piece, CanBeReadBack, IsReadAs, print, piece_tokens, is_word_text};
 ghost use Rattle.st_lex.specs.Slices.{AreSlices};
-ghost use Rattle.st_lex.specs.Tokens.{is_blank, is_word_byte, is_no_newline, sign_of, quoted_front, front_of, lexed_text, line_after, IsNext, LiesWithin};
-ghost use Rattle.st_lex.specs.Quoted.{closing_len, inner_fault, is_inner_byte, is_byte_escape, fault_after, place_of};
+ghost use Rattle.st_lex.specs.Tokens.{is_blank, is_word_byte, is_no_newline, sign_of, quoted_front, front_of, lexed_text, line_after, IsNextToken, IsFrontWithin};
+ghost use Rattle.st_lex.specs.Quoted.{closing_len, inner_fault, is_inner_byte, is_byte_escape, shifted_fault, place_of};
 
 use crate::token::{Front, LexFault, Lexed, Token, TokenKind};
 use st_base::Sequence;
@@ -132,7 +132,7 @@ fn inner_fault(bytes: &[u8]) -> Option<LexFault>
 // The fault with its offset increased by this many bytes.
 fn fault_after(by: u32, fault: LexFault) -> LexFault
     requires { by + place_of fault < 2 ^ 32 }
-    ensures { result ≡ fault_after by fault }
+    ensures { result ≡ shifted_fault by fault }
 {
     match fault {
         LexFault::BadByte(at) => LexFault::BadByte(by + at),
@@ -184,7 +184,7 @@ fn quoted_front(after: &[u8]) -> Front
 fn front(first: u8, after: &[u8]) -> Front
     requires { length after.now + 1 < 2 ^ 32 }
     ensures is { result ≡ front_of (first ∷ after.now) }
-    ensures within { LiesWithin (length after.now + 1) result }
+    ensures within { IsFrontWithin (length after.now + 1) result }
 {
     if let Some(kind) = sign_of(first) {
         return Front::Piece(kind, 1);
@@ -255,7 +255,7 @@ impl<'a> Lexer<'a> {
     /// later call.
     #[inline]
     pub fn next_token(&mut self) -> Result<Option<Token>, LexFault>
-        ensures { IsNext result self.old self.new }
+        ensures { IsNextToken result self.old self.new }
     {
         let mut at = self.at;
         while at < self.text.len() {
@@ -302,7 +302,7 @@ pub fn tokens_are_slices()
     ensures { (text : List ℕ) → AreSlices text (lexed_text text).tokens }
 {}
 
-/// Pieces for which `StandWell` holds, printed one after the other, are lexed without a fault as the tokens that they represent.
+/// Pieces for which `CanBeReadBack` holds, printed one after the other, are lexed without a fault as the tokens that they represent.
 pub fn pieces_are_tokens()
-    ensures { (pieces : List Piece) → StandWell pieces → IsReadAs (print pieces) (piece_tokens pieces) }
+    ensures { (pieces : List Piece) → CanBeReadBack pieces → IsReadAs (print pieces) (piece_tokens pieces) }
 {}

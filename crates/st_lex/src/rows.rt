@@ -35,10 +35,10 @@ pub fn next_row<'a>(tokens: &'a [Token]) -> Option<(&'a [Token], &'a [Token])>
         return None;
     }
     let end = row_len(rest);
-    let behind = if end < rest.len() {
+    let following = if end < rest.len() {
         &rest[end + 1..]
     } else {
         &[]
     };
-    Some((&rest[..end], behind))
+    Some((&rest[..end], following))
 }

@@ -2,7 +2,7 @@ ghost use Rattle.std.specs.Prelude.{◌≡◌, ◌<◌, ◌≤◌, ◌∷◌, �
 ghost use Rattle.std.specs.List.{prefix_len};
 ghost use Rattle.st_lex.specs.Text.{inside};
 ghost use Rattle.st_lex.specs.Quote.{quoted, AreBytes};
-ghost use Rattle.st_lex.specs.Unquote.{hex_byte, is_plain_byte, plain_front, named_front, dollar_names, names_in, unquoted_from, unquoted, unquoted_plain};
+ghost use Rattle.st_lex.specs.Unquote.{byte_of_hex, is_plain_byte, plain_front, named_front, dollar_names, names_in, unquoted_from, unquoted, unquoted_plain};
 ghost use Rattle.st_lex.specs.declared.unquoted.Dollars.{Dollars};
 
 use st_base::Text;
@@ -18,7 +18,7 @@ pub struct Dollars {
 
 // The byte that two hexadecimal digits spell.
 fn hex_byte(high: u8, low: u8) -> Option<u8>
-    ensures { result ≡ hex_byte high low }
+    ensures { result ≡ byte_of_hex high low }
 {
     let high = char::from(high).to_digit(16)?;
     let low = char::from(low).to_digit(16)?;

@@ -14,15 +14,15 @@ use Rattle.st_model.specs.Walk as model
 use Rattle.st_model.specs.Walk.{WalkState, start_walk}
 use Rattle.st_names.specs.Name.{Components}
 use Rattle.st_names.specs.declared.seen.SeenText.{SeenText}
-use Rattle.st_resolve.specs.Walk.{Walk, step_of, walk_from}
+use Rattle.st_resolve.specs.Walk.{Walk, walk_step, walk_from}
 use Rattle.st_resolve.specs.declared.walk.WalkStep.{WalkStep}
 use Rattle.st_resolve.specs.declared.walk.WalkStep.TheVariants as step
 use Rattle.st_translate.specs.Copied as translate
-use Rattle.st_translate.specs.Copied.{Copied, spelled}
+use Rattle.st_translate.specs.Copied.{Copied, spelled_words}
 
 -- ---- a text needs no word
 
-walk_needs : (spec : ArgSpec) (w : WalkState) → need_of (progress_of_walk 0 spec w (Ready [])) ≡ need_of_walk (step_of w)
+walk_needs : (spec : ArgSpec) (w : WalkState) → need_of (progress_of_walk 0 spec w (Ready [])) ≡ need_of_walk (walk_step w)
 walk_needs spec (model.Next name) = refl
 walk_needs spec (model.Fault errno) = refl
 walk_needs spec (model.Name name) = refl
@@ -34,7 +34,7 @@ step_no_word (step.Fault errno) is = is
 
 text_no_word : (k : PartKind) (spec : ArgSpec) (cwd : Components) (follow : Bool) (lookups : List SeenText) (text : List ℕ) → IsWord (need_of (progress_of_text k 0 spec cwd follow lookups text (Ready []))) → ⊥
 text_no_word kind.Name spec cwd follow lookups text is =
-    step_no_word (step_of (start_walk text cwd follow lookups)) (subst IsWord (walk_needs spec (start_walk text cwd follow lookups)) is)
+    step_no_word (walk_step (start_walk text cwd follow lookups)) (subst IsWord (walk_needs spec (start_walk text cwd follow lookups)) is)
 text_no_word kind.Plain spec cwd follow lookups text is = is
 text_no_word kind.Addr spec cwd follow lookups text is = is
 text_no_word kind.Argv spec cwd follow lookups text is = is
@@ -72,7 +72,7 @@ pub name_progress : (asked : ArgRequest) (spec : ArgSpec) (words : List ℕ) (lo
 name_progress asked spec words lookups text is done = name_by spec.kind asked spec lookups (spelled_of asked spec words) text is done refl
 
 pub name_need : (asked : ArgRequest) (spec : ArgSpec) (words : List ℕ) (lookups : List SeenText) (text : List ℕ) → spec.kind ≡ kind.Name → spelled_of asked spec words ≡ spelling.Text text →
-    need_of (progress_of_arg asked spec words lookups) ≡ need_of_walk (step_of (start_walk text asked.cwd (is_followed asked spec) lookups))
+    need_of (progress_of_arg asked spec words lookups) ≡ need_of_walk (walk_step (start_walk text asked.cwd (is_followed asked spec) lookups))
 name_need asked spec words lookups text is done =
     ap need_of (name_progress asked spec words lookups text is done) ∙ walk_needs spec (start_walk text asked.cwd (is_followed asked spec) lookups)
 
@@ -111,14 +111,14 @@ walk_more asked spec words lookups after walk new s is goes_on after_is = record
 }
 
 -- what an argument needs, by the last step of its walk
-pub need_by_walk : (asked : ArgRequest) (spec : ArgSpec) (words : List ℕ) (lookups : List SeenText) (walk : Walk) → IsWalk asked spec words lookups walk → need_of (progress_of_arg asked spec words lookups) ≡ need_of_walk (step_of (walk_from walk []))
+pub need_by_walk : (asked : ArgRequest) (spec : ArgSpec) (words : List ℕ) (lookups : List SeenText) (walk : Walk) → IsWalk asked spec words lookups walk → need_of (progress_of_arg asked spec words lookups) ≡ need_of_walk (walk_step (walk_from walk []))
 need_by_walk asked spec words lookups walk is =
     name_need asked spec words lookups is.text is.is_name is.text_is
-    ∙ sym (ap (λ (w : WalkState). need_of_walk (step_of w)) (is.goes_on [] ∙ ap (λ (l : List SeenText). start_walk is.text asked.cwd (is_followed asked spec) l) (append-nil lookups)))
+    ∙ sym (ap (λ (w : WalkState). need_of_walk (walk_step w)) (is.goes_on [] ∙ ap (λ (l : List SeenText). start_walk is.text asked.cwd (is_followed asked spec) l) (append-nil lookups)))
 
 -- the argument after one more look
 pub part_seen : (asked : ArgRequest) (part after : Part) (walk new : Walk) (s : SeenText) → IsPart asked part → part.need ≡ need.Look → part.walk ≡ Some walk →
-    ((more : List SeenText) → walk_from new more ≡ walk_from walk (s ∷ more)) → after.need ≡ need_of_walk (step_of (walk_from new [])) → after.lookups.items ≡ part.lookups.items ++ s ∷ [] →
+    ((more : List SeenText) → walk_from new more ≡ walk_from walk (s ∷ more)) → after.need ≡ need_of_walk (walk_step (walk_from new [])) → after.lookups.items ≡ part.lookups.items ++ s ∷ [] →
     after.spec ≡ part.spec → after.copying ≡ part.copying → after.walk ≡ Some new → IsPart asked after
 part_seen asked part after walk new s is look readied goes_on n_is kept_is same_spec same_copy readied_after =
     let words = words_in part.copying in
@@ -129,7 +129,7 @@ part_seen asked part after walk new s is look readied goes_on n_is kept_is same_
       copied = subst (λ (sp : ArgSpec). IsCopyOf asked sp after.copying) (sym same_spec) (subst (IsCopyOf asked part.spec) (sym same_copy) is.copied);
       need = n_is ∙ sym (need_by_walk asked part.spec words after.lookups.items new more)
           ∙ sym (ap (λ (sp : ArgSpec). need_of (progress_of_arg asked sp (words_in after.copying) after.lookups.items)) same_spec ∙ ap (λ (c : Option Copied). need_of (progress_of_arg asked part.spec (words_in c) after.lookups.items)) same_copy);
-      inside = subst IsInside (sym n_is) (walk_inside (step_of (walk_from new [])));
+      inside = subst IsInside (sym n_is) (walk_inside (walk_step (walk_from new [])));
       seen = subst (λ (sp : ArgSpec). AreAskedLooks asked sp (words_in after.copying) after.lookups.items) (sym same_spec) (subst (λ (c : Option Copied). AreAskedLooks asked part.spec (words_in c) after.lookups.items) (sym same_copy) seen);
       walk = subst (λ (sp : ArgSpec). IsWalkOf asked sp (words_in after.copying) after.lookups.items after.walk) (sym same_spec)
           (subst (λ (c : Option Copied). IsWalkOf asked part.spec (words_in c) after.lookups.items after.walk) (sym same_copy) (subst (λ (w : Option Walk). IsWalkOf asked part.spec words after.lookups.items w) (sym readied_after) more));
@@ -138,12 +138,12 @@ part_seen asked part after walk new s is look readied goes_on n_is kept_is same_
 -- ---- the walk of what was copied
 
 -- what the words of a copy spell
-pub copy_spelled : (asked : ArgRequest) (spec : ArgSpec) (part : Option Copied) (copied : Copied) → part ≡ Some copied → IsCopyOf asked spec part → spelled copied ≡ spelled_of asked spec (words_in part)
+pub copy_spelled : (asked : ArgRequest) (spec : ArgSpec) (part : Option Copied) (copied : Copied) → part ≡ Some copied → IsCopyOf asked spec part → spelled_words copied ≡ spelled_of asked spec (words_in part)
 copy_spelled asked spec part copied is copy =
     let of : IsCopyOf asked spec (Some copied) = subst (IsCopyOf asked spec) is copy in
     ap (λ (k : PartKind). spelling.spell k copied.at copied.words) of.0 ∙ ap (λ (at : ℕ). spelling.spell spec.kind at copied.words) of.1 ∙ ap (spelled_of asked spec) (sym (ap words_in is))
 
-pub walk_first : (asked : ArgRequest) (spec : ArgSpec) (part : Option Copied) (copied : Copied) (lookups : List SeenText) (text : List ℕ) (walk : Walk) → part ≡ Some copied → IsCopyOf asked spec part → spec.kind ≡ kind.Name → spelled copied ≡ spelling.Text text →
+pub walk_first : (asked : ArgRequest) (spec : ArgSpec) (part : Option Copied) (copied : Copied) (lookups : List SeenText) (text : List ℕ) (walk : Walk) → part ≡ Some copied → IsCopyOf asked spec part → spec.kind ≡ kind.Name → spelled_words copied ≡ spelling.Text text →
     ((l : List SeenText) → walk_from walk l ≡ start_walk text asked.cwd (is_followed asked spec) l) → lookups ≡ [] → IsWalk asked spec (words_in part) lookups walk
 walk_first asked spec part copied lookups text walk is copy name done goes_on none = record {
   text = text;
@@ -158,7 +158,7 @@ step_asks step.Name e = cc
 step_asks (step.Fault errno) e = cc
 
 -- the walk needs each look that was answered
-pub walk_asks : (asked : ArgRequest) (spec : ArgSpec) (words : List ℕ) (lookups : List SeenText) (walk : Walk) → IsWalk asked spec words lookups walk → need_of (progress_of_arg asked spec words lookups) ≡ need.Look → step_of (walk_from walk []) ≡ step.More
+pub walk_asks : (asked : ArgRequest) (spec : ArgSpec) (words : List ℕ) (lookups : List SeenText) (walk : Walk) → IsWalk asked spec words lookups walk → need_of (progress_of_arg asked spec words lookups) ≡ need.Look → walk_step (walk_from walk []) ≡ step.More
 walk_asks asked spec words lookups walk is look = step_asks _ (sym (need_by_walk asked spec words lookups walk is) ∙ look)
 
 -- ---- the last word is undone

@@ -11,7 +11,7 @@ use Rattle.std.proofs.lemmas.List.Edits.{get_or-insert_above, get_or-insert_at, 
 use Rattle.std.proofs.lemmas.List.Quantifiers.{all_pairs_remove}
 use Rattle.std.proofs.lemmas.Option.{none-some, same_Some}
 use Rattle.st_lookaside.specs.Slot.{Slot}
-use Rattle.st_lookaside.specs.Slots.{has_number, slot_at, AreAscending, ChangesSlot, IsAt, IsGap, RenewsSlot}
+use Rattle.st_lookaside.specs.Slots.{is_slot_of, slot_at, AreAscending, ChangesSlot, IsSlotAt, IsGap, RenewsSlot}
 
 -- ---- finding in a list
 
@@ -46,10 +46,10 @@ module _ {X : Type 0} (p : X → Bool) where
 
 -- ---- slots with ascending numbers
 
-differs : (slot : Slot) (seq : ℕ) → slot.head.seq ≢ seq → has_number seq slot ≡ false
+differs : (slot : Slot) (seq : ℕ) → slot.head.seq ≢ seq → is_slot_of seq slot ≡ false
 differs slot seq ne = ne_eqb slot.head.seq seq ne
 
-is_it : (slot : Slot) (seq : ℕ) → slot.head.seq ≡ seq → has_number seq slot ≡ true
+is_it : (slot : Slot) (seq : ℕ) → slot.head.seq ≡ seq → is_slot_of seq slot ≡ true
 is_it slot seq e = eq-eqb slot.head.seq seq e
 
 get_at : (slots : List Slot) (i : ℕ) → i < length slots → Slot
@@ -58,22 +58,22 @@ get_at (slot ∷ slots) i within = slot
 
 module _ (slots : List Slot) (ascending : AreAscending slots) (seq i : ℕ) where
   -- the slot at its index is found
-  pub found_at : IsAt slots seq i → (d : Slot) → slot_at slots seq ≡ Some (get_or slots i d)
+  pub found_at : IsSlotAt slots seq i → (d : Slot) → slot_at slots seq ≡ Some (get_or slots i d)
   found_at at d =
-      find_here (has_number seq) slots i d at.within
+      find_here (is_slot_of seq) slots i d at.within
       (λ k lt. differs (get_or slots k d) seq (let less = ascending k i d lt at.within in let here = at.here d in λ e. let same : (get_or slots k d).head.seq ≡ seq = e in omega (arith, less, here, same)))
       (is_it (get_or slots i d) seq (at.here d))
 
   -- no slot is found for a number that has no index
   pub none_at : IsGap slots seq i → slot_at slots seq ≡ None
-  none_at gap = find_none (has_number seq) slots (λ k d within. differs (get_or slots k d) seq (elim (cases_lt k i) [
+  none_at gap = find_none (is_slot_of seq) slots (λ k d within. differs (get_or slots k d) seq (elim (cases_lt k i) [
     | inl lt ↦ (let less = gap.before k d lt in λ e. let same : (get_or slots k d).head.seq ≡ seq = e in omega (arith, less, same))
-    | inr ge ↦ (let more = gap.behind k d ge within in λ e. let same : (get_or slots k d).head.seq ≡ seq = e in omega (arith, more, same))
+    | inr ge ↦ (let more = gap.following k d ge within in λ e. let same : (get_or slots k d).head.seq ≡ seq = e in omega (arith, more, same))
   ]))
 
   -- ---- a slot is changed
 
-  pub ascending_set : IsAt slots seq i → (slot : Slot) → slot.head.seq ≡ seq → AreAscending (set slots i slot)
+  pub ascending_set : IsSlotAt slots seq i → (slot : Slot) → slot.head.seq ≡ seq → AreAscending (set slots i slot)
   ascending_set at slot is a b d lt within =
       let len = length-set slots i slot in
       let key : (k : ℕ) → k < length slots → (get_or (set slots i slot) k d).head.seq ≡ (get_or slots k d).head.seq = λ k inside. elim (cases_eq k i) [
@@ -83,38 +83,38 @@ module _ (slots : List Slot) (ascending : AreAscending slots) (seq i : ℕ) wher
       let less = ascending a b d lt (omega (arith, len, within)) in
       omega (arith, less, key a (omega (arith, lt, len, within)), key b (omega (arith, len, within)))
 
-  set_here : IsAt slots seq i → (slot : Slot) → slot.head.seq ≡ seq → slot_at (set slots i slot) seq ≡ Some slot
+  set_here : IsSlotAt slots seq i → (slot : Slot) → slot.head.seq ≡ seq → slot_at (set slots i slot) seq ≡ Some slot
   set_here at slot is =
       let len = length-set slots i slot in
-      find_here (has_number seq) (set slots i slot) i slot (omega (arith, len, at.within))
-      (λ k lt. ap (has_number seq) (get_or-set_other slots i k slot slot (λ e. let same : k ≡ i = e in omega (arith, same, lt)))
+      find_here (is_slot_of seq) (set slots i slot) i slot (omega (arith, len, at.within))
+      (λ k lt. ap (is_slot_of seq) (get_or-set_other slots i k slot slot (λ e. let same : k ≡ i = e in omega (arith, same, lt)))
       ∙ differs (get_or slots k slot) seq (let less = ascending k i slot lt at.within in let here = at.here slot in λ e. let same : (get_or slots k slot).head.seq ≡ seq = e in omega (arith, less, here, same)))
-      (ap (has_number seq) (get_or-set_same slots i slot slot at.within) ∙ is_it slot seq is)
+      (ap (is_slot_of seq) (get_or-set_same slots i slot slot at.within) ∙ is_it slot seq is)
       ∙ ap (λ (s : Slot). Some s) (get_or-set_same slots i slot slot at.within)
 
-  pub changed_set : IsAt slots seq i → (slot : Slot) → slot.head.seq ≡ seq → ChangesSlot slots seq (Some slot) (set slots i slot)
+  pub changed_set : IsSlotAt slots seq i → (slot : Slot) → slot.head.seq ≡ seq → ChangesSlot slots seq (Some slot) (set slots i slot)
   changed_set at slot is other = elim (cases_eq other seq) [
     | inl e ↦ rw (eq-eqb other seq e) (ap (slot_at (set slots i slot)) e ∙ set_here at slot is)
-    | inr ne ↦ rw (ne_eqb other seq ne) (find_set_other (has_number other) slots i slot slot (differs slot other (λ x. ne (sym x ∙ is))) (differs (get_or slots i slot) other (λ x. ne (sym x ∙ at.here slot))))
+    | inr ne ↦ rw (ne_eqb other seq ne) (find_set_other (is_slot_of other) slots i slot slot (differs slot other (λ x. ne (sym x ∙ is))) (differs (get_or slots i slot) other (λ x. ne (sym x ∙ at.here slot))))
   ]
 
   -- ---- a slot is removed
 
-  remove_none : IsAt slots seq i → slot_at (remove slots i) seq ≡ None
-  remove_none at = find_none (has_number seq) (remove slots i) (λ k d within. elim (cases_lt k i) [
-    | inl lt ↦ ap (has_number seq) (get_or-remove_below slots i d k lt at.within)
+  remove_none : IsSlotAt slots seq i → slot_at (remove slots i) seq ≡ None
+  remove_none at = find_none (is_slot_of seq) (remove slots i) (λ k d within. elim (cases_lt k i) [
+    | inl lt ↦ ap (is_slot_of seq) (get_or-remove_below slots i d k lt at.within)
         ∙ differs (get_or slots k d) seq (let less = ascending k i d lt at.within in let here = at.here d in λ e. let same : (get_or slots k d).head.seq ≡ seq = e in omega (arith, less, here, same))
-    | inr ge ↦ ap (has_number seq) (get_or-remove_above slots i d k ge at.within)
+    | inr ge ↦ ap (is_slot_of seq) (get_or-remove_above slots i d k ge at.within)
         ∙ differs (get_or slots (k + 1) d) seq (let less = ascending i (k + 1) d (omega (arith, ge)) (omega (arith, within, length-remove slots i at.within)) in let here = at.here d in λ e. let same : (get_or slots (k + 1) d).head.seq ≡ seq = e in omega (arith, less, here, same))
   ])
 
-  pub ascending_remove : IsAt slots seq i → AreAscending (remove slots i)
+  pub ascending_remove : IsSlotAt slots seq i → AreAscending (remove slots i)
   ascending_remove at = all_pairs_remove (λ slot later. slot.head.seq < later.head.seq) slots i at.within ascending
 
-  pub changed_remove : IsAt slots seq i → ChangesSlot slots seq None (remove slots i)
+  pub changed_remove : IsSlotAt slots seq i → ChangesSlot slots seq None (remove slots i)
   changed_remove at other = elim (cases_eq other seq) [
     | inl e ↦ rw (eq-eqb other seq e) (ap (slot_at (remove slots i)) e ∙ remove_none at)
-    | inr ne ↦ rw (ne_eqb other seq ne) (let d : Slot = get_at slots i at.within in find_remove_other (has_number other) slots i d at.within (differs (get_or slots i d) other (λ x. ne (sym x ∙ at.here d))))
+    | inr ne ↦ rw (ne_eqb other seq ne) (let d : Slot = get_at slots i at.within in find_remove_other (is_slot_of other) slots i d at.within (differs (get_or slots i d) other (λ x. ne (sym x ∙ at.here d))))
   ]
 
   -- ---- a slot is inserted
@@ -122,16 +122,16 @@ module _ (slots : List Slot) (ascending : AreAscending slots) (seq i : ℕ) wher
   insert_here : IsGap slots seq i → (slot : Slot) → slot.head.seq ≡ seq → slot_at (insert slots i slot) seq ≡ Some slot
   insert_here gap slot is =
       let len = length-insert slots i slot gap.within in
-      find_here (has_number seq) (insert slots i slot) i slot (omega (arith, len, gap.within))
-      (λ k lt. ap (has_number seq) (get_or-insert_below slots i slot slot k lt gap.within)
+      find_here (is_slot_of seq) (insert slots i slot) i slot (omega (arith, len, gap.within))
+      (λ k lt. ap (is_slot_of seq) (get_or-insert_below slots i slot slot k lt gap.within)
       ∙ differs (get_or slots k slot) seq (let less = gap.before k slot lt in λ e. let same : (get_or slots k slot).head.seq ≡ seq = e in omega (arith, less, same)))
-      (ap (has_number seq) (get_or-insert_at slots i slot slot gap.within) ∙ is_it slot seq is)
+      (ap (is_slot_of seq) (get_or-insert_at slots i slot slot gap.within) ∙ is_it slot seq is)
       ∙ ap (λ (s : Slot). Some s) (get_or-insert_at slots i slot slot gap.within)
 
   pub changed_insert : IsGap slots seq i → (slot : Slot) → slot.head.seq ≡ seq → ChangesSlot slots seq (Some slot) (insert slots i slot)
   changed_insert gap slot is other = elim (cases_eq other seq) [
     | inl e ↦ rw (eq-eqb other seq e) (ap (slot_at (insert slots i slot)) e ∙ insert_here gap slot is)
-    | inr ne ↦ rw (ne_eqb other seq ne) (find_insert_other (has_number other) slots i slot (differs slot other (λ x. ne (sym x ∙ is))))
+    | inr ne ↦ rw (ne_eqb other seq ne) (find_insert_other (is_slot_of other) slots i slot (differs slot other (λ x. ne (sym x ∙ is))))
   ]
 
   -- how the number at an index compares, after a slot is inserted
@@ -157,7 +157,7 @@ module _ (slots : List Slot) (ascending : AreAscending slots) (seq i : ℕ) wher
           | inr b_not ↦ (let above : i < b = omega (arith, b_from, b_not) in let b_is = number_above gap slot d b above in elim (cases_lt a i) [
             | inl a_below ↦ (let less = ascending a (b - 1) d (omega (arith, a_below, above)) (omega (arith, len, within, above)) in omega (arith, less, b_is, number_below gap slot d a a_below))
             | inr a_from ↦ elim (cases_eq a i) [
-              | inl a_here ↦ (let less = gap.behind (b - 1) d (omega (arith, above)) (omega (arith, len, within, above)) in omega (arith, less, b_is, number_here gap slot d a is a_here))
+              | inl a_here ↦ (let less = gap.following (b - 1) d (omega (arith, above)) (omega (arith, len, within, above)) in omega (arith, less, b_is, number_here gap slot d a is a_here))
               | inr a_not ↦ (let a_above : i < a = omega (arith, a_from, a_not) in let less = ascending (a - 1) (b - 1) d (omega (arith, lt, a_above)) (omega (arith, len, within, above)) in omega (arith, less, b_is, number_above gap slot d a a_above))
             ]
           ])
@@ -199,7 +199,7 @@ ascending_index slots seq ascending i j d le within = index_rises (get_or slots 
   | inr ge ↦ (let same : i ≡ j = omega (arith, le, ge) in let keys = ap (λ (n : ℕ). (get_or slots n d).head.seq) same in omega (arith, keys))
 ])
 
-pub placed : (slots : List Slot) (seq : ℕ) (r : Result ℕ ℕ) → IsSearchInRange r (length slots) → IsBinarySearchResult (λ slot. nat_cmp slot.head.seq seq) slots r → IfOk r (IsAt slots seq)
+pub placed : (slots : List Slot) (seq : ℕ) (r : Result ℕ ℕ) → IsSearchInRange r (length slots) → IsBinarySearchResult (λ slot. nat_cmp slot.head.seq seq) slots r → IfOk r (IsSlotAt slots seq)
 placed slots seq (Ok i) range at = record {
   within = range;
   here = λ d. order_equal (get_or slots i d).head.seq seq _ _ refl refl (at d);
@@ -213,7 +213,7 @@ missing slots seq (Err i) ascending range at =
     record {
       within = range;
       before = λ k d lt. order_less (get_or slots k d).head.seq seq _ _ refl refl (parts.0 k d (omega arith) lt);
-      behind = λ k d ge within. order_greater (get_or slots k d).head.seq seq _ _ refl refl (parts.1 k d ge within);
+      following = λ k d ge within. order_greater (get_or slots k d).head.seq seq _ _ refl refl (parts.1 k d ge within);
     }
 
 -- ---- slots as a call finds them
@@ -225,8 +225,8 @@ some_if : {X : Type 0} (o : Option X) (x : X) (P : X → Type 0) → o ≡ Some 
 some_if {X = X} o x P is p = subst (λ (o : Option X). IfSome o P) (sym is) p
 
 module _ (slots now same : List Slot) (ascending : AreAscending slots) (view : slots ≡ now) (copied : same ≡ slots) (seq i : ℕ) where
-  at_place : IsAt same seq i → IsAt slots seq i
-  at_place at = subst (λ (l : List Slot). IsAt l seq i) copied at
+  at_place : IsSlotAt same seq i → IsSlotAt slots seq i
+  at_place at = subst (λ (l : List Slot). IsSlotAt l seq i) copied at
 
   -- a number that has a slot isn't missing
   pub gone : IsGap same seq i → IsSome (slot_at now seq) → ⊥
@@ -235,12 +235,12 @@ module _ (slots now same : List Slot) (ascending : AreAscending slots) (view : s
     no_some e is = true≢false (sym (subst IsSome e is))
 
   -- a number that has no slot has no index
-  pub taken : IsAt same seq i → slot_at now seq ≡ None → ⊥
+  pub taken : IsSlotAt same seq i → slot_at now seq ≡ None → ⊥
   taken at none =
       let slot : Slot = get_at slots i (at_place at).within in
       none-some (get_or slots i slot) (sym none ∙ ap (λ (l : List Slot). slot_at l seq) (sym view) ∙ found_at slots ascending seq i (at_place at) slot)
 
-  module _ (at : IsAt same seq i) (slot : Slot) (here : slot ≡ get_or slots i slot) where
+  module _ (at : IsSlotAt same seq i) (slot : Slot) (here : slot ≡ get_or slots i slot) where
     pub found_now : slot_at now seq ≡ Some slot
     found_now = ap (λ (l : List Slot). slot_at l seq) (sym view) ∙ found_at slots ascending seq i (at_place at) slot ∙ ap (λ (s : Slot). Some s) (sym here)
 
@@ -252,8 +252,8 @@ module _ (slots now same : List Slot) (ascending : AreAscending slots) (view : s
     asked_of P p = if_some (slot_at now seq) slot P found_now p
 
     -- what holds of this slot holds of the slot of the number
-    pub told_of : (P : Slot → Type 0) → P slot → IfSome (slot_at now seq) P
-    told_of P p = some_if (slot_at now seq) slot P found_now p
+    pub known_of : (P : Slot → Type 0) → P slot → IfSome (slot_at now seq) P
+    known_of P p = some_if (slot_at now seq) slot P found_now p
 
     pub kept_set : (after : Slot) → after.head.seq ≡ slot.head.seq → AreAscending (set slots i after)
     kept_set after is = ascending_set slots ascending seq i (at_place at) after (is ∙ number_is)
@@ -261,9 +261,9 @@ module _ (slots now same : List Slot) (ascending : AreAscending slots) (view : s
     pub now_changed : (after : Slot) → after.head.seq ≡ slot.head.seq → ChangesSlot now seq (Some after) (set slots i after)
     now_changed after is = subst (λ (l : List Slot). ChangesSlot l seq (Some after) (set slots i after)) view (changed_set slots ascending seq i (at_place at) after (is ∙ number_is))
 
-    pub told_changed : (change : Slot → Slot) (after : Slot) → after ≡ change slot → (change slot).head.seq ≡ slot.head.seq → IfSome (slot_at now seq) (λ s. ChangesSlot now seq (Some (change s)) (set slots i after))
-    told_changed change after is same_number =
-        told_of (λ s. ChangesSlot now seq (Some (change s)) (set slots i after))
+    pub known_changed : (change : Slot → Slot) (after : Slot) → after ≡ change slot → (change slot).head.seq ≡ slot.head.seq → IfSome (slot_at now seq) (λ s. ChangesSlot now seq (Some (change s)) (set slots i after))
+    known_changed change after is same_number =
+        known_of (λ s. ChangesSlot now seq (Some (change s)) (set slots i after))
         (subst (λ (s : Slot). ChangesSlot now seq (Some s) (set slots i after)) is (now_changed after (ap (λ (s : Slot). s.head.seq) is ∙ same_number)))
 
     -- if that is the slot, this slot replaces it
@@ -271,10 +271,10 @@ module _ (slots now same : List Slot) (ascending : AreAscending slots) (view : s
     changed_to stands taken_by after found is same_number =
         subst (λ (s : Slot). ChangesSlot now seq (Some s) (set slots i after)) (is (same_Some slot stands (sym found_now ∙ found))) (now_changed after same_number)
 
-  pub kept_remove : IsAt same seq i → AreAscending (remove slots i)
+  pub kept_remove : IsSlotAt same seq i → AreAscending (remove slots i)
   kept_remove at = ascending_remove slots ascending seq i (at_place at)
 
-  pub now_removed : IsAt same seq i → ChangesSlot now seq None (remove slots i)
+  pub now_removed : IsSlotAt same seq i → ChangesSlot now seq None (remove slots i)
   now_removed at = subst (λ (l : List Slot). ChangesSlot l seq None (remove slots i)) view (changed_remove slots ascending seq i (at_place at))
 
   pub kept_insert : IsGap same seq i → (slot : Slot) → slot.head.seq ≡ seq → AreAscending (insert slots i slot)

@@ -12,10 +12,10 @@ use Rattle.st_calls.specs.declared.argument.ArgText.{ArgText}
 use Rattle.st_calls.specs.declared.argument.PartKind.{PartKind}
 use Rattle.st_calls.specs.declared.argument.PartKind.TheVariants as kind
 use Rattle.st_effects.specs.Progress.{ArgRequest, Progress, Word, Look, Stuck, Ready, progress_from, progress_of_spelling, progress_of_text, progress_of_walk, with_arg}
-use Rattle.st_lookaside.specs.Head.{request_of}
+use Rattle.st_lookaside.specs.Head.{arg_request}
 use Rattle.st_lookaside.specs.Need.{is_finished, need_of, progress_alone, IsWord}
 use Rattle.st_lookaside.specs.Part.{Filled, filled_of, is_followed, progress_of_arg, spelled_of, words_in, IsPart}
-use Rattle.st_lookaside.specs.Slot.{Slot, next_of, part_at, part_next, progress_of, progress_of_parts, IsDue, IsLookNext, IsReady, IsSlot, IsWordNext}
+use Rattle.st_lookaside.specs.Slot.{Slot, next_need, part_at, part_next, slot_progress, progress_of_parts, IsDue, IsLookNext, HasAllArguments, IsSlot, IsWordNext}
 use Rattle.st_lookaside.specs.declared.head.Head.{Head}
 use Rattle.st_lookaside.specs.declared.need.Need.{Need}
 use Rattle.st_lookaside.specs.declared.need.Need.TheVariants as need
@@ -92,10 +92,10 @@ kept_from asked all front (part ∷ parts) e =
     ∙ ap (in_front j (progress_of_part asked part)) rest
 
 -- the progress of a message is that of the arguments that are kept of it
-pub progress_is : (head : Head) (parts : List Part) → map (λ part. part.spec) parts ≡ args_of head.rule → progress_of_parts head (map filled_of parts) ≡ progress_kept 0 (request_of head) parts
+pub progress_is : (head : Head) (parts : List Part) → map (λ part. part.spec) parts ≡ args_of head.rule → progress_of_parts head (map filled_of parts) ≡ progress_kept 0 (arg_request head) parts
 progress_is head parts specs =
-    ap (λ (ss : List ArgSpec). progress_from 0 ss (request_of head) (λ j. (part_at (map filled_of parts) j).words) (λ j. (part_at (map filled_of parts) j).lookups)) (sym specs)
-    ∙ kept_from (request_of head) parts [] parts refl
+    ap (λ (ss : List ArgSpec). progress_from 0 ss (arg_request head) (λ j. (part_at (map filled_of parts) j).words) (λ j. (part_at (map filled_of parts) j).lookups)) (sym specs)
+    ∙ kept_from (arg_request head) parts [] parts refl
 
 -- ---- the first argument that isn't finished
 
@@ -143,11 +143,11 @@ module _ (asked : ArgRequest) (parts : List Part) (are : All (IsPart asked) part
 -- the arguments before it are finished, and it decides the progress of the message
 pub record IsOpenAt (head : Head) (parts : List Part) (j : ℕ) (part : Part) : Type 0 where
   pub within : j < length parts
-  pub is_part : IsPart (request_of head) part
+  pub is_part : IsPart (arg_request head) part
   pub here : part ≡ get_or parts j part
   pub before : (k : ℕ) (d : Part) → k < j → (get_or parts k d).need ≡ need.Nothing
-  pub opened : is_open (progress_of_part (request_of head) part) ≡ true
-  pub progress : progress_of_parts head (map filled_of parts) ≡ in_front j (progress_of_part (request_of head) part) (Ready [])
+  pub opened : is_open (progress_of_part (arg_request head) part) ≡ true
+  pub progress : progress_of_parts head (map filled_of parts) ≡ in_front j (progress_of_part (arg_request head) part) (Ready [])
 
 finished_by : (n : Need) → not (is_finished n) ≡ false → n ≡ need.Nothing
 finished_by (need.Word place) e = cc
@@ -157,7 +157,7 @@ finished_by need.Nothing e = refl
 
 pub open_at : (head : Head) (parts same : List Part) (j : ℕ) (part : Part) → IsSlot head parts → same ≡ parts → Some j ≡ position (λ part. not (is_finished part.need)) same → part ≡ get_or parts j part → IsOpenAt head parts j part
 open_at head parts same j part slot copied first here =
-    let asked = request_of head in
+    let asked = arg_request head in
     let specs = slot.specs in
     let are : All (IsPart asked) parts = slot.parts in
     let found : position (λ part. not (is_finished part.need)) parts ≡ Some j = ap (position (λ (part : Part). not (is_finished part.need))) (sym copied) ∙ sym first in
@@ -181,7 +181,7 @@ next_at j need.Look = next.Look j
 next_at j (need.Fault errno) = next.Fault errno
 next_at j need.Nothing = next.Ready
 
-pub next_in_front : (j : ℕ) (p : Progress) → next_of (in_front j p (Ready [])) ≡ next_at j (need_of p)
+pub next_in_front : (j : ℕ) (p : Progress) → next_need (in_front j p (Ready [])) ≡ next_at j (need_of p)
 next_in_front j (Word part place) = refl
 next_in_front j (Look part name) = refl
 next_in_front j (Stuck errno) = refl
@@ -210,29 +210,29 @@ due_in_front j (Ready []) is = absurd is
 due_in_front j (Ready (arg ∷ args)) is = absurd is
 
 module _ (head : Head) (parts : List Part) (j : ℕ) (part : Part) (at : IsOpenAt head parts j part) where
-  pub next_is : next_at j part.need ≡ next_of (progress_of_parts head (map filled_of parts))
-  next_is = ap (next_at j) at.is_part.need ∙ sym (ap next_of at.progress ∙ next_in_front j (progress_of_part (request_of head) part))
+  pub next_is : next_at j part.need ≡ next_need (progress_of_parts head (map filled_of parts))
+  next_is = ap (next_at j) at.is_part.need ∙ sym (ap next_need at.progress ∙ next_in_front j (progress_of_part (arg_request head) part))
 
   pub word_due : IsWordNext (progress_of_parts head (map filled_of parts)) → IsWord part.need × (part_next (progress_of_parts head (map filled_of parts)) ≡ j)
   word_due is =
-      let due = word_in_front j (progress_of_part (request_of head) part) (subst IsWordNext at.progress is) in
+      let due = word_in_front j (progress_of_part (arg_request head) part) (subst IsWordNext at.progress is) in
       (subst IsWord (sym at.is_part.need) due.0, ap part_next at.progress ∙ due.1)
 
   pub look_due : IsLookNext (progress_of_parts head (map filled_of parts)) → (part.need ≡ need.Look) × (part_next (progress_of_parts head (map filled_of parts)) ≡ j)
   look_due is =
-      let due = look_in_front j (progress_of_part (request_of head) part) (subst IsLookNext at.progress is) in
+      let due = look_in_front j (progress_of_part (arg_request head) part) (subst IsLookNext at.progress is) in
       (at.is_part.need ∙ due.0, ap part_next at.progress ∙ due.1)
 
   pub due_place : IsDue (progress_of_parts head (map filled_of parts)) → part_next (progress_of_parts head (map filled_of parts)) ≡ j
-  due_place is = ap part_next at.progress ∙ due_in_front j (progress_of_part (request_of head) part) (subst IsDue at.progress is)
+  due_place is = ap part_next at.progress ∙ due_in_front j (progress_of_part (arg_request head) part) (subst IsDue at.progress is)
 
   -- an argument that needs something isn't finished
   pub not_finished : part.need ≡ need.Nothing → ⊥
   not_finished is = true≢false (sym at.opened ∙ ap (λ (n : Need). not (is_finished n)) (sym at.is_part.need ∙ is))
 
-  pub not_ready : IsReady (progress_of_parts head (map filled_of parts)) → ⊥
-  not_ready is = ready_open _ (subst IsReady at.progress is) (open_in_front j (progress_of_part (request_of head) part) (Ready []) at.opened) where
-    ready_open : (p : Progress) → IsReady p → is_open p ≡ true → ⊥
+  pub not_ready : HasAllArguments (progress_of_parts head (map filled_of parts)) → ⊥
+  not_ready is = ready_open _ (subst HasAllArguments at.progress is) (open_in_front j (progress_of_part (arg_request head) part) (Ready []) at.opened) where
+    ready_open : (p : Progress) → HasAllArguments p → is_open p ≡ true → ⊥
     ready_open (Word part place) is e = is
     ready_open (Look part name) is e = is
     ready_open (Stuck errno) is e = is
@@ -256,7 +256,7 @@ none_open asked (part ∷ parts) j d are = none_in_front j (progress_of_part ask
 
 -- nothing is needed and there is no fault
 pub record IsAllThere (p : Progress) : Type 0 where
-  pub ready : next.Ready ≡ next_of p
+  pub ready : next.Ready ≡ next_need p
   pub no_word : IsWordNext p → ⊥
   pub no_look : IsLookNext p → ⊥
   pub not_due : IsDue p → ⊥
@@ -276,15 +276,15 @@ none_passes test parts k d none within =
     fails_before_first test parts k d (let all = none_by _ (position_or_len test parts) (length parts) refl none in omega (arith, all, within))
 
 -- if no argument is open, the message is ready
-finished_all : (head : Head) (parts : List Part) → map (λ part. part.spec) parts ≡ args_of head.rule → All (IsPart (request_of head)) parts → None ≡ position (λ part. not (is_finished part.need)) parts → IsAllThere (progress_of_parts head (map filled_of parts))
+finished_all : (head : Head) (parts : List Part) → map (λ part. part.spec) parts ≡ args_of head.rule → All (IsPart (arg_request head)) parts → None ≡ position (λ part. not (is_finished part.need)) parts → IsAllThere (progress_of_parts head (map filled_of parts))
 finished_all head [] specs are none = ready_next _ (ap is_open (progress_is head [] specs))
 finished_all head (part ∷ parts) specs are none =
-    ready_next _ (ap is_open (progress_is head (part ∷ parts) specs) ∙ none_open (request_of head) (part ∷ parts) 0 part
-    (λ k lt. sym (kept_open (request_of head) (part ∷ parts) are part k lt) ∙ none_passes (λ part. not (is_finished part.need)) (part ∷ parts) k part (sym none) lt))
+    ready_next _ (ap is_open (progress_is head (part ∷ parts) specs) ∙ none_open (arg_request head) (part ∷ parts) 0 part
+    (λ k lt. sym (kept_open (arg_request head) (part ∷ parts) are part k lt) ∙ none_passes (λ part. not (is_finished part.need)) (part ∷ parts) k part (sym none) lt))
 
-pub all_finished : (head : Head) (parts same : List Part) (now : Slot) → IsSlot head parts → record { head = head; parts = map filled_of parts } ≡ now → same ≡ parts → None ≡ position (λ part. not (is_finished part.need)) same → IsAllThere (progress_of now)
+pub all_finished : (head : Head) (parts same : List Part) (now : Slot) → IsSlot head parts → record { head = head; parts = map filled_of parts } ≡ now → same ≡ parts → None ≡ position (λ part. not (is_finished part.need)) same → IsAllThere (slot_progress now)
 all_finished head parts same now slot view copied none =
-    subst (λ (s : Slot). IsAllThere (progress_of s)) view
+    subst (λ (s : Slot). IsAllThere (slot_progress s)) view
     (finished_all head parts slot.specs slot.parts (none ∙ ap (position (λ (part : Part). not (is_finished part.need))) copied))
 
 -- ---- the arguments of a message that is ready
@@ -308,10 +308,10 @@ kept_args asked [] (arg ∷ args) j are = absurd are
 kept_args asked (part ∷ parts) [] j are = absurd are
 kept_args asked (part ∷ parts) (arg ∷ args) j are = ap (λ (p : Progress). in_front j p (progress_kept (j + 1) asked parts)) are.0 ∙ ap (with_arg arg) (kept_args asked parts args (j + 1) are.1)
 
-pub ready_args : (head : Head) (parts : List Part) (args : List ArgText) → map (λ part. part.spec) parts ≡ args_of head.rule → AreArgs (request_of head) parts args → progress_of_parts head (map filled_of parts) ≡ Ready args
-ready_args head parts args specs are = progress_is head parts specs ∙ kept_args (request_of head) parts args 0 are
+pub ready_args : (head : Head) (parts : List Part) (args : List ArgText) → map (λ part. part.spec) parts ≡ args_of head.rule → AreArgs (arg_request head) parts args → progress_of_parts head (map filled_of parts) ≡ Ready args
+ready_args head parts args specs are = progress_is head parts specs ∙ kept_args (arg_request head) parts args 0 are
 
-both_ready : (j : ℕ) (p rest : Progress) → IsReady (in_front j p rest) → (is_open p ≡ false) × IsReady rest
+both_ready : (j : ℕ) (p rest : Progress) → HasAllArguments (in_front j p rest) → (is_open p ≡ false) × HasAllArguments rest
 both_ready j (Word part place) rest is = absurd is
 both_ready j (Look part name) rest is = absurd is
 both_ready j (Stuck errno) rest is = absurd is
@@ -321,13 +321,13 @@ both_ready j (Ready (arg ∷ args)) (Look part name) is = absurd is
 both_ready j (Ready (arg ∷ args)) (Stuck errno) is = absurd is
 both_ready j (Ready (arg ∷ args)) (Ready more) is = (refl, tt)
 
-each_finished : (asked : ArgRequest) (parts : List Part) (j k : ℕ) (d : Part) → IsReady (progress_kept j asked parts) → k < length parts → is_open (progress_of_part asked (get_or parts k d)) ≡ false
+each_finished : (asked : ArgRequest) (parts : List Part) (j k : ℕ) (d : Part) → HasAllArguments (progress_kept j asked parts) → k < length parts → is_open (progress_of_part asked (get_or parts k d)) ≡ false
 each_finished asked [] j k d is within = absurd (omega arith)
 each_finished asked (part ∷ parts) j zero d is within = (both_ready j (progress_of_part asked part) _ is).0
 each_finished asked (part ∷ parts) j (suc k) d is within = each_finished asked parts (j + 1) k d (both_ready j (progress_of_part asked part) _ is).1 (omega arith)
 
 -- each argument of a message that is ready is finished
-pub ready_finished : (head : Head) (parts : List Part) (k : ℕ) (d : Part) → map (λ part. part.spec) parts ≡ args_of head.rule → All (IsPart (request_of head)) parts → IsReady (progress_of_parts head (map filled_of parts)) → k < length parts →
+pub ready_finished : (head : Head) (parts : List Part) (k : ℕ) (d : Part) → map (λ part. part.spec) parts ≡ args_of head.rule → All (IsPart (arg_request head)) parts → HasAllArguments (progress_of_parts head (map filled_of parts)) → k < length parts →
     (get_or parts k d).need ≡ need.Nothing
 ready_finished head parts k d specs are is within =
-    finished_by _ (kept_open (request_of head) parts are d k within ∙ each_finished (request_of head) parts 0 k d (subst IsReady (progress_is head parts specs) is) within)
+    finished_by _ (kept_open (arg_request head) parts are d k within ∙ each_finished (arg_request head) parts 0 k d (subst HasAllArguments (progress_is head parts specs) is) within)

@@ -3,11 +3,11 @@ use Rattle.std.proofs.Common.{◌≡◌, ◌∙◌, List, map, ap, sym, subst}
 use Rattle.std.specs.Prelude.{Option, Some, None}
 use Rattle.st_calls.specs.declared.judged.Snapshot.{Snapshot}
 use Rattle.st_lookaside.specs.Part.{filled_of}
-use Rattle.st_lookaside.specs.Slot.{Slot, progress_of, IsDue, IsSlotWith, IsSlot}
+use Rattle.st_lookaside.specs.Slot.{Slot, slot_progress, IsDue, IsSlotWith, IsSlot}
 use Rattle.st_lookaside.specs.declared.head.Head.{Head}
 use Rattle.st_lookaside.specs.declared.part.Part.{Part}
 
 -- a message that needs something more wasn't sealed, so its arguments may change
-pub still_unsealed : (head : Head) (parts new : List Part) (now : Slot) (sealed : Option Snapshot) → IsSlotWith head parts sealed → record { head = head; parts = map filled_of parts } ≡ now → IsDue (progress_of now) → IsSlot head new → IsSlotWith head new sealed
+pub still_unsealed : (head : Head) (parts new : List Part) (now : Slot) (sealed : Option Snapshot) → IsSlotWith head parts sealed → record { head = head; parts = map filled_of parts } ≡ now → IsDue (slot_progress now) → IsSlot head new → IsSlotWith head new sealed
 still_unsealed head parts new now None kept view due slot = record { slot = slot; sealed = tt }
-still_unsealed head parts new now (Some copies) kept view due slot = absurd (subst IsDue (ap progress_of (sym view) ∙ kept.sealed.args) due)
+still_unsealed head parts new now (Some copies) kept view due slot = absurd (subst IsDue (ap slot_progress (sym view) ∙ kept.sealed.args) due)

@@ -13,7 +13,7 @@ use Rattle.st_names.specs.Name.{Components, components_of, printed_name}
 use Rattle.st_names.specs.declared.seen.SeenText.TheVariants as seen
 use Rattle.st_effects.specs.Progress.{Ready, Stuck}
 use Rattle.st_lookaside.specs.Need.{IsShort}
-use Rattle.st_lookaside.specs.Slot.{Slot, after_look, after_word, new_slot, next_of, progress_of, renewed, snapshot_with}
+use Rattle.st_lookaside.specs.Slot.{Slot, after_look, after_word, new_slot, next_need, slot_progress, renewed, snapshot_with}
 use Rattle.st_lookaside.specs.Slots.{slot_at, ChangesSlot, RenewsSlot}
 use Rattle.st_lookaside.specs.declared.head.Head.{Head}
 use Rattle.st_lookaside.specs.declared.slot.Next.TheVariants as next
@@ -50,7 +50,7 @@ copied_both = after_word looked 98
 abbrev done : Slot
 done = after_look copied_both seen.Missing
 
-needed : map (λ slot. next_of (progress_of slot)) (begun ∷ copied ∷ looked ∷ copied_both ∷ done ∷ [])
+needed : map (λ slot. next_need (slot_progress slot)) (begun ∷ copied ∷ looked ∷ copied_both ∷ done ∷ [])
     ≡ next.Word 0 0 ∷ next.Look 0 ∷ next.Word 1 1 ∷ next.Look 1 ∷ next.Ready ∷ []
 needed = refl
 
@@ -61,11 +61,11 @@ filled = refl
 abbrev name : ℕ → List ℕ → ArgText
 name index text = record { label = Filename; index = index; text = text }
 
-texts : progress_of done ≡ Ready (name 0 (codes "/w/a") ∷ name 1 (codes "/w/b") ∷ [])
+texts : slot_progress done ≡ Ready (name 0 (codes "/w/a") ∷ name 1 (codes "/w/b") ∷ [])
 texts = refl
 
 -- byte 65,536 is the first outside memory
-outside : progress_of (new_slot (record head { regs = 65536 ∷ 8 ∷ 0 ∷ 0 ∷ 0 ∷ 0 ∷ [] })) ≡ Stuck EFAULT
+outside : slot_progress (new_slot (record head { regs = 65536 ∷ 8 ∷ 0 ∷ 0 ∷ 0 ∷ 0 ∷ [] })) ≡ Stuck EFAULT
 outside = refl
 
 -- the number, ids and directory of a renewal are new, everything else in the message stays, and nothing is copied or seen

@@ -15,10 +15,10 @@ use Rattle.st_calls.specs.declared.call.SysCall.{SysCall}
 use Rattle.st_calls.specs.declared.call.SysCall.TheVariants as call
 use Rattle.st_calls.specs.declared.rule.Rule.{Rule}
 use Rattle.st_calls.specs.declared.rule.Rule.TheVariants as rule
-use Rattle.st_lookaside.specs.Head.{request_of}
+use Rattle.st_lookaside.specs.Head.{arg_request}
 use Rattle.st_lookaside.specs.Need.{is_finished, IsWord}
 use Rattle.st_lookaside.specs.Part.{Filled, filled_of, nothing_filled, IsPart}
-use Rattle.st_lookaside.specs.Slot.{Slot, new_slot, next_of, part_at, part_next, progress_of, with_part, AreInOrder, IsDue, IsInOrder, IsLookNext, IsSlot, IsWordNext}
+use Rattle.st_lookaside.specs.Slot.{Slot, new_slot, next_need, part_at, part_next, slot_progress, with_part, AreInOrder, IsDue, IsInOrder, IsLookNext, IsSlot, IsWordNext}
 use Rattle.st_lookaside.specs.declared.head.Head.{Head}
 use Rattle.st_lookaside.specs.declared.need.Need.{Need}
 use Rattle.st_lookaside.specs.declared.need.Need.TheVariants as need
@@ -32,22 +32,22 @@ use Rattle.st_lookaside.proofs.Progress.{due_place, in_front, look_due, next_at,
 pub record IsTurn (parts : List Part) (j : ℕ) : Type 0 where
   pub within : j < length parts
   pub before : (k : ℕ) (d : Part) → k < j → (get_or parts k d).need ≡ need.Nothing
-  pub behind : (k : ℕ) (d : Part) → j < k → k < length parts → filled_of (get_or parts k d) ≡ nothing_filled
+  pub following : (k : ℕ) (d : Part) → j < k → k < length parts → filled_of (get_or parts k d) ≡ nothing_filled
 
 order_kept : (parts : List Part) (j : ℕ) (after : Part) → IsTurn parts j → AreInOrder (set parts j after)
 order_kept parts j after turn i k d lt within unfinished =
     let len = length-set parts j after in
     elim (cases_lt i j) [
       | inl before ↦ absurd (unfinished (ap (λ (p : Part). p.need) (get_or-set_other parts j i after d (λ e. let here : i ≡ j = e in omega (arith, here, before))) ∙ turn.before i d before))
-      | inr from ↦ ap filled_of (get_or-set_other parts j k after d (λ e. let here : k ≡ j = e in omega (arith, here, from, lt))) ∙ turn.behind k d (omega (arith, from, lt)) (omega (arith, len, within))
+      | inr from ↦ ap filled_of (get_or-set_other parts j k after d (λ e. let here : k ≡ j = e in omega (arith, here, from, lt))) ∙ turn.following k d (omega (arith, from, lt)) (omega (arith, len, within))
     ]
 
 -- the invariant of the message is preserved if that argument is replaced
-pub slot_kept : (head : Head) (parts : List Part) (j : ℕ) (part after : Part) → IsSlot head parts → IsTurn parts j → part ≡ get_or parts j part → IsPart (request_of head) after → after.spec ≡ part.spec → IsSlot head (set parts j after)
+pub slot_kept : (head : Head) (parts : List Part) (j : ℕ) (part after : Part) → IsSlot head parts → IsTurn parts j → part ≡ get_or parts j part → IsPart (arg_request head) after → after.spec ≡ part.spec → IsSlot head (set parts j after)
 slot_kept head parts j part after slot turn here is same = record {
   short = slot.short;
   specs = map-set_same (λ (p : Part). p.spec) parts j after part (same ∙ ap (λ (p : Part). p.spec) here) ∙ slot.specs;
-  parts = All-set (IsPart (request_of head)) parts j after is slot.parts;
+  parts = All-set (IsPart (arg_request head)) parts j after is slot.parts;
   order = order_kept parts j after turn;
 }
 
@@ -123,50 +123,50 @@ module _ (head : Head) (parts : List Part) (now : Slot) (j : ℕ) (part : Part) 
   turn = record {
     within = at.within;
     before = at.before;
-    behind = λ k d lt within. slot.order j k d lt within
+    following = λ k d lt within. slot.order j k d lt within
         (λ is. not_finished head parts j part at (ap (λ (p : Part). p.need) (at.here ∙ get_or_default parts j part d at.within) ∙ is));
   }
 
-  pub here_next : next_at j part.need ≡ next_of (progress_of now)
-  here_next = next_is head parts j part at ∙ ap (λ (s : Slot). next_of (progress_of s)) view
+  pub here_next : next_at j part.need ≡ next_need (slot_progress now)
+  here_next = next_is head parts j part at ∙ ap (λ (s : Slot). next_need (slot_progress s)) view
 
-  pub here_word : IsWordNext (progress_of now) → IsWord part.need
-  here_word is = (word_due head parts j part at (subst (λ (s : Slot). IsWordNext (progress_of s)) (sym view) is)).0
+  pub here_word : IsWordNext (slot_progress now) → IsWord part.need
+  here_word is = (word_due head parts j part at (subst (λ (s : Slot). IsWordNext (slot_progress s)) (sym view) is)).0
 
-  pub here_look : IsLookNext (progress_of now) → part.need ≡ need.Look
-  here_look is = (look_due head parts j part at (subst (λ (s : Slot). IsLookNext (progress_of s)) (sym view) is)).0
+  pub here_look : IsLookNext (slot_progress now) → part.need ≡ need.Look
+  here_look is = (look_due head parts j part at (subst (λ (s : Slot). IsLookNext (slot_progress s)) (sym view) is)).0
 
-  pub here_due : IsDue (progress_of now) → part_next (progress_of now) ≡ j
-  here_due is = ap (λ (s : Slot). part_next (progress_of s)) (sym view) ∙ due_place head parts j part at (subst (λ (s : Slot). IsDue (progress_of s)) (sym view) is)
+  pub here_due : IsDue (slot_progress now) → part_next (slot_progress now) ≡ j
+  here_due is = ap (λ (s : Slot). part_next (slot_progress s)) (sym view) ∙ due_place head parts j part at (subst (λ (s : Slot). IsDue (slot_progress s)) (sym view) is)
 
   pub here_filled : part_at now.parts j ≡ filled_of part
   here_filled = ap (λ (s : Slot). part_at s.parts j) (sym view) ∙ filled_at parts j part at.within at.here
 
-  behind_here : (k : ℕ) → j < k → part_at now.parts k ≡ nothing_filled
-  behind_here k lt = ap (λ (s : Slot). part_at s.parts k) (sym view) ∙ elim (cases_lt k (length parts)) [
-    | inl within ↦ get_or-map filled_of parts k part nothing_filled within ∙ turn.behind k part lt within
+  after_here : (k : ℕ) → j < k → part_at now.parts k ≡ nothing_filled
+  after_here k lt = ap (λ (s : Slot). part_at s.parts k) (sym view) ∙ elim (cases_lt k (length parts)) [
+    | inl within ↦ get_or-map filled_of parts k part nothing_filled within ∙ turn.following k part lt within
     | inr past ↦ get_or_past (map filled_of parts) k nothing_filled (let len = length-map parts filled_of in omega (arith, len, past))
   ]
 
-  pub in_order : IsDue (progress_of now) → IsInOrder now
+  pub in_order : IsDue (slot_progress now) → IsInOrder now
   in_order due = record {
     unseen = λ is.
         ap (λ (k : ℕ). (part_at now.parts k).lookups) (here_due due) ∙ ap (λ (f : Filled). f.lookups) here_filled
-        ∙ unseen (request_of head) part at.is_part (here_word is);
-    behind = λ _ k lt. behind_here k (subst (λ (n : ℕ). n < k) (here_due due) lt);
+        ∙ unseen (arg_request head) part at.is_part (here_word is);
+    following = λ _ k lt. after_here k (subst (λ (n : ℕ). n < k) (here_due due) lt);
   }
 
   -- the slot of the message after that argument has changed
-  pub here_changed : (change : Filled → Filled) (after : Part) → IsDue (progress_of now) → filled_of after ≡ change (filled_of part) →
-      record { head = head; parts = map filled_of (set parts j after) } ≡ (let k = part_next (progress_of now) in with_part now k (change (part_at now.parts k)))
+  pub here_changed : (change : Filled → Filled) (after : Part) → IsDue (slot_progress now) → filled_of after ≡ change (filled_of part) →
+      record { head = head; parts = map filled_of (set parts j after) } ≡ (let k = part_next (slot_progress now) in with_part now k (change (part_at now.parts k)))
   here_changed change after due is =
       view_with head parts now j after (change (part_at now.parts j)) view (is ∙ ap change (sym here_filled))
       ∙ ap (λ (k : ℕ). with_part now k (change (part_at now.parts k))) (sym (here_due due))
 
   -- the name that it looks at
-  pub look_found : (name : Components) → progress_of_part (request_of head) part ≡ Look 0 name → progress_of now ≡ Look (part_next (progress_of now)) name
+  pub look_found : (name : Components) → progress_of_part (arg_request head) part ≡ Look 0 name → slot_progress now ≡ Look (part_next (slot_progress now)) name
   look_found name is =
-      let found : progress_of now ≡ Look j name = sym (ap progress_of view) ∙ at.progress ∙ ap (λ (p : Progress). in_front j p (Ready [])) is in
+      let found : slot_progress now ≡ Look j name = sym (ap slot_progress view) ∙ at.progress ∙ ap (λ (p : Progress). in_front j p (Ready [])) is in
       found ∙ ap (λ (k : ℕ). Look k name) (sym (ap part_next found))
 
   -- the slot of the message with that argument unchanged
@@ -194,7 +194,7 @@ first_is p parts j d within before here =
 
 -- it decides what is needed next again
 pub next_again : (head : Head) (parts : List Part) (now new : Slot) (j : ℕ) (part after : Part) → IsSlot head parts → record { head = head; parts = map filled_of parts } ≡ now → IsOpenAt head parts j part
-    → IsPart (request_of head) after → after.spec ≡ part.spec → not (is_finished after.need) ≡ true → record { head = head; parts = map filled_of (set parts j after) } ≡ new → next_at j after.need ≡ next_of (progress_of new)
+    → IsPart (arg_request head) after → after.spec ≡ part.spec → not (is_finished after.need) ≡ true → record { head = head; parts = map filled_of (set parts j after) } ≡ new → next_at j after.need ≡ next_need (slot_progress new)
 next_again head parts now new j part after slot view at is_part same unfinished new_view =
     let kept : IsSlot head (set parts j after) = slot_kept head parts j part after slot (turn head parts now j part slot view at) at.here is_part same in
     let len = length-set parts j after in

@@ -10,10 +10,10 @@ use Rattle.st_calls.specs.declared.argument.ArgSpec.{ArgSpec}
 use Rattle.st_calls.specs.declared.argument.PartKind.{PartKind}
 use Rattle.st_calls.specs.declared.argument.PartKind.TheVariants as kind
 use Rattle.st_effects.specs.Progress.{ArgRequest, Progress, Word, Look, Stuck, Ready, progress_from, progress_of_text, with_arg}
-use Rattle.st_lookaside.specs.Head.{request_of}
+use Rattle.st_lookaside.specs.Head.{arg_request}
 use Rattle.st_lookaside.specs.Need.{need_of, progress_alone}
 use Rattle.st_lookaside.specs.Part.{Filled, filled_of, is_begun, is_followed, nothing_filled, with_lookup, with_word, spelled_of, words_in, AreAskedLooks, IsPart}
-use Rattle.st_lookaside.specs.Slot.{Slot, part_at, part_next, progress_of, with_part, AreNotBegun, IsDue, IsInOrder, IsLastBegun, IsSlot}
+use Rattle.st_lookaside.specs.Slot.{Slot, part_at, part_next, slot_progress, with_part, AreNotBegun, IsDue, IsInOrder, IsLastBegun, IsSlot}
 use Rattle.st_lookaside.specs.declared.head.Head.{Head}
 use Rattle.st_lookaside.specs.declared.need.Need.{Need}
 use Rattle.st_lookaside.specs.declared.need.Need.TheVariants as need
@@ -89,7 +89,7 @@ turn_of_last head parts j slot last = record {
     | inl e ↦ e
     | inr open_one ↦ absurd (true≢false (sym (last.begun d) ∙ ap is_begun (slot.order k j d lt last.within open_one)))
   ];
-  behind = λ k d lt within. not_begun (request_of head) (get_or parts k d) (slot.parts k d within) (last.behind k d (omega (arith, lt)) within);
+  following = λ k d lt within. not_begun (arg_request head) (get_or parts k d) (slot.parts k d within) (last.following k d (omega (arith, lt)) within);
 }
 
 -- ---- the argument that was changed last
@@ -129,54 +129,54 @@ pub some_look : (filled : Filled) (seen : SeenText) → with_lookup filled seen 
 some_look filled seen e = let none = ap (λ (f : Filled). length f.lookups) e in omega (arith, none, length-append filled.lookups (seen ∷ []))
 
 module _ (head : Head) (parts : List Part) (now before : Slot) (filled : Filled) (slot : IsSlot head parts) (view : record { head = head; parts = map filled_of parts } ≡ now)
-    (order : IsInOrder before) (due : IsDue (progress_of before)) (some : filled ≡ nothing_filled → ⊥) (is : now ≡ with_part before (part_next (progress_of before)) filled) where
-  kept_now : map filled_of parts ≡ set before.parts (part_next (progress_of before)) filled
+    (order : IsInOrder before) (due : IsDue (slot_progress before)) (some : filled ≡ nothing_filled → ⊥) (is : now ≡ with_part before (part_next (slot_progress before)) filled) where
+  kept_now : map filled_of parts ≡ set before.parts (part_next (slot_progress before)) filled
   kept_now = ap (λ (s : Slot). s.parts) (view ∙ is)
 
-  changed_within : part_next (progress_of before) < length parts
+  changed_within : part_next (slot_progress before) < length parts
   changed_within =
-      let few = next_within (request_of before.head) (args_of before.head.rule) 0 (λ j. (part_at before.parts j).words) (λ j. (part_at before.parts j).lookups) due in
+      let few = next_within (arg_request before.head) (args_of before.head.rule) 0 (λ j. (part_at before.parts j).words) (λ j. (part_at before.parts j).lookups) due in
       let same = ap (λ (s : Slot). length (args_of s.head.rule)) (view ∙ is) in
       let specs = ap length slot.specs in
       omega (arith, few, same, specs, length-map parts (λ (p : Part). p.spec))
 
-  changed_filled : (d : Part) → filled_of (get_or parts (part_next (progress_of before)) d) ≡ filled
+  changed_filled : (d : Part) → filled_of (get_or parts (part_next (slot_progress before)) d) ≡ filled
   changed_filled d =
       let long = ap length kept_now in
-      sym (get_or-map filled_of parts (part_next (progress_of before)) d nothing_filled changed_within)
-      ∙ ap (λ (l : List Filled). get_or l (part_next (progress_of before)) nothing_filled) kept_now
-      ∙ get_or-set_same before.parts (part_next (progress_of before)) filled nothing_filled (omega (arith, long, changed_within, length-map parts filled_of, length-set before.parts (part_next (progress_of before)) filled))
+      sym (get_or-map filled_of parts (part_next (slot_progress before)) d nothing_filled changed_within)
+      ∙ ap (λ (l : List Filled). get_or l (part_next (slot_progress before)) nothing_filled) kept_now
+      ∙ get_or-set_same before.parts (part_next (slot_progress before)) filled nothing_filled (omega (arith, long, changed_within, length-map parts filled_of, length-set before.parts (part_next (slot_progress before)) filled))
 
-  behind_changed : (k : ℕ) (d : Part) → part_next (progress_of before) < k → k < length parts → filled_of (get_or parts k d) ≡ nothing_filled
-  behind_changed k d lt within =
+  after_changed : (k : ℕ) (d : Part) → part_next (slot_progress before) < k → k < length parts → filled_of (get_or parts k d) ≡ nothing_filled
+  after_changed k d lt within =
       sym (get_or-map filled_of parts k d nothing_filled within)
       ∙ ap (λ (l : List Filled). get_or l k nothing_filled) kept_now
-      ∙ get_or-set_other before.parts (part_next (progress_of before)) k filled nothing_filled (λ e. let same : k ≡ part_next (progress_of before) = e in omega (arith, same, lt))
-      ∙ order.behind due k lt
+      ∙ get_or-set_other before.parts (part_next (slot_progress before)) k filled nothing_filled (λ e. let same : k ≡ part_next (slot_progress before) = e in omega (arith, same, lt))
+      ∙ order.following due k lt
 
-  begun_by : (d : Part) (b : Bool) → is_begun (filled_of (get_or parts (part_next (progress_of before)) d)) ≡ b → b ≡ true
+  begun_by : (d : Part) (b : Bool) → is_begun (filled_of (get_or parts (part_next (slot_progress before)) d)) ≡ b → b ≡ true
   begun_by d true e = refl
   begun_by d false e =
-      absurd (some (sym (changed_filled d) ∙ not_begun (request_of head) (get_or parts (part_next (progress_of before)) d) (slot.parts (part_next (progress_of before)) d changed_within) e))
+      absurd (some (sym (changed_filled d) ∙ not_begun (arg_request head) (get_or parts (part_next (slot_progress before)) d) (slot.parts (part_next (slot_progress before)) d changed_within) e))
 
   -- it is the last argument of which a word is copied
-  pub changed_last : (j : ℕ) (part : Part) → IsLastBegun parts j → part ≡ get_or parts j part → (part_next (progress_of before) ≡ j) × (filled_of part ≡ filled)
-  changed_last j part last here = elim (cases_eq (part_next (progress_of before)) j) [
+  pub changed_last : (j : ℕ) (part : Part) → IsLastBegun parts j → part ≡ get_or parts j part → (part_next (slot_progress before) ≡ j) × (filled_of part ≡ filled)
+  changed_last j part last here = elim (cases_eq (part_next (slot_progress before)) j) [
     | inl e ↦ (e, ap filled_of here ∙ sym (ap (λ (n : ℕ). filled_of (get_or parts n part)) e) ∙ changed_filled part)
-    | inr ne ↦ elim (cases_lt (part_next (progress_of before)) j) [
-      | inl lt ↦ absurd (true≢false (sym (last.begun part) ∙ ap is_begun (behind_changed j part lt last.within)))
-      | inr ge ↦ absurd (true≢false (sym (begun_by part _ refl) ∙ last.behind (part_next (progress_of before)) part (omega (arith, ne, ge)) changed_within))
+    | inr ne ↦ elim (cases_lt (part_next (slot_progress before)) j) [
+      | inl lt ↦ absurd (true≢false (sym (last.begun part) ∙ ap is_begun (after_changed j part lt last.within)))
+      | inr ge ↦ absurd (true≢false (sym (begun_by part _ refl) ∙ last.following (part_next (slot_progress before)) part (omega (arith, ne, ge)) changed_within))
     ]
   ]
 
   -- some argument has a word
   pub changed_begun : AreNotBegun parts 0 → ⊥
-  changed_begun none = let d = item_of parts (part_next (progress_of before)) changed_within in true≢false (sym (begun_by d _ refl) ∙ none (part_next (progress_of before)) d (omega arith) changed_within)
+  changed_begun none = let d = item_of parts (part_next (slot_progress before)) changed_within in true≢false (sym (begun_by d _ refl) ∙ none (part_next (slot_progress before)) d (omega arith) changed_within)
 
   -- that change is undone
-  pub undone : (j : ℕ) → part_next (progress_of before) ≡ j → with_part now j (part_at before.parts (part_next (progress_of before))) ≡ before
+  pub undone : (j : ℕ) → part_next (slot_progress before) ≡ j → with_part now j (part_at before.parts (part_next (slot_progress before))) ≡ before
   undone j e =
-      let was : Filled = part_at before.parts (part_next (progress_of before)) in
+      let was : Filled = part_at before.parts (part_next (slot_progress before)) in
       ap (λ (n : ℕ). with_part now n was) (sym e)
-      ∙ ap (λ (s : Slot). with_part s (part_next (progress_of before)) was) is
-      ∙ ap (λ (l : List Filled). record { head = before.head; parts = l }) (set-set before.parts (part_next (progress_of before)) filled was ∙ set-get_or before.parts (part_next (progress_of before)) nothing_filled)
+      ∙ ap (λ (s : Slot). with_part s (part_next (slot_progress before)) was) is
+      ∙ ap (λ (l : List Filled). record { head = before.head; parts = l }) (set-set before.parts (part_next (slot_progress before)) filled was ∙ set-get_or before.parts (part_next (slot_progress before)) nothing_filled)

@@ -3,5 +3,5 @@ use Rattle.st_effects.specs.Progress.{ArgRequest}
 use Rattle.st_lookaside.specs.declared.head.Head.{Head}
 
 -- the request for a message's arguments
-abbrev pub request_of : Head → ArgRequest
-request_of head = record { rule = head.rule; call = head.call; regs = head.regs; cwd = head.cwd }
+abbrev pub arg_request : Head → ArgRequest
+arg_request head = record { rule = head.rule; call = head.call; regs = head.regs; cwd = head.cwd }

@@ -5,7 +5,7 @@ use Rattle.st_calls.specs.Argument.{args_of}
 use Rattle.st_calls.specs.declared.argument.ArgText.{ArgText}
 use Rattle.st_calls.specs.declared.judged.Snapshot.{Snapshot}
 use Rattle.st_effects.specs.Progress.{Progress, Word, Look, Stuck, Ready, progress}
-use Rattle.st_lookaside.specs.Head.{request_of}
+use Rattle.st_lookaside.specs.Head.{arg_request}
 use Rattle.st_lookaside.specs.Need.{IsShort}
 use Rattle.st_lookaside.specs.Part.{Filled, filled_of, is_begun, nothing_filled, with_lookup, with_word, IsPart}
 use Rattle.st_lookaside.specs.declared.head.Head.{Head}
@@ -32,19 +32,19 @@ part_at parts j = slice_index_or parts j nothing_filled
 
 -- the progress of the message
 abbrev pub progress_of_parts : Head → List Filled → Progress
-progress_of_parts head parts = progress (request_of head) (λ j. (part_at parts j).words) (λ j. (part_at parts j).lookups)
+progress_of_parts head parts = progress (arg_request head) (λ j. (part_at parts j).words) (λ j. (part_at parts j).lookups)
 
-abbrev pub progress_of : Slot → Progress
-progress_of slot = progress_of_parts slot.head slot.parts
+abbrev pub slot_progress : Slot → Progress
+slot_progress slot = progress_of_parts slot.head slot.parts
 
 -- ---- what is needed next
 
 -- what a message with this progress needs next
-abbrev pub next_of : Progress → Next
-next_of (Word part place) = next.Word part place
-next_of (Look part name) = next.Look part
-next_of (Stuck errno) = next.Fault errno
-next_of (Ready args) = next.Ready
+abbrev pub next_need : Progress → Next
+next_need (Word part place) = next.Word part place
+next_need (Look part name) = next.Look part
+next_need (Stuck errno) = next.Fault errno
+next_need (Ready args) = next.Ready
 
 -- the index of the argument that isn't finished; 0 if all are finished or one has a fault
 abbrev pub part_next : Progress → ℕ
@@ -75,11 +75,11 @@ IsDue (Stuck errno) = ⊥
 IsDue (Ready args) = ⊥
 
 -- all arguments are complete
-abbrev pub IsReady : Progress → Type 0
-IsReady (Word part place) = ⊥
-IsReady (Look part name) = ⊥
-IsReady (Stuck errno) = ⊥
-IsReady (Ready args) = Unit {0}
+abbrev pub HasAllArguments : Progress → Type 0
+HasAllArguments (Word part place) = ⊥
+HasAllArguments (Look part name) = ⊥
+HasAllArguments (Stuck errno) = ⊥
+HasAllArguments (Ready args) = Unit {0}
 
 -- the index of a word that is needed is inside memory
 abbrev pub IsInside : Next → Type 0
@@ -96,11 +96,11 @@ with_part slot j filled = record { head = slot.head; parts = slice_set slot.part
 
 -- the argument that isn't finished has one more word
 abbrev pub after_word : Slot → ℕ → Slot
-after_word slot word = let j = part_next (progress_of slot) in with_part slot j (with_word (part_at slot.parts j) word)
+after_word slot word = let j = part_next (slot_progress slot) in with_part slot j (with_word (part_at slot.parts j) word)
 
 -- the walk of the argument that isn't finished has one more answer
 abbrev pub after_look : Slot → SeenText → Slot
-after_look slot seen = let j = part_next (progress_of slot) in with_part slot j (with_lookup (part_at slot.parts j) seen)
+after_look slot seen = let j = part_next (slot_progress slot) in with_part slot j (with_lookup (part_at slot.parts j) seen)
 
 -- the message begins anew under this number, with these ids and this directory
 abbrev pub renewed : Slot → ℕ → Ids → Components → Slot
@@ -122,8 +122,8 @@ snapshot_with head args = record {
 -- words and answers came in the order of the arguments: nothing is seen of an argument that needs a word, and nothing is copied or seen of
 -- later ones
 pub record IsInOrder (slot : Slot) : Type 0 where
-  pub unseen : IsWordNext (progress_of slot) → (part_at slot.parts (part_next (progress_of slot))).lookups ≡ []
-  pub behind : IsDue (progress_of slot) → (k : ℕ) → part_next (progress_of slot) < k → part_at slot.parts k ≡ nothing_filled
+  pub unseen : IsWordNext (slot_progress slot) → (part_at slot.parts (part_next (slot_progress slot))).lookups ≡ []
+  pub following : IsDue (slot_progress slot) → (k : ℕ) → part_next (slot_progress slot) < k → part_at slot.parts k ≡ nothing_filled
 
 -- ---- what is kept of it
 
@@ -135,12 +135,12 @@ AreInOrder parts = (i j : ℕ) (d : Part) → i < j → j < length parts → ((g
 pub record IsSlot (head : Head) (kept : List Part) : Type 0 where
   pub short : IsShort head.cwd
   pub specs : map (λ part. part.spec) kept ≡ args_of head.rule
-  pub parts : All (IsPart (request_of head)) kept
+  pub parts : All (IsPart (arg_request head)) kept
   pub order : AreInOrder kept
 
 -- these copies are the message with the texts of its arguments
 pub record IsSealOf (slot : Slot) (copies : Snapshot) : Type 0 where
-  pub args : progress_of slot ≡ Ready copies.parts
+  pub args : slot_progress slot ≡ Ready copies.parts
   pub head : copies ≡ snapshot_with slot.head copies.parts
 
 -- the same, with the copies that are kept if it was sealed
@@ -156,4 +156,4 @@ AreNotBegun parts from = (k : ℕ) (d : Part) → from ≤ k → k < length part
 pub record IsLastBegun (parts : List Part) (j : ℕ) : Type 0 where
   pub within : j < length parts
   pub begun : (d : Part) → is_begun (filled_of (get_or parts j d)) ≡ true
-  pub behind : AreNotBegun parts (j + 1)
+  pub following : AreNotBegun parts (j + 1)

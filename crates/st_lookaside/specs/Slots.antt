@@ -4,12 +4,12 @@ use Rattle.std.specs.List.{AllPairs}
 use Rattle.st_lookaside.specs.Slot.{Slot}
 
 -- whether a slot has this number
-abbrev pub has_number : ℕ → Slot → Bool
-has_number seq slot = slot.head.seq == seq
+abbrev pub is_slot_of : ℕ → Slot → Bool
+is_slot_of seq slot = slot.head.seq == seq
 
 -- the slot of this number, if it has one
 abbrev pub slot_at : List Slot → ℕ → Option Slot
-slot_at slots seq = find (has_number seq) slots
+slot_at slots seq = find (is_slot_of seq) slots
 
 -- a number has this slot now, or none, and each other number is unchanged
 abbrev pub ChangesSlot : List Slot → ℕ → Option Slot → List Slot → Type 0
@@ -27,7 +27,7 @@ abbrev pub AreAscending : List Slot → Type 0
 AreAscending slots = AllPairs (λ slot later. slot.head.seq < later.head.seq) slots
 
 -- the slot of this number is at this index
-pub record IsAt (slots : List Slot) (seq i : ℕ) : Type 0 where
+pub record IsSlotAt (slots : List Slot) (seq i : ℕ) : Type 0 where
   pub within : i < length slots
   pub here : (d : Slot) → (get_or slots i d).head.seq ≡ seq
 
@@ -35,4 +35,4 @@ pub record IsAt (slots : List Slot) (seq i : ℕ) : Type 0 where
 pub record IsGap (slots : List Slot) (seq i : ℕ) : Type 0 where
   pub within : i ≤ length slots
   pub before : (k : ℕ) (d : Slot) → k < i → (get_or slots k d).head.seq < seq
-  pub behind : (k : ℕ) (d : Slot) → i ≤ k → k < length slots → seq < (get_or slots k d).head.seq
+  pub following : (k : ℕ) (d : Slot) → i ≤ k → k < length slots → seq < (get_or slots k d).head.seq

@@ -2,8 +2,8 @@
 ghost use Rattle.std.specs.Prelude.{◌≡◌, Bool, [], None};
 ghost use Rattle.st_calls.specs.declared.argument.PartKind.TheVariants as kind;
 ghost use Rattle.st_lookaside.specs.Need.{need_of, need_of_walk, progress_alone, IsInside, IsShort};
-ghost use Rattle.st_resolve.specs.Walk.{step_of};
-ghost use Rattle.st_translate.specs.Copied.{asked_word, IsDone, spelled};
+ghost use Rattle.st_resolve.specs.Walk.{walk_step};
+ghost use Rattle.st_translate.specs.Copied.{asked_word, HasAllWords, spelled_words};
 
 use st_base::Errno;
 use st_calls::{ArgSpec, PartKind};
@@ -42,22 +42,22 @@ impl Need {
         requires kind { copying.now.kind ≡ spec.kind }
         requires short { IsShort cwd.now }
         ensures inside { IsInside result }
-        ensures need { (follow : Bool) → result ≡ need_of (progress_alone spec cwd.now follow [] (spelled copying.now)) }
+        ensures need { (follow : Bool) → result ≡ need_of (progress_alone spec cwd.now follow [] (spelled_words copying.now)) }
     {
         match copying.next_word() {
             Some(place) => Need::Word(place),
-            None => Need::behind_words(spec, copying, cwd),
+            None => Need::after_words(spec, copying, cwd),
         }
     }
 
     // The same for an argument that needs no more words. It is a separate function because it is rare: words are needed again and again.
     #[inline(never)]
-    fn behind_words(spec: ArgSpec, copying: &Copying, cwd: &AbsName) -> Self
+    fn after_words(spec: ArgSpec, copying: &Copying, cwd: &AbsName) -> Self
         requires kind { copying.now.kind ≡ spec.kind }
         requires short { IsShort cwd.now }
-        requires copied { asked_word (spelled copying.now) ≡ None }
+        requires copied { asked_word (spelled_words copying.now) ≡ None }
         ensures inside { IsInside result }
-        ensures need { (follow : Bool) → result ≡ need_of (progress_alone spec cwd.now follow [] (spelled copying.now)) }
+        ensures need { (follow : Bool) → result ≡ need_of (progress_alone spec cwd.now follow [] (spelled_words copying.now)) }
     {
         if let Some(errno) = copying.fault() {
             return Need::Fault(errno);

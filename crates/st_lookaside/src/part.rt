@@ -4,12 +4,12 @@ ghost use Rattle.st_calls.specs.Call.{follows};
 ghost use Rattle.st_calls.specs.declared.argument.ArgText.{ArgText};
 ghost use Rattle.st_calls.specs.declared.argument.PartKind.TheVariants as kind;
 ghost use Rattle.st_effects.specs.Progress.{Look, Ready, text_arg};
-ghost use Rattle.st_lookaside.specs.Head.{request_of};
+ghost use Rattle.st_lookaside.specs.Head.{arg_request};
 ghost use Rattle.st_lookaside.specs.Need.{is_finished, IsShort, IsWord};
 ghost use Rattle.st_lookaside.specs.declared.need.Need.TheVariants as need;
 ghost use Rattle.st_names.specs.Seen.{seen_text};
 ghost use Rattle.st_names.specs.declared.seen.SeenText.{SeenText};
-ghost use Rattle.st_translate.specs.Copied.{lies_in_memory, IsDone};
+ghost use Rattle.st_translate.specs.Copied.{lies_in_memory, HasAllWords};
 
 use crate::head::Head;
 use crate::need::Need;
@@ -68,7 +68,7 @@ impl Part {
     /// An argument of which nothing is copied or seen, with room for every word.
     pub fn begin(alloc: Global, head: &Head, spec: ArgSpec) -> Result<Self, AllocError>
         requires short { IsShort head.now.cwd }
-        ensures part { IfOk result (λ part. IsPart (request_of head.now) part) }
+        ensures part { IfOk result (λ part. IsPart (arg_request head.now) part) }
         ensures spec { IfOk result (λ part. part.spec ≡ spec) }
         ensures filled { IfOk result (λ part. filled_of part ≡ nothing_filled) }
     {
@@ -91,11 +91,11 @@ impl Part {
     // Notes what the argument needs by its words, if nothing is seen of it.
     #[inline]
     fn note_need(&mut self, head: &Head)
-        requires copied { IsCopyOf (request_of head.now) self.old.spec self.old.copying }
+        requires copied { IsCopyOf (arg_request head.now) self.old.spec self.old.copying }
         requires unseen { self.old.lookups.items ≡ [] }
         requires no_walk { self.old.walk ≡ None }
         requires short { IsShort head.now.cwd }
-        ensures part { IsPart (request_of head.now) self.new }
+        ensures part { IsPart (arg_request head.now) self.new }
         ensures rest { self.new ≡ record self.old { need = self.new.need } }
     {
         self.need = match &self.copying {
@@ -106,10 +106,10 @@ impl Part {
 
     /// Appends the word that is needed next.
     pub fn fill(&mut self, head: &Head, word: u64)
-        requires part { IsPart (request_of head.now) self.old }
+        requires part { IsPart (arg_request head.now) self.old }
         requires need { IsWord self.old.need }
         requires short { IsShort head.now.cwd }
-        ensures part { IsPart (request_of head.now) self.new }
+        ensures part { IsPart (arg_request head.now) self.new }
         ensures spec { self.new.spec ≡ self.old.spec }
         ensures filled { filled_of self.new ≡ with_word (filled_of self.old) word }
     {
@@ -122,10 +122,10 @@ impl Part {
 
     // The walk of the name that was copied, after what was seen.
     fn walk_again(&self, alloc: Global, head: &Head) -> Result<Walk, AllocError>
-        requires part { IsPart (request_of head.now) self.now }
+        requires part { IsPart (arg_request head.now) self.now }
         requires name { self.now.spec.kind ≡ kind.Name }
-        requires done { IsDone (spelled_of (request_of head.now) self.now.spec (words_in self.now.copying)) }
-        ensures { IfOk result (λ walk. IsWalk (request_of head.now) self.now.spec (words_in self.now.copying) self.now.lookups.items walk) }
+        requires done { HasAllWords (spelled_of (arg_request head.now) self.now.spec (words_in self.now.copying)) }
+        ensures { IfOk result (λ walk. IsWalk (arg_request head.now) self.now.spec (words_in self.now.copying) self.now.lookups.items walk) }
     {
         let Some(copying) = &self.copying else {
             unreachable!()
@@ -143,9 +143,9 @@ impl Part {
 
     // Readies the walk of the name that is looked up. If memory runs out, nothing changes.
     fn begin_walk(&mut self, alloc: Global, head: &Head) -> Result<(), AllocError>
-        requires part { IsPart (request_of head.now) self.old }
+        requires part { IsPart (arg_request head.now) self.old }
         requires need { self.old.need ≡ need.Look }
-        ensures part { IsPart (request_of head.now) self.new }
+        ensures part { IsPart (arg_request head.now) self.new }
         ensures spec { self.new.spec ≡ self.old.spec }
         ensures need { self.new.need ≡ need.Look }
         ensures filled { filled_of self.new ≡ filled_of self.old }
@@ -160,12 +160,12 @@ impl Part {
 
     /// The name that is looked at next. Its walk is readied, and what is copied and seen is unchanged.
     pub fn next_name(&mut self, alloc: Global, head: &Head) -> Result<AbsName, AllocError>
-        requires part { IsPart (request_of head.now) self.old }
+        requires part { IsPart (arg_request head.now) self.old }
         requires need { self.old.need ≡ need.Look }
-        ensures part { IsPart (request_of head.now) self.new }
+        ensures part { IsPart (arg_request head.now) self.new }
         ensures spec { self.new.spec ≡ self.old.spec }
         ensures filled { filled_of self.new ≡ filled_of self.old }
-        ensures name { IfOk result (λ name. progress_of_arg (request_of head.now) self.new.spec (words_in self.new.copying) self.new.lookups.items ≡ Look 0 name) }
+        ensures name { IfOk result (λ name. progress_of_arg (arg_request head.now) self.new.spec (words_in self.new.copying) self.new.lookups.items ≡ Look 0 name) }
     {
         self.begin_walk(alloc, head)?;
         let Some(walk) = &self.walk else {
@@ -184,9 +184,9 @@ impl Part {
         head: &Head,
         seen: Seen<'_>,
     ) -> Result<(), AllocError>
-        requires part { IsPart (request_of head.now) self.old }
+        requires part { IsPart (arg_request head.now) self.old }
         requires need { self.old.need ≡ need.Look }
-        ensures part { IsPart (request_of head.now) self.new }
+        ensures part { IsPart (arg_request head.now) self.new }
         ensures spec { self.new.spec ≡ self.old.spec }
         ensures ok { OnOk result (filled_of self.new ≡ with_lookup (filled_of self.old) (seen_text seen.entry)) }
         ensures err { OnErr result (filled_of self.new ≡ filled_of self.old) }
@@ -205,10 +205,10 @@ impl Part {
 
     // The text of the name that was found.
     fn name_text(&self, alloc: Global, head: &Head) -> Result<Text, AllocError>
-        requires part { IsPart (request_of head.now) self.now }
+        requires part { IsPart (arg_request head.now) self.now }
         requires need { self.now.need ≡ need.Nothing }
         requires name { self.now.spec.kind ≡ kind.Name }
-        ensures { IfOk result (λ text. progress_of_arg (request_of head.now) self.now.spec (words_in self.now.copying) self.now.lookups.items ≡ Ready (text_arg self.now.spec text ∷ [])) }
+        ensures { IfOk result (λ text. progress_of_arg (arg_request head.now) self.now.spec (words_in self.now.copying) self.now.lookups.items ≡ Ready (text_arg self.now.spec text ∷ [])) }
     {
         match &self.walk {
             Some(walk) => walk.name().print(alloc),
@@ -218,9 +218,9 @@ impl Part {
 
     // The text of a complete argument.
     fn text(&self, alloc: Global, head: &Head) -> Result<Text, AllocError>
-        requires part { IsPart (request_of head.now) self.now }
+        requires part { IsPart (arg_request head.now) self.now }
         requires need { self.now.need ≡ need.Nothing }
-        ensures { IfOk result (λ text. progress_of_arg (request_of head.now) self.now.spec (words_in self.now.copying) self.now.lookups.items ≡ Ready (text_arg self.now.spec text ∷ [])) }
+        ensures { IfOk result (λ text. progress_of_arg (arg_request head.now) self.now.spec (words_in self.now.copying) self.now.lookups.items ≡ Ready (text_arg self.now.spec text ∷ [])) }
     {
         match &self.copying {
             None => plain_text(alloc, self.spec.kind, register_of(head, self.spec)),
@@ -233,9 +233,9 @@ impl Part {
 
     /// The argument, which has to be complete.
     pub fn arg(&self, alloc: Global, head: &Head) -> Result<ArgText, AllocError>
-        requires part { IsPart (request_of head.now) self.now }
+        requires part { IsPart (arg_request head.now) self.now }
         requires need { self.now.need ≡ need.Nothing }
-        ensures { IfOk result (λ arg. progress_of_arg (request_of head.now) self.now.spec (words_in self.now.copying) self.now.lookups.items ≡ Ready (arg ∷ [])) }
+        ensures { IfOk result (λ arg. progress_of_arg (arg_request head.now) self.now.spec (words_in self.now.copying) self.now.lookups.items ≡ Ready (arg ∷ [])) }
     {
         Ok(ArgText {
             label: self.spec.label,
@@ -263,10 +263,10 @@ impl Part {
 
     /// Undoes the last `fill` or `take_look`, at the cost of what was copied before. The walk is no longer readied.
     pub fn take_back(&mut self, head: &Head)
-        requires part { IsPart (request_of head.now) self.old }
+        requires part { IsPart (arg_request head.now) self.old }
         requires some { is_begun (filled_of self.old) ≡ true }
         requires short { IsShort head.now.cwd }
-        ensures part { IsPart (request_of head.now) self.new }
+        ensures part { IsPart (arg_request head.now) self.new }
         ensures spec { self.new.spec ≡ self.old.spec }
         ensures seen { (before : Filled) (seen : SeenText) → filled_of self.old ≡ with_lookup before seen → filled_of self.new ≡ before }
         ensures word { (before : Filled) (word : ℕ) → before.lookups ≡ [] → filled_of self.old ≡ with_word before word → filled_of self.new ≡ before }
@@ -285,9 +285,9 @@ impl Part {
 
     /// Begins anew in the existing room: nothing is copied, seen or readied.
     pub fn restart(&mut self, head: &Head)
-        requires copied { IsCopyOf (request_of head.now) self.old.spec self.old.copying }
+        requires copied { IsCopyOf (arg_request head.now) self.old.spec self.old.copying }
         requires short { IsShort head.now.cwd }
-        ensures part { IsPart (request_of head.now) self.new }
+        ensures part { IsPart (arg_request head.now) self.new }
         ensures spec { self.new.spec ≡ self.old.spec }
         ensures filled { filled_of self.new ≡ nothing_filled }
     {

@@ -1,6 +1,6 @@
 ghost use Rattle.std.specs.Prelude.{◌≡◌, ◌<◌, ℕ, false, not, All, map, get_or, length, position, Option, Some, None, IfSome, IsNone, IfOk, OnOk, OnErr};
 ghost use Rattle.st_calls.specs.Argument.{args_of};
-ghost use Rattle.st_lookaside.specs.Head.{request_of};
+ghost use Rattle.st_lookaside.specs.Head.{arg_request};
 ghost use Rattle.st_lookaside.specs.Need.{is_finished, IsShort};
 ghost use Rattle.st_lookaside.specs.Part.{filled_of, nothing_filled, IsCopyOf, IsPart};
 ghost use Rattle.st_lookaside.specs.declared.need.Need.TheVariants as need;
@@ -79,9 +79,9 @@ fn last_begun(parts: &[Part]) -> Option<usize>
 
 // Begins all arguments anew.
 fn restart(parts: &mut [Part], head: &Head)
-    requires parts { (k : ℕ) (d : Part) → k < length parts.old → IsCopyOf (request_of head.now) (get_or parts.old k d).spec (get_or parts.old k d).copying }
+    requires parts { (k : ℕ) (d : Part) → k < length parts.old → IsCopyOf (arg_request head.now) (get_or parts.old k d).spec (get_or parts.old k d).copying }
     requires short { IsShort head.now.cwd }
-    ensures parts { All (IsPart (request_of head.now)) parts.new }
+    ensures parts { All (IsPart (arg_request head.now)) parts.new }
     ensures specs { map (λ part. part.spec) parts.new ≡ map (λ part. part.spec) parts.old }
     ensures filled { All (λ part. filled_of part ≡ nothing_filled) parts.new }
 {
@@ -92,7 +92,7 @@ fn restart(parts: &mut [Part], head: &Head)
 
 impl Slot {
     ghost use Rattle.st_lookaside.specs.Slot as slot;
-    ghost use Rattle.st_lookaside.specs.Slot.{after_look, after_word, new_slot, next_of, part_next, progress_of, renewed, snapshot_with, IsInOrder, IsInside, IsLookNext, IsReady, IsWordNext};
+    ghost use Rattle.st_lookaside.specs.Slot.{after_look, after_word, new_slot, next_need, part_next, slot_progress, renewed, snapshot_with, IsInOrder, IsInside, IsLookNext, HasAllArguments, IsWordNext};
 
     /// A message of which nothing is copied or seen, with room for every word.
     pub fn new(alloc: Global, head: Head) -> Result<Self, AllocError>
@@ -119,7 +119,7 @@ impl Slot {
 
     /// What the message needs next.
     pub fn next(&self) -> Next
-        ensures value { result ≡ next_of (progress_of self.now) }
+        ensures value { result ≡ next_need (slot_progress self.now) }
         ensures inside { IsInside result }
     {
         let Some(j) = unfinished(&self.parts) else {
@@ -135,9 +135,9 @@ impl Slot {
 
     /// Appends the word that is needed next, and returns what is needed after it. It takes no memory.
     pub fn fill(&mut self, word: u64) -> Next
-        requires { IsWordNext (progress_of self.old) }
+        requires { IsWordNext (slot_progress self.old) }
         ensures slot { self.new ≡ after_word self.old word }
-        ensures next { result ≡ next_of (progress_of (after_word self.old word)) }
+        ensures next { result ≡ next_need (slot_progress (after_word self.old word)) }
         ensures order { IsInOrder self.old }
     {
         let Some(j) = unfinished(&self.parts) else {
@@ -154,9 +154,9 @@ impl Slot {
 
     /// The name that is looked at next. Its walk is readied, and what is copied and seen is unchanged.
     pub fn next_name(&mut self, alloc: Global) -> Result<AbsName, AllocError>
-        requires { IsLookNext (progress_of self.old) }
+        requires { IsLookNext (slot_progress self.old) }
         ensures same { self.new ≡ self.old }
-        ensures name { IfOk result (λ name. progress_of self.old ≡ Look (part_next (progress_of self.old)) name) }
+        ensures name { IfOk result (λ name. slot_progress self.old ≡ Look (part_next (slot_progress self.old)) name) }
     {
         let Some(j) = unfinished(&self.parts) else {
             unreachable!()
@@ -167,9 +167,9 @@ impl Slot {
 
     /// Appends the answer to the look at the next name, and returns what is needed after it. If memory runs out, no answer is appended.
     pub fn take_look(&mut self, alloc: Global, seen: Seen<'_>) -> Result<Next, AllocError>
-        requires { IsLookNext (progress_of self.old) }
+        requires { IsLookNext (slot_progress self.old) }
         ensures slot { OnOk result (self.new ≡ after_look self.old (seen_text seen.entry)) }
-        ensures next { IfOk result (λ next. next ≡ next_of (progress_of (after_look self.old (seen_text seen.entry)))) }
+        ensures next { IfOk result (λ next. next ≡ next_need (slot_progress (after_look self.old (seen_text seen.entry)))) }
         ensures head { self.new.head ≡ self.old.head }
         ensures order { IsInOrder self.old }
         ensures err { OnErr result (self.new ≡ self.old) }
@@ -189,8 +189,8 @@ impl Slot {
     /// Undoes the last `fill` or `take_look`, at the cost of what was copied or seen before it. The walk is no longer readied.
     pub fn take_back(&mut self)
         ensures head { self.new.head ≡ self.old.head }
-        ensures word { (before : slot.Slot) (word : ℕ) → IsInOrder before → IsWordNext (progress_of before) → self.old ≡ after_word before word → self.new ≡ before }
-        ensures look { (before : slot.Slot) (seen : SeenText) → IsInOrder before → IsLookNext (progress_of before) → self.old ≡ after_look before seen → self.new ≡ before }
+        ensures word { (before : slot.Slot) (word : ℕ) → IsInOrder before → IsWordNext (slot_progress before) → self.old ≡ after_word before word → self.new ≡ before }
+        ensures look { (before : slot.Slot) (seen : SeenText) → IsInOrder before → IsLookNext (slot_progress before) → self.old ≡ after_look before seen → self.new ≡ before }
     {
         self.sealed = None;
         if let Some(j) = last_begun(&self.parts) {
@@ -201,8 +201,8 @@ impl Slot {
 
     // Makes the message with the texts of its arguments.
     fn snapshot(&self, alloc: Global) -> Result<Snapshot, AllocError>
-        requires { IsReady (progress_of self.now) }
-        ensures args { IfOk result (λ snapshot. progress_of self.now ≡ Ready snapshot.parts) }
+        requires { HasAllArguments (slot_progress self.now) }
+        ensures args { IfOk result (λ snapshot. slot_progress self.now ≡ Ready snapshot.parts) }
         ensures head { IfOk result (λ snapshot. snapshot ≡ snapshot_with self.now.head snapshot.parts) }
     {
         let mut args = Sequence::new(alloc);
@@ -224,8 +224,8 @@ impl Slot {
 
     /// The message with the texts of its arguments, as they were copied and looked up. They are made only if it wasn't sealed.
     pub fn copies(&self, alloc: Global) -> Result<Shared<Snapshot>, AllocError>
-        requires { IsReady (progress_of self.now) }
-        ensures args { IfOk result (λ snapshot. progress_of self.now ≡ Ready snapshot.parts) }
+        requires { HasAllArguments (slot_progress self.now) }
+        ensures args { IfOk result (λ snapshot. slot_progress self.now ≡ Ready snapshot.parts) }
         ensures head { IfOk result (λ snapshot. snapshot ≡ snapshot_with self.now.head snapshot.parts) }
     {
         match &self.sealed {
@@ -236,9 +236,9 @@ impl Slot {
 
     /// The same, which is kept here until something is undone or the message begins anew, so that it is made only once.
     pub fn seal(&mut self, alloc: Global) -> Result<Shared<Snapshot>, AllocError>
-        requires { IsReady (progress_of self.old) }
+        requires { HasAllArguments (slot_progress self.old) }
         ensures same { self.new ≡ self.old }
-        ensures args { IfOk result (λ snapshot. progress_of self.old ≡ Ready snapshot.parts) }
+        ensures args { IfOk result (λ snapshot. slot_progress self.old ≡ Ready snapshot.parts) }
         ensures head { IfOk result (λ snapshot. snapshot ≡ snapshot_with self.old.head snapshot.parts) }
     {
         let copies = self.copies(alloc)?;

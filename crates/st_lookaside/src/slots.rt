@@ -3,8 +3,8 @@ ghost use Rattle.std.specs.VecDeque.{deque_capacity};
 ghost use Rattle.st_effects.specs.Progress.{Look, Ready};
 ghost use Rattle.st_lookaside.specs.Need.{IsShort};
 ghost use Rattle.st_lookaside.specs.Slot as slot;
-ghost use Rattle.st_lookaside.specs.Slot.{after_look, after_word, new_slot, next_of, part_next, progress_of, renewed, snapshot_with, IsInOrder, IsInside, IsLookNext, IsReady, IsWordNext};
-ghost use Rattle.st_lookaside.specs.Slots.{slot_at, AreAscending, ChangesSlot, IsAt, IsGap, RenewsSlot};
+ghost use Rattle.st_lookaside.specs.Slot.{after_look, after_word, new_slot, next_need, part_next, slot_progress, renewed, snapshot_with, IsInOrder, IsInside, IsLookNext, HasAllArguments, IsWordNext};
+ghost use Rattle.st_lookaside.specs.Slots.{slot_at, AreAscending, ChangesSlot, IsSlotAt, IsGap, RenewsSlot};
 ghost use Rattle.st_names.specs.Seen.{seen_text};
 ghost use Rattle.st_names.specs.declared.seen.SeenText.{SeenText};
 
@@ -41,7 +41,7 @@ impl Model for Slots {
 // entered, and then it is. If few are under way, it usually is the first.
 #[inline]
 fn guess_of(slots: &VecDeque<Slot>, seq: Seq) -> Option<usize>
-    ensures { IfSome result (IsAt slots.now.items seq) }
+    ensures { IfSome result (IsSlotAt slots.now.items seq) }
 {
     let first = slots.front()?;
     let place = seq.checked_sub(first.head().seq)? as usize;
@@ -60,7 +60,7 @@ fn guess_of(slots: &VecDeque<Slot>, seq: Seq) -> Option<usize>
 #[inline(never)]
 fn search_of(slots: &VecDeque<Slot>, seq: Seq) -> Result<usize, usize>
     requires { AreAscending slots.now.items }
-    ensures found { IfOk result (IsAt slots.now.items seq) }
+    ensures found { IfOk result (IsSlotAt slots.now.items seq) }
     ensures missing { IfErr result (IsGap slots.now.items seq) }
 {
     slots.binary_search_by_key(&seq, |slot| slot.head().seq)
@@ -70,7 +70,7 @@ fn search_of(slots: &VecDeque<Slot>, seq: Seq) -> Result<usize, usize>
 #[inline]
 fn place_of(slots: &VecDeque<Slot>, seq: Seq) -> Result<usize, usize>
     requires { AreAscending slots.now.items }
-    ensures found { IfOk result (IsAt slots.now.items seq) }
+    ensures found { IfOk result (IsSlotAt slots.now.items seq) }
     ensures missing { IfErr result (IsGap slots.now.items seq) }
 {
     match guess_of(slots, seq) {
@@ -131,7 +131,7 @@ impl Slots {
     /// What a message needs next.
     pub fn next(&self, seq: Seq) -> Next
         requires { IsSome (slot_at self.now seq) }
-        ensures value { IfSome (slot_at self.now seq) (λ slot. result ≡ next_of (progress_of slot)) }
+        ensures value { IfSome (slot_at self.now seq) (λ slot. result ≡ next_need (slot_progress slot)) }
         ensures inside { IsInside result }
     {
         self.slot(seq).next()
@@ -140,9 +140,9 @@ impl Slots {
     /// Appends the word that a message needs next, and returns what it needs after it. It takes no memory.
     pub fn fill(&mut self, seq: Seq, word: u64) -> Next
         requires slot { IsSome (slot_at self.old seq) }
-        requires next { IfSome (slot_at self.old seq) (λ slot. IsWordNext (progress_of slot)) }
+        requires next { IfSome (slot_at self.old seq) (λ slot. IsWordNext (slot_progress slot)) }
         ensures slot { IfSome (slot_at self.old seq) (λ slot. ChangesSlot self.old seq (Some (after_word slot word)) self.new) }
-        ensures next { IfSome (slot_at self.old seq) (λ slot. result ≡ next_of (progress_of (after_word slot word))) }
+        ensures next { IfSome (slot_at self.old seq) (λ slot. result ≡ next_need (slot_progress (after_word slot word))) }
         ensures order { IfSome (slot_at self.old seq) IsInOrder }
     {
         let Ok(place) = place_of(&self.slots, seq) else {
@@ -155,9 +155,9 @@ impl Slots {
     /// The name that a message looks at next. Its walk is readied, and what is copied and seen is unchanged.
     pub fn next_name(&mut self, alloc: Global, seq: Seq) -> Result<AbsName, AllocError>
         requires slot { IsSome (slot_at self.old seq) }
-        requires next { IfSome (slot_at self.old seq) (λ slot. IsLookNext (progress_of slot)) }
+        requires next { IfSome (slot_at self.old seq) (λ slot. IsLookNext (slot_progress slot)) }
         ensures same { self.new ≡ self.old }
-        ensures name { IfOk result (λ name. IfSome (slot_at self.old seq) (λ slot. progress_of slot ≡ Look (part_next (progress_of slot)) name)) }
+        ensures name { IfOk result (λ name. IfSome (slot_at self.old seq) (λ slot. slot_progress slot ≡ Look (part_next (slot_progress slot)) name)) }
     {
         let Ok(place) = place_of(&self.slots, seq) else {
             unreachable!()
@@ -170,9 +170,9 @@ impl Slots {
     /// appended.
     pub fn take_look(&mut self, alloc: Global, seq: Seq, seen: Seen<'_>) -> Result<Next, AllocError>
         requires slot { IsSome (slot_at self.old seq) }
-        requires next { IfSome (slot_at self.old seq) (λ slot. IsLookNext (progress_of slot)) }
+        requires next { IfSome (slot_at self.old seq) (λ slot. IsLookNext (slot_progress slot)) }
         ensures slot { OnOk result (IfSome (slot_at self.old seq) (λ slot. ChangesSlot self.old seq (Some (after_look slot (seen_text seen.entry))) self.new)) }
-        ensures next { IfOk result (λ next. IfSome (slot_at self.old seq) (λ slot. next ≡ next_of (progress_of (after_look slot (seen_text seen.entry))))) }
+        ensures next { IfOk result (λ next. IfSome (slot_at self.old seq) (λ slot. next ≡ next_need (slot_progress (after_look slot (seen_text seen.entry))))) }
         ensures order { IfSome (slot_at self.old seq) IsInOrder }
         ensures err { OnErr result (self.new ≡ self.old) }
     {
@@ -186,8 +186,8 @@ impl Slots {
     /// A message with the texts of its arguments, as they were copied and looked up. They are made only if it wasn't sealed.
     pub fn copies(&self, alloc: Global, seq: Seq) -> Result<Shared<Snapshot>, AllocError>
         requires slot { IsSome (slot_at self.now seq) }
-        requires ready { IfSome (slot_at self.now seq) (λ slot. IsReady (progress_of slot)) }
-        ensures args { IfOk result (λ snapshot. IfSome (slot_at self.now seq) (λ slot. progress_of slot ≡ Ready snapshot.parts)) }
+        requires ready { IfSome (slot_at self.now seq) (λ slot. HasAllArguments (slot_progress slot)) }
+        ensures args { IfOk result (λ snapshot. IfSome (slot_at self.now seq) (λ slot. slot_progress slot ≡ Ready snapshot.parts)) }
         ensures head { IfOk result (λ snapshot. IfSome (slot_at self.now seq) (λ slot. snapshot ≡ snapshot_with slot.head snapshot.parts)) }
     {
         self.slot(seq).copies(alloc)
@@ -196,9 +196,9 @@ impl Slots {
     /// The same, which is kept until something is undone or the message begins anew, so that it is made only once.
     pub fn seal(&mut self, alloc: Global, seq: Seq) -> Result<Shared<Snapshot>, AllocError>
         requires slot { IsSome (slot_at self.old seq) }
-        requires ready { IfSome (slot_at self.old seq) (λ slot. IsReady (progress_of slot)) }
+        requires ready { IfSome (slot_at self.old seq) (λ slot. HasAllArguments (slot_progress slot)) }
         ensures same { self.new ≡ self.old }
-        ensures args { IfOk result (λ snapshot. IfSome (slot_at self.old seq) (λ slot. progress_of slot ≡ Ready snapshot.parts)) }
+        ensures args { IfOk result (λ snapshot. IfSome (slot_at self.old seq) (λ slot. slot_progress slot ≡ Ready snapshot.parts)) }
         ensures head { IfOk result (λ snapshot. IfSome (slot_at self.old seq) (λ slot. snapshot ≡ snapshot_with slot.head snapshot.parts)) }
     {
         let Ok(place) = place_of(&self.slots, seq) else {
@@ -211,8 +211,8 @@ impl Slots {
     /// Undoes the last `fill` or `take_look` of a message. Its walk is no longer readied. It takes no memory.
     pub fn take_back(&mut self, seq: Seq)
         requires { IsSome (slot_at self.old seq) }
-        ensures word { (before : slot.Slot) (word : ℕ) → IsInOrder before → IsWordNext (progress_of before) → slot_at self.old seq ≡ Some (after_word before word) → ChangesSlot self.old seq (Some before) self.new }
-        ensures look { (before : slot.Slot) (seen : SeenText) → IsInOrder before → IsLookNext (progress_of before) → slot_at self.old seq ≡ Some (after_look before seen) → ChangesSlot self.old seq (Some before) self.new }
+        ensures word { (before : slot.Slot) (word : ℕ) → IsInOrder before → IsWordNext (slot_progress before) → slot_at self.old seq ≡ Some (after_word before word) → ChangesSlot self.old seq (Some before) self.new }
+        ensures look { (before : slot.Slot) (seen : SeenText) → IsInOrder before → IsLookNext (slot_progress before) → slot_at self.old seq ≡ Some (after_look before seen) → ChangesSlot self.old seq (Some before) self.new }
     {
         let Ok(place) = place_of(&self.slots, seq) else {
             unreachable!()

@@ -7,13 +7,13 @@ use Rattle.st_trace.specs.declared.entry.Entry.{Entry}
 use Rattle.st_law.specs.Machine.{entry_of, state_after}
 use Rattle.st_law.specs.State.{State, ThreadState, is_live}
 use Rattle.st_system.specs.System.{IsSystem, Parts}
-use Rattle.st_workers.specs.Kept.{IsKept}
+use Rattle.st_workers.specs.Refinement.{RepresentsMessages}
 use Rattle.st_workers.specs.UnderWay.{UnderWay}
 use Rattle.st_workers.proofs.Turns.{item_put, number_within}
-use Rattle.st_next.specs.Machine.{IsMachine, Running}
+use Rattle.st_decide.specs.Machine.{Refines, Running}
 use Rattle.st_threads.specs.Thread.{ThreadRow, IsRow, IsRowOf}
-use Rattle.st_operator.proofs.Replies.{added_stands}
-use Rattle.st_next.proofs.Reached.{reached_more}
+use Rattle.st_learn.proofs.Replies.{added_stands}
+use Rattle.st_decide.proofs.Reached.{reached_more}
 
 -- the rows represent these threads
 abbrev pub AreRows : List ThreadRow → (ℕ → ThreadState) → Type 0
@@ -55,11 +55,11 @@ rows_changed rows old new u before row there far is are t =
 abbrev pub with_parts : Running → Parts → UnderWay → List ThreadRow → Running
 with_parts m system workers threads = record { input = m.input; system = system; workers = workers; threads = threads; answers = m.answers; operator = m.operator }
 
-module _ (m : Running) (st : State) (is : IsMachine m st) (c : Choice) (e : Entry) (entry : entry_of m.input st c ≡ Some e) (keeps : (state_after m.input st e).session ≡ st.session) (gives : (state_after m.input st e).replied ≡ st.replied) where
-  pub behind : (system : Parts) (workers : UnderWay) (threads : List ThreadRow)
-      → IsSystem m.input (state_after m.input st e) system → IsKept m.input (state_after m.input st e) (is_live (state_after m.input st e)) workers
-      → AreRows threads (state_after m.input st e).threads → length threads ≡ length m.threads → IsMachine (with_parts m system workers threads) (state_after m.input st e)
-  behind system workers threads is_system is_kept are same = record {
+module _ (m : Running) (st : State) (is : Refines m st) (c : Choice) (e : Entry) (entry : entry_of m.input st c ≡ Some e) (keeps : (state_after m.input st e).session ≡ st.session) (gives : (state_after m.input st e).replied ≡ st.replied) where
+  pub following : (system : Parts) (workers : UnderWay) (threads : List ThreadRow)
+      → IsSystem m.input (state_after m.input st e) system → RepresentsMessages m.input (state_after m.input st e) (is_live (state_after m.input st e)) workers
+      → AreRows threads (state_after m.input st e).threads → length threads ≡ length m.threads → Refines (with_parts m system workers threads) (state_after m.input st e)
+  following system workers threads is_system is_kept are same = record {
     reached = reached_more m.input st is.reached c e entry;
     bounded = is.bounded;
     ungranted = is.ungranted;

@@ -10,12 +10,12 @@ use Rattle.st_law.specs.declared.input.Mode.{Mode}
 use Rattle.st_law.specs.declared.input.Mode.TheVariants.{Enforce, Learn, AskText}
 use Rattle.st_law.specs.Machine.{entry_of, question_entry, reply_entry, state_after}
 use Rattle.st_law.specs.State.{State, next_reply, snapshot_in}
-use Rattle.st_operator.specs.Operator.{Added, IsAdded}
-use Rattle.st_next.specs.Machine.{IsMachine, IsStep, Running}
-use Rattle.st_next.specs.Questions.{IsLeastFound}
-use Rattle.st_next.proofs.Reached.{reached_more}
+use Rattle.st_learn.specs.Operator.{Added, IsAdded}
+use Rattle.st_decide.specs.Machine.{Refines, IsStep, Running}
+use Rattle.st_decide.specs.Questions.{IsLeastFound}
+use Rattle.st_decide.proofs.Reached.{reached_more}
 use Rattle.st_machine.proofs.Served.{same_system}
-use Rattle.st_next.proofs.Asked.{entry_here}
+use Rattle.st_decide.proofs.Asked.{entry_here}
 
 -- an entry is the operator's
 abbrev IsOperators : Entry → Type 0
@@ -35,8 +35,8 @@ operators i st q s e AskText is = by (next_reply i st s.policy s.rule) is where
 abbrev pub with_operator : Running → Added → Running
 with_operator m operator = record { input = m.input; system = m.system; workers = m.workers; threads = m.threads; answers = m.answers; operator = operator }
 
-module _ (m : Running) (st : State) (is : IsMachine m st) (new : Added) where
-  on_by : (e : Entry) → IsOperators e → entry_of m.input st Operator ≡ Some e → IsAdded m.input (state_after m.input st e) new → IsMachine (with_operator m new) (state_after m.input st e)
+module _ (m : Running) (st : State) (is : Refines m st) (new : Added) where
+  on_by : (e : Entry) → IsOperators e → entry_of m.input st Operator ≡ Some e → IsAdded m.input (state_after m.input st e) new → Refines (with_operator m new) (state_after m.input st e)
   on_by (Learned q n) kind adds added = record {
     reached = reached_more m.input st is.reached Operator (Learned q n) adds;
     bounded = is.bounded;

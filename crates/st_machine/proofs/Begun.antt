@@ -11,15 +11,15 @@ use Rattle.st_law.specs.Inputs.{IsStartable}
 use Rattle.st_law.specs.Machine.{first_state, first_thread}
 use Rattle.st_law.specs.State.{is_live}
 use Rattle.st_law.specs.Threads.{body_of_row}
-use Rattle.st_operator.specs.Operator.{Added, IsAdded}
+use Rattle.st_learn.specs.Operator.{Added, IsAdded}
 use Rattle.st_reached.specs.Grants.{RepliesUngranted, SetIdsUngranted}
 use Rattle.st_reached.specs.Scripts.{IsBounded}
 use Rattle.st_system.specs.System.{IsSystem, Parts}
-use Rattle.st_workers.specs.Kept.{IsKept}
+use Rattle.st_workers.specs.Refinement.{RepresentsMessages}
 use Rattle.st_workers.specs.UnderWay.{UnderWay}
-use Rattle.st_next.specs.Machine.{IsMachine}
+use Rattle.st_decide.specs.Machine.{Refines}
 use Rattle.st_threads.specs.Thread.{ThreadRow, IsRowOf, first_row}
-use Rattle.st_next.proofs.Reached.{reached_first}
+use Rattle.st_decide.proofs.Reached.{reached_first}
 
 abbrev row_of : start.ThreadRow → ThreadRow
 row_of row = first_row row.body
@@ -35,8 +35,8 @@ module _ (i : Input) (system : Parts) (workers : UnderWay) (threads : List Threa
     by None e = tt
     by (Some row) e = record { left = ap body_of_row e; pending = refl; number = λ q e. absurd (none-some q e); dying = refl; ended = refl }
 
-  pub begun : IsStartable i → IsBounded i.start → SetIdsUngranted i.policies → RepliesUngranted i.replies → IsSystem i (first_state i) system → IsKept i (first_state i) (is_live (first_state i)) workers → IsTableOf i.policies answers → IsAdded i (first_state i) operator
-      → IsMachine (record { input = i; system = system; workers = workers; threads = threads; answers = answers; operator = operator }) (first_state i)
+  pub begun : IsStartable i → IsBounded i.start → SetIdsUngranted i.policies → RepliesUngranted i.replies → IsSystem i (first_state i) system → RepresentsMessages i (first_state i) (is_live (first_state i)) workers → IsTableOf i.policies answers → IsAdded i (first_state i) operator
+      → Refines (record { input = i; system = system; workers = workers; threads = threads; answers = answers; operator = operator }) (first_state i)
   begun startable bounded ungranted replies is_system is_kept is_table is_added = record {
     reached = reached_first i startable;
     bounded = bounded;

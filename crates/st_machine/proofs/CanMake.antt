@@ -24,28 +24,28 @@ use Rattle.st_system.specs.Steps.{CanMake}
 use Rattle.st_system.specs.System.{IsSystem}
 use Rattle.st_trace.specs.declared.entry.Way.{Way}
 use Rattle.st_trace.specs.declared.entry.Way.TheVariants.{Held}
-use Rattle.st_next.specs.Machine.{IsMachine, IsNext, IsRunning, Running}
-use Rattle.st_next.specs.Making.{child_of_row, request_with}
-use Rattle.st_next.specs.NextSteps.{IsFit}
+use Rattle.st_decide.specs.Machine.{Refines, IsNextStep, RefinesSomeState, Running}
+use Rattle.st_decide.specs.Making.{child_of_row, request_with}
+use Rattle.st_decide.specs.NextSteps.{IsFit}
 use Rattle.st_threads.specs.Thread.{ThreadRow}
-use Rattle.st_next.specs.declared.step.Step.TheVariants as steps
-use Rattle.st_next.specs.declared.step.Use.{Use}
+use Rattle.st_decide.specs.declared.step.Step.TheVariants as steps
+use Rattle.st_decide.specs.declared.step.ReadyCall.{ReadyCall}
 use Rattle.st_machine.proofs.MadeSteps.{now, used}
 use Rattle.st_machine.proofs.Moving.{row_making}
-use Rattle.st_next.proofs.NextSteps.{owner_is, row_of}
+use Rattle.st_decide.proofs.NextSteps.{owner_is, row_of}
 
 -- the system and the state agree on whether a thread has started
 unstarted : (o : Option ℕ) (owner : ℕ) (started : Bool) → started ≡ is_some o → started ≡ not (owner == 0) → owner ≡ 0 → o ≡ None
 unstarted None owner started here law none = refl
 unstarted (Some pid) owner started here law none = let clash : not (owner == 0) ≡ true = sym law ∙ here in let zero = ap (λ (n : ℕ). not (n == 0)) none in cc
 
-module _ (m : Running) (st : State) (is : IsMachine m st) (t pid : ℕ) (made : Use) (next : IsNext m t (steps.Make made)) (process : pid_of m.system.processes t ≡ Some pid) (row : ThreadRow) (row_is : item_at_number m.threads t ≡ Some row) where
+module _ (m : Running) (st : State) (is : Refines m st) (t pid : ℕ) (ready : ReadyCall) (next : IsNextStep m t (steps.Make ready)) (process : pid_of m.system.processes t ≡ Some pid) (row : ThreadRow) (row_is : item_at_number m.threads t ≡ Some row) where
   in_run : (P : State → Type 0) → P (state_of_run m.input is.reached.choices) → P st
   in_run P x = subst P (sym is.reached.state_is) x
 
   -- the call is its thread's pending call
-  pending_is : (seq : Option ℕ) (outcome : effects.Outcome) → IsUsed m.input st t seq made.call made.regs made.args made.ids outcome.result outcome.changes
-      → (way : Way) × (child : ℕ) × ((st.threads t).pending ≡ Some (record { call = made.call; regs = made.regs; way = way; child = child }))
+  pending_is : (seq : Option ℕ) (outcome : effects.Outcome) → IsUsed m.input st t seq ready.call ready.regs ready.args ready.ids outcome.result outcome.changes
+      → (way : Way) × (child : ℕ) × ((st.threads t).pending ≡ Some (record { call = ready.call; regs = ready.regs; way = way; child = child }))
   pending_is None outcome x = (x.way, x.entered.0, x.entered.1)
   pending_is (Some q) outcome x = (Held x.held.first, x.held.entered.0, x.held.entered.1)
 
@@ -64,27 +64,27 @@ module _ (m : Running) (st : State) (is : IsMachine m st) (t pid : ℕ) (made : 
       omega (arith, most, instructions, processes)
 
   -- a fork starts a thread that hasn't started
-  child_new : made.call ≡ Fork → (st.threads (child_of_row (item_at_number m.threads t))).owner ≡ 0
+  child_new : ready.call ≡ Fork → (st.threads (child_of_row (item_at_number m.threads t))).owner ≡ 0
   child_new forks =
-      let entered = pending_is made.seq (now m st is t pid made next process row row_is) (used m st is t pid made next process row row_is) in
+      let entered = pending_is ready.seq (now m st is t pid ready next process row row_is) (used m st is t pid ready next process row row_is) in
       let starting : ForksStartNew st = in_run ForksStartNew (forks_start_new m.input is.reached.startable is.bounded.starts is.reached.choices) in
-      let none = starting.child t (record { call = made.call; regs = made.regs; way = entered.0; child = entered.1 }) entered.2 forks in
+      let none = starting.child t (record { call = ready.call; regs = ready.regs; way = entered.0; child = entered.1 }) entered.2 forks in
       let child : child_of_row (item_at_number m.threads t) ≡ entered.1 = ap child_of_row row_is ∙ ap child_of_pending (sym (row_of m st is t row row_is).pending ∙ entered.2) in
       ap (λ (n : ℕ). (st.threads n).owner) child ∙ none
 
   -- a call that sets ids is made under its process's own ids
-  own_ids : schedules.sets_ids made.call ≡ true → made.ids ≡ (process_at m.system.processes pid).ids
+  own_ids : schedules.sets_ids ready.call ≡ true → ready.ids ≡ (process_at m.system.processes pid).ids
   own_ids sets =
       let setting : SetsOwnIds m.input st = in_run (SetsOwnIds m.input) (sets_own_ids m.input is.reached.startable is.ungranted is.replies is.reached.choices) in
-      let outcome = now m st is t pid made next process row row_is in
-      setting.own t made.seq made.call made.regs made.args made.ids outcome.result outcome.changes (used m st is t pid made next process row row_is) sets
+      let outcome = now m st is t pid ready next process row row_is in
+      setting.own t ready.seq ready.call ready.regs ready.args ready.ids outcome.result outcome.changes (used m st is t pid ready next process row row_is) sets
       ∙ ap (λ (p : ℕ). (st.processes p).ids) (owner_is m st is t pid process) ∙ ap (λ (p : Process). p.ids) (is.system.processes pid)
 
   -- each call fulfils its precondition
-  can_make : IsFit m.system made → ((st.threads (child_of_row (item_at_number m.threads t))).owner ≡ 0 → pid_of m.system.processes (child_of_row (item_at_number m.threads t)) ≡ None)
-      → CanMake made.call m.system (request_with m t pid made)
-  can_make fit new = by made.call refl fit.fit where
-    by : (call : SysCall) → made.call ≡ call → AreFit call made.args → CanMake call m.system (request_with m t pid made)
+  can_make : IsFit m.system ready → ((st.threads (child_of_row (item_at_number m.threads t))).owner ≡ 0 → pid_of m.system.processes (child_of_row (item_at_number m.threads t)) ≡ None)
+      → CanMake ready.call m.system (request_with m t pid ready)
+  can_make fit new = by ready.call refl fit.fit where
+    by : (call : SysCall) → ready.call ≡ call → AreFit call ready.args → CanMake call m.system (request_with m t pid ready)
     by Fork e x =
         let pids = few_pids in
         let spaces = few_memories in
@@ -102,16 +102,16 @@ module _ (m : Running) (st : State) (is : IsMachine m st) (t pid : ℕ) (made : 
     by _ e x = x
 
 -- the same by a view of the machine, where it is known whether the thread that the call starts has started
-pub can_use : (m seen : Running) → m ≡ seen → IsRunning m → (t pid : ℕ) (made : Use) → IsNext seen t (steps.Make made) → IsFit seen.system made → pid_of seen.system.processes t ≡ Some pid
+pub can_use : (m seen : Running) → m ≡ seen → RefinesSomeState m → (t pid : ℕ) (ready : ReadyCall) → IsNextStep seen t (steps.Make ready) → IsFit seen.system ready → pid_of seen.system.processes t ≡ Some pid
     → (child : ℕ) → child ≡ child_of_row (item_at_number seen.threads t) → (started : Bool) → started ≡ is_some (pid_of m.system.processes child)
-    → ((i : Input) (st : State) → IsSystem i st m.system → started ≡ not ((st.threads child).owner == 0)) → CanMake made.call seen.system (request_with seen t pid made)
-can_use m seen same running t pid made next fit process child child_seen started here law =
+    → ((i : Input) (st : State) → IsSystem i st m.system → started ≡ not ((st.threads child).owner == 0)) → CanMake ready.call seen.system (request_with seen t pid ready)
+can_use m seen same running t pid ready next fit process child child_seen started here law =
     let st = running.state in
-    let next_here = subst (λ (k : Running). IsNext k t (steps.Make made)) (sym same) next in
+    let next_here = subst (λ (k : Running). IsNextStep k t (steps.Make ready)) (sym same) next in
     let child_is : child ≡ child_of_row (item_at_number m.threads t) = child_seen ∙ ap (λ (k : Running). child_of_row (item_at_number k.threads t)) (sym same) in
-    let row = row_making m running t made next_here in
+    let row = row_making m running t ready next_here in
     let new = λ (none : (st.threads (child_of_row (item_at_number m.threads t))).owner ≡ 0).
     subst (λ (n : ℕ). pid_of m.system.processes n ≡ None) child_is
     (unstarted (pid_of m.system.processes child) (st.threads child).owner started here (law m.input st running.is.system) (ap (λ (n : ℕ). (st.threads n).owner) child_is ∙ none)) in
-    subst (λ (k : Running). CanMake made.call k.system (request_with k t pid made)) same
-    (can_make m st running.is t pid made next_here (ap (λ (k : Running). pid_of k.system.processes t) same ∙ process) row.0 row.1 (subst (λ (k : Running). IsFit k.system made) (sym same) fit) new)
+    subst (λ (k : Running). CanMake ready.call k.system (request_with k t pid ready)) same
+    (can_make m st running.is t pid ready next_here (ap (λ (k : Running). pid_of k.system.processes t) same ∙ process) row.0 row.1 (subst (λ (k : Running). IsFit k.system ready) (sym same) fit) new)

@@ -6,9 +6,9 @@ use Rattle.std.specs.Prelude.{nat_le, nat_lt}
 use Rattle.st_law.specs.Machine.{entry_of, turn_entry}
 use Rattle.st_law.specs.State.{State, is_worker, worker_at}
 use Rattle.st_trace.specs.declared.entry.Choice.TheVariants as choice
-use Rattle.st_next.specs.Machine.{IsMachine, Running}
+use Rattle.st_decide.specs.Machine.{Refines, Running}
 
-module _ (m : Running) (st : State) (is : IsMachine m st) where
+module _ (m : Running) (st : State) (is : Refines m st) where
   absent : (w : ℕ) → is_worker m.input w ≡ false → entry_of m.input st (choice.Worker w) ≡ None
   absent w e = ap (λ (b : Bool). cond b (turn_entry m.input st w (worker_at st w)) None) e
 

@@ -21,20 +21,20 @@ use Rattle.st_law.specs.Threads.{child_of_next}
 use Rattle.st_reached.proofs.LifeByEntry.{held_life}
 use Rattle.st_reached.proofs.Owning.{none_pending}
 use Rattle.st_reached.proofs.Reached.{lawful_entry}
-use Rattle.st_workers.specs.Kept.{head_of, ChangesLife, IsKept, IsKeptAfter}
+use Rattle.st_workers.specs.Refinement.{head_of, ChangesLife, RepresentsMessages, RepresentsMessagesAfter}
 use Rattle.st_workers.specs.UnderWay.{UnderWay}
 use Rattle.st_workers.proofs.Threads.{others_have_no_number}
-use Rattle.st_next.specs.Entering.{IsUnposted, IsWayOf}
-use Rattle.st_next.specs.Machine.{IsMachine, IsNext, IsStep, Running}
+use Rattle.st_decide.specs.Entering.{IsUnposted, IsWayOf}
+use Rattle.st_decide.specs.Machine.{Refines, IsNextStep, IsStep, Running}
 use Rattle.st_threads.specs.Thread.{ThreadRow, IsRow, number_held, row_entered}
-use Rattle.st_next.specs.declared.step.Step.TheVariants as steps
-use Rattle.st_machine.proofs.After.{AreRows, HasComeAsFar, behind, rows_changed, with_parts}
-use Rattle.st_next.proofs.NextSteps.{row_of}
-use Rattle.st_next.proofs.Reached.{reached_of}
+use Rattle.st_decide.specs.declared.step.Step.TheVariants as steps
+use Rattle.st_machine.proofs.After.{AreRows, HasComeAsFar, following, rows_changed, with_parts}
+use Rattle.st_decide.proofs.NextSteps.{row_of}
+use Rattle.st_decide.proofs.Reached.{reached_of}
 use Rattle.st_threads.proofs.Rows.{either_none, holds}
 use Rattle.st_machine.proofs.Served.{same_system}
 
-module _ (m : Running) (t : ℕ) (call : SysCall) (regs : List ℕ) (next : IsNext m t (steps.Enter call regs)) (way : Way) (goes : IsWayOf m t call regs way) (st : State) (is : IsMachine m st) where
+module _ (m : Running) (t : ℕ) (call : SysCall) (regs : List ℕ) (next : IsNextStep m t (steps.Enter call regs)) (way : Way) (goes : IsWayOf m t call regs way) (st : State) (is : Refines m st) where
   -- the entry is that of the law's machine
   pub entered_entry_is : entry_of m.input st (choice.Thread t) ≡ Some (Entered t call regs way)
   entered_entry_is = next st is ∙ ap (λ (w : Way). Some (Entered t call regs w)) (goes st is)
@@ -71,13 +71,13 @@ module _ (m : Running) (t : ℕ) (call : SysCall) (regs : List ℕ) (next : IsNe
       rows_changed m.threads st.threads (thread_after st (Entered t call regs way)) t row (row_entered row call regs way) row_is (others (λ u. u) same) (own row (row_of m st is t row row_is) number) is.threads
 
 -- a call that isn't held
-module _ (m : Running) (t : ℕ) (call : SysCall) (regs : List ℕ) (next : IsNext m t (steps.Enter call regs)) (row : ThreadRow) (row_is : item_at_number m.threads t ≡ Some row) where
+module _ (m : Running) (t : ℕ) (call : SysCall) (regs : List ℕ) (next : IsNextStep m t (steps.Enter call regs)) (row : ThreadRow) (row_is : item_at_number m.threads t ≡ Some row) where
   pub unheld_step : (way : Way) → IsWayOf m t call regs way → IsUnposted way → IsStep m (choice.Thread t) (Some (Entered t call regs way)) (with_parts m m.system m.workers (set m.threads (t - 1) (row_entered row call regs way)))
   unheld_step Fast goes unposted st is =
       let e = Entered t call regs Fast in
       let entry = entered_entry_is m t call regs next Fast goes st is in (
         entry,
-        behind m st is (choice.Thread t) e entry refl refl m.system m.workers (set m.threads (t - 1) (row_entered row call regs Fast))
+        following m st is (choice.Thread t) e entry refl refl m.system m.workers (set m.threads (t - 1) (row_entered row call regs Fast))
             (same_system m.input st (state_after m.input st e) m.system refl refl refl refl refl refl (λ u. refl) (λ u. refl) is.system) is.workers
             (rows m t call regs next Fast goes st is row row_is (λ u ne. refl) (λ q e. absurd (none-some q (sym (either_none row.dying) ∙ e)))) (length-set m.threads (t - 1) _),
       )
@@ -85,7 +85,7 @@ module _ (m : Running) (t : ℕ) (call : SysCall) (regs : List ℕ) (next : IsNe
       let e = Entered t call regs (Barred n) in
       let entry = entered_entry_is m t call regs next (Barred n) goes st is in (
         entry,
-        behind m st is (choice.Thread t) e entry refl refl m.system m.workers (set m.threads (t - 1) (row_entered row call regs (Barred n)))
+        following m st is (choice.Thread t) e entry refl refl m.system m.workers (set m.threads (t - 1) (row_entered row call regs (Barred n)))
             (same_system m.input st (state_after m.input st e) m.system refl refl refl refl refl refl (λ u. refl) (λ u. refl) is.system) is.workers
             (rows m t call regs next (Barred n) goes st is row row_is (λ u ne. refl) (λ q e. absurd (none-some q (sym (either_none row.dying) ∙ e)))) (length-set m.threads (t - 1) _),
       )
@@ -93,23 +93,23 @@ module _ (m : Running) (t : ℕ) (call : SysCall) (regs : List ℕ) (next : IsNe
       let e = Entered t call regs Untraced in
       let entry = entered_entry_is m t call regs next Untraced goes st is in (
         entry,
-        behind m st is (choice.Thread t) e entry refl refl m.system m.workers (set m.threads (t - 1) (row_entered row call regs Untraced))
+        following m st is (choice.Thread t) e entry refl refl m.system m.workers (set m.threads (t - 1) (row_entered row call regs Untraced))
             (same_system m.input st (state_after m.input st e) m.system refl refl refl refl refl refl (λ u. refl) (λ u. refl) is.system) is.workers
             (rows m t call regs next Untraced goes st is row row_is (λ u ne. refl) (λ q e. absurd (none-some q (sym (either_none row.dying) ∙ e)))) (length-set m.threads (t - 1) _),
       )
   unheld_step (Held q) goes unposted st is = absurd unposted
 
   -- no live number is of a thread that enters a call
-  pub no_number : (way : Way) → IsWayOf m t call regs way → (st : State) → IsMachine m st → HasNoNumber m.workers.calls t
+  pub no_number : (way : Way) → IsWayOf m t call regs way → (st : State) → Refines m st → HasNoNumber m.workers.calls t
   no_number way goes st is =
       let law = entered_law m t call regs next way goes st is in
       let owned = (reached_of m.input st is.reached).owned in
       others_have_no_number m.input st.messages st.turns (is_live st) st.posted m.workers t is.workers (λ q head alive posted same. true≢false (sym alive ∙ none_pending st owned t law.idle q head posted same))
 
   -- a call that is held under the next number
-  pub held_step : (q : ℕ) → IsWayOf m t call regs (Held q) → (workers : UnderWay) (head : kept.Head) → ((st : State) → IsMachine m st → head_of t head ≡ new_head m.input t (st.threads t).owner (st.processes (st.threads t).owner) call regs)
-      → ((i : Input) (st : State) (alive later : ℕ → Bool) (made : SysCall) (registers : List ℕ) → IsKept i st alive m.workers → head_of t head ≡ new_head i t (st.threads t).owner (st.processes (st.threads t).owner) made registers
-      → ChangesLife alive (suc st.posted) true later → IsKeptAfter i st (Entered t made registers (Held (suc st.posted))) later workers)
+  pub held_step : (q : ℕ) → IsWayOf m t call regs (Held q) → (workers : UnderWay) (head : kept.Head) → ((st : State) → Refines m st → head_of t head ≡ new_head m.input t (st.threads t).owner (st.processes (st.threads t).owner) call regs)
+      → ((i : Input) (st : State) (alive later : ℕ → Bool) (ready : SysCall) (registers : List ℕ) → RepresentsMessages i st alive m.workers → head_of t head ≡ new_head i t (st.threads t).owner (st.processes (st.threads t).owner) ready registers
+      → ChangesLife alive (suc st.posted) true later → RepresentsMessagesAfter i st (Entered t ready registers (Held (suc st.posted))) later workers)
       → IsStep m (choice.Thread t) (Some (Entered t call regs (Held q))) (with_parts m m.system workers (set m.threads (t - 1) (row_entered row call regs (Held q))))
   held_step q goes workers head is_head posts st is =
       let e = Entered t call regs (Held q) in
@@ -120,12 +120,12 @@ module _ (m : Running) (t : ℕ) (call : SysCall) (regs : List ℕ) (next : IsNe
       let life : ChangesLife (is_live st) (suc st.posted) true later = subst (λ (n : ℕ). ChangesLife (is_live st) n true later) drawn (λ other. held_life m.input st (reached_of m.input st is.reached) t q call regs law other) in
       let after = posts m.input st (is_live st) later call regs is.workers (is_head st is) life in (
         entry,
-        behind m st is (choice.Thread t) e entry refl refl m.system workers (set m.threads (t - 1) (row_entered row call regs (Held q)))
+        following m st is (choice.Thread t) e entry refl refl m.system workers (set m.threads (t - 1) (row_entered row call regs (Held q)))
             (same_system m.input st (state_after m.input st e) m.system refl refl refl refl refl refl (λ u. refl) (λ u. refl) is.system)
-            (subst (λ (n : ℕ). IsKeptAfter m.input st (Entered t call regs (Held n)) later workers) (sym drawn) after)
+            (subst (λ (n : ℕ). RepresentsMessagesAfter m.input st (Entered t call regs (Held n)) later workers) (sym drawn) after)
             (rows m t call regs next (Held q) goes st is row row_is (λ u ne. ap (λ (b : Bool). cond b q (st.threads u).number) (ne_eqb t u (λ e. ne (sym e)))) (λ p e. ap (λ (b : Bool). cond b q (st.threads t).number) (eq-eqb t t refl) ∙ (holds (row_entered row call regs (Held q)) p e).number)) (length-set m.threads (t - 1) _),
       )
 
 -- the number that a call is held under is the next one
-pub next_number : (m : Running) (t : ℕ) (call : SysCall) (regs : List ℕ) → IsNext m t (steps.Enter call regs) → (q : ℕ) → IsWayOf m t call regs (Held q) → (st : State) → IsMachine m st → q ≡ m.workers.calls.next
+pub next_number : (m : Running) (t : ℕ) (call : SysCall) (regs : List ℕ) → IsNextStep m t (steps.Enter call regs) → (q : ℕ) → IsWayOf m t call regs (Held q) → (st : State) → Refines m st → q ≡ m.workers.calls.next
 next_number m t call regs next q goes st is = (entered_law m t call regs next (Held q) goes st is).way_is.1 ∙ sym is.workers.agrees.next

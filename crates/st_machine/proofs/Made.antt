@@ -11,7 +11,7 @@ use Rattle.st_law.proofs.Shapes.{AreQuiet, Each, IsQuiet}
 use Rattle.st_model.specs.Processes.{Processes, StartedThread, thread_at}
 use Rattle.st_reached.specs.Reached.{is_head_of, life_after_change, life_after_changes}
 use Rattle.st_reached.proofs.Life.{eqb-sym}
-use Rattle.st_system.specs.System.{IsThread}
+use Rattle.st_system.specs.System.{IsThreadState}
 use Rattle.st_trace.specs.declared.entry.Change.{Change}
 use Rattle.st_trace.specs.declared.entry.Change.TheVariants.{Dying, Execed, Forked, Renewed}
 use Rattle.st_threads.specs.Ending.{ends_with, is_ended_by, is_head_among, life_but, owner_of}
@@ -109,20 +109,20 @@ module _ (processes : Processes) (t m : ℕ) where
       u = head.tid
 
       -- after a change that ends its thread or doesn't, by what the later changes do
-      behind : (changes : List Change) → Each IsCalm changes → ((alive : ℕ → Bool) → alive other ≡ true → life_after_changes st m alive changes other ≡ not (ended changes u)) → (then : ℕ → Bool) (b d : Bool) → then other ≡ cond b false true → b ≡ d
+      following : (changes : List Change) → Each IsCalm changes → ((alive : ℕ → Bool) → alive other ≡ true → life_after_changes st m alive changes other ≡ not (ended changes u)) → (then : ℕ → Bool) (b d : Bool) → then other ≡ cond b false true → b ≡ d
           → life_after_changes st m then changes other ≡ not (d || ended changes u)
-      behind changes calm on then true d is same = dead_when_calm changes calm then is ∙ ap (λ (b : Bool). not (b || ended changes u)) same
-      behind changes calm on then false d is same = on then is ∙ ap (λ (b : Bool). not (b || ended changes u)) same
+      following changes calm on then true d is same = dead_when_calm changes calm then is ∙ ap (λ (b : Bool). not (b || ended changes u)) same
+      following changes calm on then false d is same = on then is ∙ ap (λ (b : Bool). not (b || ended changes u)) same
 
       goes_on : (changes : List Change) → Each IsCalm changes → (alive : ℕ → Bool) → alive other ≡ true → life_after_changes st m alive changes other ≡ not (ended changes u)
       goes_on [] calm alive e = e
       goes_on (Renewed old new ∷ changes) calm alive e = absurd calm.0
       goes_on (Forked pid space tid ∷ changes) calm alive e = absurd calm.0
       goes_on (Dying pid ∷ changes) calm alive e =
-          behind changes calm.1 (goes_on changes calm.1) (life_after_change st m alive (Dying pid)) (pid == (st.threads u).owner) (ends_with processes pid 0 u)
+          following changes calm.1 (goes_on changes calm.1) (life_after_change st m alive (Dying pid)) (pid == (st.threads u).owner) (ends_with processes pid 0 u)
           (λ k. cond (is_head_of st pid (posted k)) false (e k)) (killed u (st.threads u).owner (own head posted) there pid)
       goes_on (Execed binary space ∷ changes) calm alive e =
-          behind changes calm.1 (goes_on changes calm.1) (life_after_change st m alive (Execed binary space)) (m == (st.threads u).owner) (ends_with processes m t u)
+          following changes calm.1 (goes_on changes calm.1) (life_after_change st m alive (Execed binary space)) (m == (st.threads u).owner) (ends_with processes m t u)
           (λ k. cond (is_head_of st m (posted k)) false (e k))
           (and_so (m == (st.threads u).owner) ∙ ap (λ (b : Bool). m == (st.threads u).owner && not b) (sym (ne_eqb t u (λ e. another (sym e)))) ∙ replaced u (st.threads u).owner (own head posted) there)
       goes_on (_ ∷ changes) calm alive e = goes_on changes calm.1 alive e
@@ -149,8 +149,8 @@ module _ (processes : Processes) (t m : ℕ) where
 -- ---- the processes of threads
 
 -- a thread's process is that of its state
-pub owner_by : (processes : Processes) (u : ℕ) (thread : ThreadState) → IsThread (thread_at processes u) thread → owner_of processes u ≡ thread.owner
+pub owner_by : (processes : Processes) (u : ℕ) (thread : ThreadState) → IsThreadState (thread_at processes u) thread → owner_of processes u ≡ thread.owner
 owner_by processes u thread is = by (thread_at processes u) is where
-  by : (o : Option StartedThread) → IsThread o thread → unwrap_or (option_map (λ (started : StartedThread). started.pid) o) 0 ≡ thread.owner
+  by : (o : Option StartedThread) → IsThreadState o thread → unwrap_or (option_map (λ (started : StartedThread). started.pid) o) 0 ≡ thread.owner
   by None x = sym x.0
   by (Some started) x = sym x.0

@@ -31,7 +31,7 @@ use Rattle.st_reached.specs.Reached.{life_after_changes}
 use Rattle.st_reached.proofs.LifeByEntry.{life_is}
 use Rattle.st_reached.proofs.Reached.{Reached, lawful_entry}
 use Rattle.st_request.specs.declared.outcome.Outcome.{Outcome}
-use Rattle.st_system.specs.Steps.{HasChild, IsDone, IsMade, renewals_of, sets_ids, with_renewals}
+use Rattle.st_system.specs.Steps.{HasChild, IsCallMade, IsMade, renewals_of, sets_ids, with_renewals}
 use Rattle.st_system.specs.System.{IsSystem, Parts}
 use Rattle.st_trace.specs.declared.entry.Change.{Change}
 use Rattle.st_trace.specs.declared.entry.Change.TheVariants.{Forked}
@@ -40,23 +40,23 @@ use Rattle.st_trace.specs.declared.entry.Entry.{Entry}
 use Rattle.st_trace.specs.declared.entry.Entry.TheVariants.{Used}
 use Rattle.st_trace.specs.declared.entry.Way.{Way}
 use Rattle.st_trace.specs.declared.entry.Way.TheVariants.{Fast, Barred, Held, Untraced}
-use Rattle.st_workers.specs.Kept.{AreKept, IsKept}
+use Rattle.st_workers.specs.Refinement.{RepresentsMachineMessages, RepresentsMessages}
 use Rattle.st_workers.specs.UnderWay.{UnderWay}
 use Rattle.st_workers.proofs.Closing.{closing_is_not_kept}
 use Rattle.st_workers.proofs.Ended.{lives_as}
 use Rattle.st_workers.proofs.Turns.{item_put, number_within}
-use Rattle.st_threads.specs.Ending.{AreHeld, EndsCall, HasNumber, HaveCalls, HaveEnded, is_ended_by, is_head_among, life_but, life_without_number, owner_of, row_dying_if}
-use Rattle.st_next.specs.Machine.{IsMachine, IsNext, IsStep, Running}
-use Rattle.st_next.specs.Making.{child_of_row, request_with}
+use Rattle.st_threads.specs.Ending.{AreLiveNumbersHeld, EndsCall, HasNumber, HaveCalls, HaveEnded, is_ended_by, is_head_among, life_but, life_without_number, owner_of, row_dying_if}
+use Rattle.st_decide.specs.Machine.{Refines, IsNextStep, IsStep, Running}
+use Rattle.st_decide.specs.Making.{child_of_row, request_with}
 use Rattle.st_threads.specs.Thread.{ThreadRow, IsRow, IsRowOf, number_by_way, number_held, number_pending}
-use Rattle.st_next.specs.declared.step.Step.TheVariants as steps
-use Rattle.st_next.specs.declared.step.Use.{Use}
-use Rattle.st_machine.proofs.After.{behind, with_parts}
+use Rattle.st_decide.specs.declared.step.Step.TheVariants as steps
+use Rattle.st_decide.specs.declared.step.ReadyCall.{ReadyCall}
+use Rattle.st_machine.proofs.After.{following, with_parts}
 use Rattle.st_threads.proofs.HeldEnds.{closed_held, not_dead}
-use Rattle.st_next.proofs.HeldCalls.{are_held}
+use Rattle.st_decide.proofs.HeldCalls.{are_held}
 use Rattle.st_machine.proofs.Made.{IsCalm, calm_when_execed, calm_when_quiet, dying_when_calm, life_when_calm, mute_when_calm, owner_by, owner_when_calm}
-use Rattle.st_next.proofs.NextSteps.{owner_is, row_of}
-use Rattle.st_next.proofs.Reached.{reached_of}
+use Rattle.st_decide.proofs.NextSteps.{owner_is, row_of}
+use Rattle.st_decide.proofs.Reached.{reached_of}
 use Rattle.st_threads.proofs.Rows.{held_number, none_closed, none_dying}
 
 -- both definitions agree on whether a call sets ids
@@ -79,7 +79,7 @@ child_by i _ request x = tt
 
 -- ---- the call that is made
 
-module _ (m : Running) (st : State) (is : IsMachine m st) (t pid : ℕ) (made : Use) (process : pid_of m.system.processes t ≡ Some pid) (row : ThreadRow) (row_is : item_at_number m.threads t ≡ Some row) where
+module _ (m : Running) (st : State) (is : Refines m st) (t pid : ℕ) (ready : ReadyCall) (process : pid_of m.system.processes t ≡ Some pid) (row : ThreadRow) (row_is : item_at_number m.threads t ≡ Some row) where
   abbrev i : Input
   i = m.input
 
@@ -93,11 +93,11 @@ module _ (m : Running) (st : State) (is : IsMachine m st) (t pid : ℕ) (made : 
   child_is = ap child_of_row row_is ∙ ap child_of_pending (sym its.pending)
 
   -- the request is that of the law's machine
-  pub request_is : request_with m t pid made ≡ request_of i st t made.regs made.args made.ids
-  request_is = λ k. record { tid = t; pid = sym (owner_is m st is t pid process) k; ids = made.ids; regs = made.regs; args = made.args; child = child_is k; inherit = i.options.inherit }
+  pub request_is : request_with m t pid ready ≡ request_of i st t ready.regs ready.args ready.ids
+  request_is = λ k. record { tid = t; pid = sym (owner_is m st is t pid process) k; ids = ready.ids; regs = ready.regs; args = ready.args; child = child_is k; inherit = i.options.inherit }
 
   -- the number that the call is made under is that of its thread's held call
-  pub seq_of : (seq : Option ℕ) (call : SysCall) (regs : List ℕ) (outcome : effects.Outcome) → IsUsed i st t seq call regs made.args made.ids outcome.result outcome.changes → seq ≡ number_held row
+  pub seq_of : (seq : Option ℕ) (call : SysCall) (regs : List ℕ) (outcome : effects.Outcome) → IsUsed i st t seq call regs ready.args ready.ids outcome.result outcome.changes → seq ≡ number_held row
   seq_of None call regs outcome x = none_unheld row.number x.way x.unheld
       ∙ sym (λ k. cond ((sym its.dying ∙ x.running.undying) k) None (number_pending row.number ((sym its.pending ∙ x.entered.1) k)))
   seq_of (Some q) call regs outcome x =
@@ -111,44 +111,44 @@ module _ (m : Running) (st : State) (is : IsMachine m st) (t pid : ℕ) (made : 
       let has : invariant.HasChild i entered = subst (IfPending (invariant.HasChild i)) x.1 (reached.whole.calls.children t) in
       subst (inputs.IsThread i) (sym (child_is ∙ ap child_of_pending x.1)) (has.child forks)
 
-  pub has_child : (seq : Option ℕ) (call : SysCall) (regs : List ℕ) (outcome : effects.Outcome) → IsUsed i st t seq call regs made.args made.ids outcome.result outcome.changes → HasChild i call (request_with m t pid made)
-  has_child None call regs outcome x = child_by i call (request_with m t pid made) (child_there call regs x.way x.entered)
-  has_child (Some q) call regs outcome x = child_by i call (request_with m t pid made) (child_there call regs (Held x.held.first) x.held.entered)
+  pub has_child : (seq : Option ℕ) (call : SysCall) (regs : List ℕ) (outcome : effects.Outcome) → IsUsed i st t seq call regs ready.args ready.ids outcome.result outcome.changes → HasChild i call (request_with m t pid ready)
+  has_child None call regs outcome x = child_by i call (request_with m t pid ready) (child_there call regs x.way x.entered)
+  has_child (Some q) call regs outcome x = child_by i call (request_with m t pid ready) (child_there call regs (Held x.held.first) x.held.entered)
 
-module _ (m : Running) (st : State) (is : IsMachine m st) (t pid : ℕ) (made : Use) (next : IsNext m t (steps.Make made)) (process : pid_of m.system.processes t ≡ Some pid) (row : ThreadRow) (row_is : item_at_number m.threads t ≡ Some row) where
+module _ (m : Running) (st : State) (is : Refines m st) (t pid : ℕ) (ready : ReadyCall) (next : IsNextStep m t (steps.Make ready)) (process : pid_of m.system.processes t ≡ Some pid) (row : ThreadRow) (row_is : item_at_number m.threads t ≡ Some row) where
   abbrev pub now : effects.Outcome
-  now = effect (system_of m.input st) made.call (request_of m.input st t made.regs made.args made.ids)
+  now = effect (system_of m.input st) ready.call (request_of m.input st t ready.regs ready.args ready.ids)
 
-  pub used : IsUsed m.input st t made.seq made.call made.regs made.args made.ids now.result now.changes
-  used = lawful_entry m.input st (reached_of m.input st is.reached) (choice.Thread t) (Used t made.seq made.call made.regs made.args made.ids now.result now.changes) (next st is)
+  pub used : IsUsed m.input st t ready.seq ready.call ready.regs ready.args ready.ids now.result now.changes
+  used = lawful_entry m.input st (reached_of m.input st is.reached) (choice.Thread t) (Used t ready.seq ready.call ready.regs ready.args ready.ids now.result now.changes) (next st is)
 
-  pub seq_is : made.seq ≡ number_held row
-  seq_is = seq_of m st is t pid made process row row_is made.seq made.call made.regs now used
+  pub seq_is : ready.seq ≡ number_held row
+  seq_is = seq_of m st is t pid ready process row row_is ready.seq ready.call ready.regs now used
 
   -- the rows after the thread's own call has ended
   abbrev closed : List ThreadRow
   closed = set m.threads (t - 1) (record row { pending = None })
 
-  pub are_closed : AreHeld st (life_without_number (is_live st) made.seq) closed
-  are_closed = subst (λ (seq : Option ℕ). AreHeld st (life_without_number (is_live st) seq) closed) (sym seq_is) (closed_held st (is_live st) m.threads (are_held m st is) t row row_is)
+  pub are_closed : AreLiveNumbersHeld st (life_without_number (is_live st) ready.seq) closed
+  are_closed = subst (λ (seq : Option ℕ). AreLiveNumbersHeld st (life_without_number (is_live st) seq) closed) (sym seq_is) (closed_held st (is_live st) m.threads (are_held m st is) t row row_is)
 
-  pub seq_lives : IfSome made.seq (λ q. is_live st q ≡ true)
-  seq_lives = by made.seq seq_is where
+  pub seq_lives : IfSome ready.seq (λ q. is_live st q ≡ true)
+  seq_lives = by ready.seq seq_is where
     by : (seq : Option ℕ) → seq ≡ number_held row → IfSome seq (λ q. is_live st q ≡ true)
     by None e = tt
     by (Some q) e = ((are_held m st is).lives t row q row_is (sym e)).lives
 
   -- the number of the call is live among the messages, too
-  pub seq_there : IfSome made.seq (λ q. calls.is_live m.workers.calls q ≡ true)
-  seq_there = by made.seq seq_lives where
-    by : (seq : Option ℕ) → IfSome seq (λ q. is_live st q ≡ true) → IfSome seq (λ q. calls.is_live m.workers.calls q ≡ true)
+  pub seq_there : IfSome ready.seq (λ q. calls.is_live_number m.workers.calls q ≡ true)
+  seq_there = by ready.seq seq_lives where
+    by : (seq : Option ℕ) → IfSome seq (λ q. is_live st q ≡ true) → IfSome seq (λ q. calls.is_live_number m.workers.calls q ≡ true)
     by None x = tt
     by (Some q) x = lives_as m.input st (is_live st) m.workers q is.workers ∙ x
 
-  pub calls_closed : (between : UnderWay) → EndsCall made.seq m.workers between → HaveCalls closed between
-  calls_closed between ends = record { input = m.input; state = st; alive = life_without_number (is_live st) made.seq; kept = ends m.input st (is_live st) is.workers; held = are_closed }
+  pub calls_closed : (between : UnderWay) → EndsCall ready.seq m.workers between → HaveCalls closed between
+  calls_closed between ends = record { input = m.input; state = st; alive = life_without_number (is_live st) ready.seq; kept = ends m.input st (is_live st) is.workers; held = are_closed }
 
-  module _ (sets_none : schedules.sets_ids made.call ≡ false) (outcome : Outcome) (parts : Parts) (done : IsDone made.call (request_with m t pid made) outcome m.system parts) where
+  module _ (sets_none : schedules.sets_ids ready.call ≡ false) (outcome : Outcome) (parts : Parts) (done : IsCallMade ready.call (request_with m t pid ready) outcome m.system parts) where
     abbrev input : Input
     input = m.input
 
@@ -156,26 +156,26 @@ module _ (m : Running) (st : State) (is : IsMachine m st) (t pid : ℕ) (made : 
     changes = outcome.changes
 
     abbrev entry : Entry
-    entry = Used t made.seq made.call made.regs made.args made.ids outcome.result outcome.changes
+    entry = Used t ready.seq ready.call ready.regs ready.args ready.ids outcome.result outcome.changes
 
-    is_made : IsMade input st made.seq made.call (request_with m t pid made) outcome parts
-    is_made = done input st is.system (request_is m st is t pid made process row row_is) (has_child m st is t pid made process row row_is made.seq made.call made.regs now used) made.seq
+    is_made : IsMade input st ready.seq ready.call (request_with m t pid ready) outcome parts
+    is_made = done input st is.system (request_is m st is t pid ready process row row_is) (has_child m st is t pid ready process row row_is ready.seq ready.call ready.regs now used) ready.seq
 
-    unrenewed : with_renewals input st made.call (request_with m t pid made) outcome.result outcome.changes ≡ outcome.changes
-    unrenewed = ap (λ (b : Bool). cond b (outcome.changes ++ renewals_of input st (request_with m t pid made) outcome.result) outcome.changes) (same_sets made.call ∙ sets_none)
+    unrenewed : with_renewals input st ready.call (request_with m t pid ready) outcome.result outcome.changes ≡ outcome.changes
+    unrenewed = ap (λ (b : Bool). cond b (outcome.changes ++ renewals_of input st (request_with m t pid ready) outcome.result) outcome.changes) (same_sets ready.call ∙ sets_none)
 
     entry_is : entry_of input st (choice.Thread t) ≡ Some entry
     entry_is =
-        let request = request_is m st is t pid made process row row_is in
-        let result = ap (λ (r : effects.Request). (effect (system_of input st) made.call r).result) (sym request) ∙ sym is_made.result in
-        let changed = ap (λ (r : effects.Request). (effect (system_of input st) made.call r).changes) (sym request) ∙ sym is_made.changes ∙ unrenewed in
-        next st is ∙ (λ k. Some (Used t made.seq made.call made.regs made.args made.ids (result k) (changed k)))
+        let request = request_is m st is t pid ready process row row_is in
+        let result = ap (λ (r : effects.Request). (effect (system_of input st) ready.call r).result) (sym request) ∙ sym is_made.result in
+        let changed = ap (λ (r : effects.Request). (effect (system_of input st) ready.call r).changes) (sym request) ∙ sym is_made.changes ∙ unrenewed in
+        next st is ∙ (λ k. Some (Used t ready.seq ready.call ready.regs ready.args ready.ids (result k) (changed k)))
 
-    law : IsUsed input st t made.seq made.call made.regs made.args made.ids outcome.result changes
+    law : IsUsed input st t ready.seq ready.call ready.regs ready.args ready.ids outcome.result changes
     law = lawful_entry input st (reached_of input st is.reached) (choice.Thread t) entry entry_is
 
     is_system : IsSystem input (state_after input st entry) parts
-    is_system = subst (λ (cs : List Change). IsSystem input (state_after input st (Used t made.seq made.call made.regs made.args made.ids outcome.result cs)) parts) unrenewed is_made.system
+    is_system = subst (λ (cs : List Change). IsSystem input (state_after input st (Used t ready.seq ready.call ready.regs ready.args ready.ids outcome.result cs)) parts) unrenewed is_made.system
 
     -- ---- what the changes end
 
@@ -183,7 +183,7 @@ module _ (m : Running) (st : State) (is : IsMachine m st) (t pid : ℕ) (made : 
     ended = is_ended_by parts.processes t pid changes
 
     abbrev alive : ℕ → Bool
-    alive = life_without_number (is_live st) made.seq
+    alive = life_without_number (is_live st) ready.seq
 
     record Ends : Type 0 where
       pub mute : AreMute changes
@@ -205,7 +205,7 @@ module _ (m : Running) (st : State) (is : IsMachine m st) (t pid : ℕ) (made : 
     -- a number that is still live is another thread's
     mine : (other : ℕ) → alive other ≡ true → (head : Head) × ((st.messages other).head ≡ Some head) × (head.tid ≢ 0) × (head.tid ≢ t)
     mine other e =
-        let found = headless other (st.messages other).head refl (not_dead (is_number other made.seq) (is_live st other) e).1 in
+        let found = headless other (st.messages other).head refl (not_dead (is_number other ready.seq) (is_live st other) e).1 in
         let has : HasNumber (item_at_number closed found.0.tid) other = are_closed.own other found.0 e found.1 in
         (found.0, found.1, (λ none. subst (λ (n : ℕ). HasNumber (item_at_number closed n) other) none has), not_mine other found.0 has)
 
@@ -236,14 +236,14 @@ module _ (m : Running) (st : State) (is : IsMachine m st) (t pid : ℕ) (made : 
       life = λ other. ap (λ (cs : List Change). life_after_changes st (st.threads t).owner alive cs other) e ∙ none_forked (st.messages other).head (alive other) ∙ ap (λ (cs : List Change). life_but (is_ended_by parts.processes t pid cs) st alive other) (sym e);
     }
 
-    by_shape : Shape (system_of input st) (request_of input st t made.regs made.args made.ids) made.call changes → Ends
+    by_shape : Shape (system_of input st) (request_of input st t ready.regs ready.args ready.ids) ready.call changes → Ends
     by_shape (quiet x) = when_calm (calm_when_quiet changes x)
     by_shape (forked call e) = when_forked _ _ _ e
-    by_shape (execed binary e) = when_calm (subst (Each IsCalm) (sym e) (calm_when_execed binary (system_of input st).next_space (request_of input st t made.regs made.args made.ids).inherit))
+    by_shape (execed binary e) = when_calm (subst (Each IsCalm) (sym e) (calm_when_execed binary (system_of input st).next_space (request_of input st t ready.regs ready.args ready.ids).inherit))
     by_shape (renewed ids sets e) = absurd (true≢false (sym sets ∙ sets_none))
 
     ends : Ends
-    ends = by_shape (used_shape input st t made.call made.regs made.args made.ids outcome.result changes made.seq law)
+    ends = by_shape (used_shape input st t ready.call ready.regs ready.args ready.ids outcome.result changes ready.seq law)
 
     -- ---- the rows
 
@@ -257,15 +257,15 @@ module _ (m : Running) (st : State) (is : IsMachine m st) (t pid : ℕ) (made : 
       never true = refl
       never false = refl
 
-      row_behind : (d : Bool) → ended u ≡ d → IsRow (row_dying_if d r) (thread_after st entry u)
-      row_behind true e = record {
+      row_later : (d : Bool) → ended u ≡ d → IsRow (row_dying_if d r) (thread_after st entry u)
+      row_later true e = record {
         left = left;
         pending = pending;
         number = λ q has. absurd (none-some q (sym (none_dying (record r { dying = true }) refl) ∙ has));
         dying = ends.dying u there (st.threads u).dying ∙ ap (λ (b : Bool). (st.threads u).dying || b) e ∙ always (st.threads u).dying;
         ended = over;
       }
-      row_behind false e = record {
+      row_later false e = record {
         left = left;
         pending = pending;
         number = λ q has. seq_mute (st.threads u).number changes ends.mute ∙ number q has;
@@ -286,26 +286,26 @@ module _ (m : Running) (st : State) (is : IsMachine m st) (t pid : ℕ) (made : 
           | inl same ↦
               let r_is : record row { pending = None } ≡ r = same_Some (record row { pending = None }) r (sym (at ∙ ap (λ (b : Bool). cond b (Some (record row { pending = None })) (item_at_number m.threads u)) (eq-eqb u t same)) ∙ e) in
               subst (λ (r : ThreadRow). IsRow (row_dying_if (ended u) r) (thread_after st entry u)) r_is
-              (row_behind u (not_none closed u r e) (record row { pending = None }) (ap (λ (n : ℕ). (st.threads n).left) same ∙ its.left) (ap (λ (b : Bool). cond b None (st.threads u).pending) (eq-eqb t u (sym same)))
+              (row_later u (not_none closed u r e) (record row { pending = None }) (ap (λ (n : ℕ). (st.threads n).left) same ∙ its.left) (ap (λ (b : Bool). cond b None (st.threads u).pending) (eq-eqb t u (sym same)))
               (λ q has. absurd (none-some q (sym (none_closed row) ∙ has))) (ap (λ (n : ℕ). (st.threads n).dying) same ∙ its.dying) (ap (λ (n : ℕ). (st.threads n).ended) same ∙ its.ended) (ended u) refl)
           | inr ne ↦
               let was : item_at_number m.threads u ≡ Some r = sym (at ∙ ap (λ (b : Bool). cond b (Some (record row { pending = None })) (item_at_number m.threads u)) (ne_eqb u t ne)) ∙ e in
               let r_its : IsRow r (st.threads u) = row_of m st is u r was in
-              row_behind u (not_none closed u r e) r r_its.left (ap (λ (b : Bool). cond b None (st.threads u).pending) (ne_eqb t u (λ x. ne (sym x))) ∙ r_its.pending) r_its.number r_its.dying r_its.ended (ended u) refl
+              row_later u (not_none closed u r e) r r_its.left (ap (λ (b : Bool). cond b None (st.threads u).pending) (ne_eqb t u (λ x. ne (sym x))) ∙ r_its.pending) r_its.number r_its.dying r_its.ended (ended u) refl
         ]
 
     -- ---- the machine that runs
 
-    pub made_step : (between left : UnderWay) (new : List ThreadRow) → EndsCall made.seq m.workers between → HaveEnded ended closed between new left → IsMachine (with_parts m parts left new) (state_after input st entry)
+    pub made_step : (between left : UnderWay) (new : List ThreadRow) → EndsCall ready.seq m.workers between → HaveEnded ended closed between new left → Refines (with_parts m parts left new) (state_after input st entry)
     made_step between left new closes over =
         let later : ℕ → Bool = is_live (state_after input st entry) in
-        let lives : later ≡ life_but ended st alive = λ k other. (life_is input st (reached_of input st is.reached) t made.seq made.call made.regs made.args made.ids outcome.result changes law other ∙ ends.life other) k in
-        let kept : IsKept input st later left = subst (λ (life : ℕ → Bool). IsKept input st life left) (sym lives) (over.kept input st alive (closes input st (is_live st) is.workers) are_closed) in
+        let lives : later ≡ life_but ended st alive = λ k other. (life_is input st (reached_of input st is.reached) t ready.seq ready.call ready.regs ready.args ready.ids outcome.result changes law other ∙ ends.life other) k in
+        let kept : RepresentsMessages input st later left = subst (λ (life : ℕ → Bool). RepresentsMessages input st life left) (sym lives) (over.kept input st alive (closes input st (is_live st) is.workers) are_closed) in
         let messages : (q : ℕ) → (state_after input st entry).messages q ≡ record (st.messages q) { closed = ((state_after input st entry).messages q).closed } =
         λ q k. record ((state_after input st entry).messages q) { head = head_mute (λ p. (st.messages p).head) (process_after st.processes (st.threads t).owner (st.threads t).owner changes) q changes ends.mute k } in
         let posted : (state_after input st entry).posted ≡ st.posted = posted_mute st.posted changes ends.mute in
-        behind m st is (choice.Thread t) entry entry_is refl refl parts left new is_system
-        (subst (λ (n : ℕ). AreKept input (state_after input st entry).messages st.turns later n left) (sym posted) (closing_is_not_kept input st.messages (state_after input st entry).messages st.turns later st.posted left kept messages))
+        following m st is (choice.Thread t) entry entry_is refl refl parts left new is_system
+        (subst (λ (n : ℕ). RepresentsMachineMessages input (state_after input st entry).messages st.turns later n left) (sym posted) (closing_is_not_kept input st.messages (state_after input st entry).messages st.turns later st.posted left kept messages))
         (λ u. subst (λ (o : Option ThreadRow). IsRowOf o (thread_after st entry u)) (sym (over.rows u)) (row_then u (item_at_number closed u) refl))
         (over.count ∙ length-set m.threads (t - 1) _)
 
@@ -313,9 +313,9 @@ module _ (m : Running) (st : State) (is : IsMachine m st) (t pid : ℕ) (made : 
     made_entry = entry_is
 
 -- a call is made, in each state that the machine represents
-pub making : (m : Running) (t pid : ℕ) (made : Use) → IsNext m t (steps.Make made) → pid_of m.system.processes t ≡ Some pid → (row : ThreadRow) → item_at_number m.threads t ≡ Some row → schedules.sets_ids made.call ≡ false
-    → (outcome : Outcome) (parts : Parts) → IsDone made.call (request_with m t pid made) outcome m.system parts → (between left : UnderWay) (new : List ThreadRow) → EndsCall made.seq m.workers between
+pub making : (m : Running) (t pid : ℕ) (ready : ReadyCall) → IsNextStep m t (steps.Make ready) → pid_of m.system.processes t ≡ Some pid → (row : ThreadRow) → item_at_number m.threads t ≡ Some row → schedules.sets_ids ready.call ≡ false
+    → (outcome : Outcome) (parts : Parts) → IsCallMade ready.call (request_with m t pid ready) outcome m.system parts → (between left : UnderWay) (new : List ThreadRow) → EndsCall ready.seq m.workers between
     → HaveEnded (is_ended_by parts.processes t pid outcome.changes) (set m.threads (t - 1) (record row { pending = None })) between new left
-    → IsStep m (choice.Thread t) (Some (Used t made.seq made.call made.regs made.args made.ids outcome.result outcome.changes)) (with_parts m parts left new)
-making m t pid made next process row row_is sets_none outcome parts done between left new closes over = λ st is.
-    (made_entry m st is t pid made next process row row_is sets_none outcome parts done, made_step m st is t pid made next process row row_is sets_none outcome parts done between left new closes over)
+    → IsStep m (choice.Thread t) (Some (Used t ready.seq ready.call ready.regs ready.args ready.ids outcome.result outcome.changes)) (with_parts m parts left new)
+making m t pid ready next process row row_is sets_none outcome parts done between left new closes over = λ st is.
+    (made_entry m st is t pid ready next process row row_is sets_none outcome parts done, made_step m st is t pid ready next process row row_is sets_none outcome parts done between left new closes over)

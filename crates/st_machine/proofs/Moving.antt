@@ -32,26 +32,26 @@ use Rattle.st_reached.proofs.LifeByEntry.{denied_life}
 use Rattle.st_reached.proofs.Reached.{lawful_entry}
 use Rattle.st_reached.specs.Scripts.{IsInMemory, StoresInMemory}
 use Rattle.st_system.specs.System.{IsSystem, Parts}
-use Rattle.st_workers.specs.Kept.{AreKept, ChangesLife}
+use Rattle.st_workers.specs.Refinement.{RepresentsMachineMessages, ChangesLife}
 use Rattle.st_workers.specs.UnderWay.{UnderWay}
 use Rattle.st_workers.proofs.Closing.{closing_is_not_kept}
-use Rattle.st_next.specs.Machine.{IsMachine, IsNext, IsRunning, IsStep, Running}
-use Rattle.st_next.specs.Step.{step_entry}
+use Rattle.st_decide.specs.Machine.{Refines, IsNextStep, RefinesSomeState, IsStep, Running}
+use Rattle.st_decide.specs.Step.{step_entry}
 use Rattle.st_threads.specs.Thread.{ThreadRow, IsRow}
-use Rattle.st_next.specs.declared.step.Step.{Step}
-use Rattle.st_next.specs.declared.step.Step.TheVariants as steps
-use Rattle.st_next.specs.declared.step.Use.{Use}
-use Rattle.st_machine.proofs.After.{AreRows, HasComeAsFar, behind, rows_changed, with_parts}
-use Rattle.st_next.proofs.NextSteps.{row_of}
-use Rattle.st_next.proofs.Started.{pid_there, row_there}
-use Rattle.st_next.proofs.Reached.{reached_of}
+use Rattle.st_decide.specs.declared.step.Step.{Step}
+use Rattle.st_decide.specs.declared.step.Step.TheVariants as steps
+use Rattle.st_decide.specs.declared.step.ReadyCall.{ReadyCall}
+use Rattle.st_machine.proofs.After.{AreRows, HasComeAsFar, following, rows_changed, with_parts}
+use Rattle.st_decide.proofs.NextSteps.{row_of}
+use Rattle.st_decide.proofs.Started.{pid_there, row_there}
+use Rattle.st_decide.proofs.Reached.{reached_of}
 use Rattle.st_threads.proofs.Rows.{none_closed}
 use Rattle.st_machine.proofs.Served.{same_system}
 
 -- ---- a thread ends
 
-module _ (m : Running) (t : ℕ) (next : IsNext m t steps.End) where
-  pub ends : (st : State) → IsMachine m st → ((st.threads t).owner ≢ 0) × ((st.threads t).ended ≡ false)
+module _ (m : Running) (t : ℕ) (next : IsNextStep m t steps.End) where
+  pub ends : (st : State) → Refines m st → ((st.threads t).owner ≢ 0) × ((st.threads t).ended ≡ false)
   ends st is = let law = lawful_entry m.input st (reached_of m.input st is.reached) (choice.Thread t) (Ended t) (next st is) in (law.started, law.unended)
 
   pub ended_step : (system : Parts) (row : ThreadRow) → item_at_number m.threads t ≡ Some row → ((i : Input) (st : State) → IsSystem i st m.system → IsSystem i (state_after i st (Ended t)) system)
@@ -61,7 +61,7 @@ module _ (m : Running) (t : ℕ) (next : IsNext m t steps.End) where
       let rows = rows_changed m.threads st.threads (thread_after st (Ended t)) t row (record row { ended = true }) row_is
       (λ u ne. record { left = refl; pending = refl; number = refl; dying = refl; ended = ap (λ (b : Bool). b || (st.threads u).ended) (ne_eqb t u (λ e. ne (sym e))) })
       (record { left = its.left; pending = its.pending; number = its.number; dying = its.dying; ended = ap (λ (b : Bool). b || (st.threads t).ended) (eq-eqb t t refl) }) is.threads in
-      (next st is, behind m st is (choice.Thread t) (Ended t) (next st is) refl refl system m.workers (set m.threads (t - 1) (record row { ended = true })) (moves m.input st is.system) is.workers rows (length-set m.threads (t - 1) _))
+      (next st is, following m st is (choice.Thread t) (Ended t) (next st is) refl refl system m.workers (set m.threads (t - 1) (record row { ended = true })) (moves m.input st is.system) is.workers rows (length-set m.threads (t - 1) _))
 
 -- ---- a thread stores a word
 
@@ -83,12 +83,12 @@ body_inside i stores t = by t where
   by zero = none
   by (suc k) = by_row k (slice_get i.start.threads k) refl
 
-module _ (m : Running) (t place word : ℕ) (next : IsNext m t (steps.Store place word)) where
-  stores_law : (st : State) → IsMachine m st → IsStored st t place word
+module _ (m : Running) (t place word : ℕ) (next : IsNextStep m t (steps.Store place word)) where
+  stores_law : (st : State) → Refines m st → IsStored st t place word
   stores_law st is = lawful_entry m.input st (reached_of m.input st is.reached) (choice.Thread t) (Stored t place word) (next st is)
 
   -- the index is inside memory
-  pub stored_inside : (st : State) → IsMachine m st → place < SPACE_WORDS
+  pub stored_inside : (st : State) → Refines m st → place < SPACE_WORDS
   stored_inside st is =
       let h = history m.input (reverse is.reached.choices) in
       let same : st ≡ looking_back m.input h = is.reached.state_is ∙ state-is m.input h in
@@ -98,7 +98,7 @@ module _ (m : Running) (t place word : ℕ) (next : IsNext m t (steps.Store plac
       let whole : goes.0 ++ Store place word ∷ law.later ≡ body_of m.input t = ap (λ (l : List Instr). goes.0 ++ l) (sym left) ∙ goes.2 in
       all_at IsInMemory (goes.0 ++ Store place word ∷ law.later) (length goes.0) (Store place word) (subst (All IsInMemory) (sym whole) (body_inside m.input is.bounded.stores t)) (at_length goes.0 (Store place word) law.later)
 
-  pub stored_started : (st : State) (is : IsMachine m st) → IsSome (pid_of m.system.processes t)
+  pub stored_started : (st : State) (is : Refines m st) → IsSome (pid_of m.system.processes t)
   stored_started st is = pid_there m st is t (stores_law st is).running.started
 
   pub stored_step : (system : Parts) (row : ThreadRow) → item_at_number m.threads t ≡ Some row → ((i : Input) (st : State) → IsSystem i st m.system → IsSystem i (state_after i st (Stored t place word)) system)
@@ -108,16 +108,16 @@ module _ (m : Running) (t place word : ℕ) (next : IsNext m t (steps.Store plac
       let rows = rows_changed m.threads st.threads (thread_after st (Stored t place word)) t row (record row { left = drop 1 row.left }) row_is
       (λ u ne. record { left = ap (λ (b : Bool). cond b (drop 1 (st.threads u).left) (st.threads u).left) (ne_eqb t u (λ e. ne (sym e))); pending = refl; number = refl; dying = refl; ended = refl })
       (record { left = ap (λ (b : Bool). cond b (drop 1 (st.threads t).left) (st.threads t).left) (eq-eqb t t refl) ∙ ap (drop 1) its.left; pending = its.pending; number = its.number; dying = its.dying; ended = its.ended }) is.threads in
-      (next st is, behind m st is (choice.Thread t) (Stored t place word) (next st is) refl refl system m.workers (set m.threads (t - 1) (record row { left = drop 1 row.left })) (moves m.input st is.system) is.workers rows (length-set m.threads (t - 1) _))
+      (next st is, following m st is (choice.Thread t) (Stored t place word) (next st is) refl refl system m.workers (set m.threads (t - 1) (record row { left = drop 1 row.left })) (moves m.input st is.system) is.workers rows (length-set m.threads (t - 1) _))
 
 -- ---- a call is over
 
 -- the rows after a thread's call was made or denied
-closed_rows : (m : Running) (st : State) → IsMachine m st → (t : ℕ) (row : ThreadRow) → item_at_number m.threads t ≡ Some row → (e : Entry) → ((u : ℕ) → u ≢ t → HasComeAsFar (st.threads u) (thread_after st e u))
+closed_rows : (m : Running) (st : State) → Refines m st → (t : ℕ) (row : ThreadRow) → item_at_number m.threads t ≡ Some row → (e : Entry) → ((u : ℕ) → u ≢ t → HasComeAsFar (st.threads u) (thread_after st e u))
     → IsRow (record row { pending = None }) (thread_after st e t) → AreRows (set m.threads (t - 1) (record row { pending = None })) (thread_after st e)
 closed_rows m st is t row row_is e others own = rows_changed m.threads st.threads (thread_after st e) t row (record row { pending = None }) row_is others own is.threads
 
-module _ (m : Running) (t : ℕ) (call : SysCall) (regs : List ℕ) (ids : Ids) (errno : Errno) (next : IsNext m t (steps.Fail call regs ids errno)) where
+module _ (m : Running) (t : ℕ) (call : SysCall) (regs : List ℕ) (ids : Ids) (errno : Errno) (next : IsNextStep m t (steps.Fail call regs ids errno)) where
   -- the entry of a call that fails before it is made
   abbrev failed : Entry
   failed = Used t None call regs [] ids (Failed errno) []
@@ -129,14 +129,14 @@ module _ (m : Running) (t : ℕ) (call : SysCall) (regs : List ℕ) (ids : Ids) 
       (λ u ne. record { left = refl; pending = ap (λ (b : Bool). cond b None (st.threads u).pending) (ne_eqb t u (λ e. ne (sym e))); number = refl; dying = refl; ended = refl })
       (record { left = its.left; pending = ap (λ (b : Bool). cond b None (st.threads t).pending) (eq-eqb t t refl); number = λ q e. absurd (none-some q (sym (none_closed row) ∙ e)); dying = its.dying; ended = its.ended }) in (
         next st is,
-        behind m st is (choice.Thread t) failed (next st is) refl refl m.system m.workers (set m.threads (t - 1) (record row { pending = None }))
+        following m st is (choice.Thread t) failed (next st is) refl refl m.system m.workers (set m.threads (t - 1) (record row { pending = None }))
             (same_system m.input st (state_after m.input st failed) m.system refl refl refl refl refl refl (λ u. refl) (λ u. refl) is.system) is.workers rows (length-set m.threads (t - 1) _),
       )
 
 -- ---- a call is denied
 
-module _ (m : Running) (t : ℕ) (seq : Option ℕ) (errno : Errno) (why : Cause) (next : IsNext m t (steps.Deny seq errno why)) where
-  denied_rows : (st : State) → IsMachine m st → (row : ThreadRow) → item_at_number m.threads t ≡ Some row → AreRows (set m.threads (t - 1) (record row { pending = None })) (thread_after st (Denied t seq errno why))
+module _ (m : Running) (t : ℕ) (seq : Option ℕ) (errno : Errno) (why : Cause) (next : IsNextStep m t (steps.Deny seq errno why)) where
+  denied_rows : (st : State) → Refines m st → (row : ThreadRow) → item_at_number m.threads t ≡ Some row → AreRows (set m.threads (t - 1) (record row { pending = None })) (thread_after st (Denied t seq errno why))
   denied_rows st is row row_is =
       let its : IsRow row (st.threads t) = row_of m st is t row row_is in
       closed_rows m st is t row row_is (Denied t seq errno why)
@@ -144,29 +144,29 @@ module _ (m : Running) (t : ℕ) (seq : Option ℕ) (errno : Errno) (why : Cause
       (record { left = its.left; pending = ap (λ (b : Bool). cond b None (st.threads t).pending) (eq-eqb t t refl); number = λ q e. absurd (none-some q (sym (none_closed row) ∙ e)); dying = its.dying; ended = its.ended })
 
 -- a barred call has no message
-pub barred_step : (m : Running) (t : ℕ) (errno : Errno) (why : Cause) → IsNext m t (steps.Deny None errno why) → (row : ThreadRow) → item_at_number m.threads t ≡ Some row
+pub barred_step : (m : Running) (t : ℕ) (errno : Errno) (why : Cause) → IsNextStep m t (steps.Deny None errno why) → (row : ThreadRow) → item_at_number m.threads t ≡ Some row
     → IsStep m (choice.Thread t) (Some (Denied t None errno why)) (with_parts m m.system m.workers (set m.threads (t - 1) (record row { pending = None })))
 barred_step m t errno why next row row_is st is = (
   next st is,
-  behind m st is (choice.Thread t) (Denied t None errno why) (next st is) refl refl m.system m.workers (set m.threads (t - 1) (record row { pending = None }))
+  following m st is (choice.Thread t) (Denied t None errno why) (next st is) refl refl m.system m.workers (set m.threads (t - 1) (record row { pending = None }))
       (same_system m.input st (state_after m.input st (Denied t None errno why)) m.system refl refl refl refl refl refl (λ u. refl) (λ u. refl) is.system) is.workers (denied_rows m t None errno why next st is row row_is) (length-set m.threads (t - 1) _),
 )
 
-module _ (m : Running) (t q : ℕ) (errno : Errno) (why : Cause) (next : IsNext m t (steps.Deny (Some q) errno why)) where
+module _ (m : Running) (t q : ℕ) (errno : Errno) (why : Cause) (next : IsNextStep m t (steps.Deny (Some q) errno why)) where
   -- the number of a held call that is denied is live
-  pub denied_lives : (st : State) → IsMachine m st → is_live st q ≡ true
+  pub denied_lives : (st : State) → Refines m st → is_live st q ≡ true
   denied_lives st is = (lawful_entry m.input st (reached_of m.input st is.reached) (choice.Thread t) (Denied t (Some q) errno why) (next st is)).held.live
 
   -- the step that denies a held call, whose number ends
   pub denied_step : (workers : UnderWay) (row : ThreadRow) → item_at_number m.threads t ≡ Some row
-      → ((i : Input) (messages : ℕ → Message) (turns : ℕ → Option ℕ) (alive later : ℕ → Bool) (posted : ℕ) → AreKept i messages turns alive posted m.workers → ChangesLife alive q false later → AreKept i messages turns later posted workers)
+      → ((i : Input) (messages : ℕ → Message) (turns : ℕ → Option ℕ) (alive later : ℕ → Bool) (posted : ℕ) → RepresentsMachineMessages i messages turns alive posted m.workers → ChangesLife alive q false later → RepresentsMachineMessages i messages turns later posted workers)
       → IsStep m (choice.Thread t) (Some (Denied t (Some q) errno why)) (with_parts m m.system workers (set m.threads (t - 1) (record row { pending = None })))
   denied_step workers row row_is cancels st is =
       let e = Denied t (Some q) errno why in
       let later = is_live (state_after m.input st e) in
       let kept = cancels m.input st.messages st.turns (is_live st) later st.posted is.workers (λ other. denied_life m.input st t q errno why other) in (
         next st is,
-        behind m st is (choice.Thread t) e (next st is) refl refl m.system workers (set m.threads (t - 1) (record row { pending = None }))
+        following m st is (choice.Thread t) e (next st is) refl refl m.system workers (set m.threads (t - 1) (record row { pending = None }))
             (same_system m.input st (state_after m.input st e) m.system refl refl refl refl refl refl (λ u. refl) (λ u. refl) is.system)
             (closing_is_not_kept m.input st.messages (state_after m.input st e).messages st.turns later st.posted workers kept (λ p. refl)) (denied_rows m t (Some q) errno why next st is row row_is) (length-set m.threads (t - 1) _),
       )
@@ -179,13 +179,13 @@ started_of i st u e entry none = none-some e (sym (stopped (eq-eqb (st.threads u
   stopped nobody = ap (λ (b : Bool). cond (b || (st.threads u).ended) None (cond (st.threads u).dying (Some (Ended u)) (running_entry i st u (st.threads u).pending))) nobody
 
 -- a thread whose step adds an entry has a row
-pub row_here : (m : Running) → IsRunning m → (t : ℕ) (step : Step) (e : Entry) → IsNext m t step → ((i : Input) (st : State) → step_entry i st t step ≡ Some e) → (row : ThreadRow) × (item_at_number m.threads t ≡ Some row)
+pub row_here : (m : Running) → RefinesSomeState m → (t : ℕ) (step : Step) (e : Entry) → IsNextStep m t step → ((i : Input) (st : State) → step_entry i st t step ≡ Some e) → (row : ThreadRow) × (item_at_number m.threads t ≡ Some row)
 row_here m run t step e next is = row_there m run.state run.is t (started_of m.input run.state t e (next run.state run.is ∙ is m.input run.state))
 
 -- a thread that enters a call has a row
-pub row_entering : (m : Running) → IsRunning m → (t : ℕ) (call : SysCall) (regs : List ℕ) → IsNext m t (steps.Enter call regs) → (row : ThreadRow) × (item_at_number m.threads t ≡ Some row)
+pub row_entering : (m : Running) → RefinesSomeState m → (t : ℕ) (call : SysCall) (regs : List ℕ) → IsNextStep m t (steps.Enter call regs) → (row : ThreadRow) × (item_at_number m.threads t ≡ Some row)
 row_entering m run t call regs next = row_there m run.state run.is t (started_of m.input run.state t _ (next run.state run.is))
 
 -- a thread that makes a call has a row
-pub row_making : (m : Running) → IsRunning m → (t : ℕ) (made : Use) → IsNext m t (steps.Make made) → (row : ThreadRow) × (item_at_number m.threads t ≡ Some row)
-row_making m run t made next = row_there m run.state run.is t (started_of m.input run.state t _ (next run.state run.is))
+pub row_making : (m : Running) → RefinesSomeState m → (t : ℕ) (ready : ReadyCall) → IsNextStep m t (steps.Make ready) → (row : ThreadRow) × (item_at_number m.threads t ≡ Some row)
+row_making m run t ready next = row_there m run.state run.is t (started_of m.input run.state t _ (next run.state run.is))

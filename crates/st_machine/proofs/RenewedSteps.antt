@@ -31,28 +31,28 @@ use Rattle.st_reached.proofs.LifeByEntry.{life_is}
 use Rattle.st_reached.proofs.NumbersDrawn.{few_drawn}
 use Rattle.st_reached.proofs.Reached.{lawful_entry}
 use Rattle.st_request.specs.declared.outcome.Outcome.{Outcome}
-use Rattle.st_system.specs.Steps.{IsDone, IsMade, renewals_of, sets_ids, with_renewals}
+use Rattle.st_system.specs.Steps.{IsCallMade, IsMade, renewals_of, sets_ids, with_renewals}
 use Rattle.st_system.specs.System.{IsSystem, Parts}
 use Rattle.st_trace.specs.declared.entry.Change.{Change}
 use Rattle.st_trace.specs.declared.entry.Change.TheVariants.{SetIds}
 use Rattle.st_trace.specs.declared.entry.Choice.TheVariants as choice
 use Rattle.st_trace.specs.declared.entry.Entry.{Entry}
 use Rattle.st_trace.specs.declared.entry.Entry.TheVariants.{Used}
-use Rattle.st_workers.specs.Kept.{AreKept, IsKept}
+use Rattle.st_workers.specs.Refinement.{RepresentsMachineMessages, RepresentsMessages}
 use Rattle.st_workers.specs.UnderWay.{UnderWay}
 use Rattle.st_workers.proofs.Closing.{closing_is_not_kept}
 use Rattle.st_threads.specs.Ending.{EndsCall, life_without_number, owner_of}
-use Rattle.st_next.specs.Machine.{IsMachine, IsNext, IsStep, Running}
-use Rattle.st_next.specs.Making.{request_with}
-use Rattle.st_threads.specs.Renewing.{CanRenew, HaveRenewed, LiveApart, RenewsAll, numbers_from, renewals_from, rows_renewed}
+use Rattle.st_decide.specs.Machine.{Refines, IsNextStep, IsStep, Running}
+use Rattle.st_decide.specs.Making.{request_with}
+use Rattle.st_threads.specs.Renewing.{CanRenew, HaveRenewed, AreLiveAndDistinct, RenewsAll, numbers_from, renewals_from, rows_renewed}
 use Rattle.st_threads.specs.Thread.{ThreadRow, IsRow}
-use Rattle.st_next.specs.declared.step.Step.TheVariants as steps
-use Rattle.st_next.specs.declared.step.Use.{Use}
-use Rattle.st_machine.proofs.After.{AreRows, behind, rows_changed, rows_stand, with_parts}
+use Rattle.st_decide.specs.declared.step.Step.TheVariants as steps
+use Rattle.st_decide.specs.declared.step.ReadyCall.{ReadyCall}
+use Rattle.st_machine.proofs.After.{AreRows, following, rows_changed, rows_stand, with_parts}
 use Rattle.st_machine.proofs.Made.{owner_by}
 use Rattle.st_machine.proofs.MadeSteps.{are_closed, has_child, now, request_is, used}
-use Rattle.st_next.proofs.NextSteps.{owner_is, row_of}
-use Rattle.st_next.proofs.Reached.{reached_of}
+use Rattle.st_decide.proofs.NextSteps.{owner_is, row_of}
+use Rattle.st_decide.proofs.Reached.{reached_of}
 use Rattle.st_threads.proofs.RenewedLaw.{AreTagged, HaveHeads, SameBut, count_renewed, kept_all, law_renewals, live_apart, message_is, messages_after, renewals_leave, rows_at, rows_from, rows_then, same_numbers, set_numbers, tags_from}
 use Rattle.st_machine.proofs.Room.{fewer_set}
 use Rattle.st_threads.proofs.Rows.{none_closed}
@@ -92,7 +92,7 @@ none_before false changes more e = e
 
 -- ---- the step, by its changes
 
-module _ (m : Running) (st : State) (is : IsMachine m st) (t pid : ℕ) (made : Use) (next : IsNext m t (steps.Make made)) (process : pid_of m.system.processes t ≡ Some pid) (row : ThreadRow) (row_is : item_at_number m.threads t ≡ Some row) where
+module _ (m : Running) (st : State) (is : Refines m st) (t pid : ℕ) (ready : ReadyCall) (next : IsNextStep m t (steps.Make ready)) (process : pid_of m.system.processes t ≡ Some pid) (row : ThreadRow) (row_is : item_at_number m.threads t ≡ Some row) where
   abbrev input : Input
   input = m.input
 
@@ -100,7 +100,7 @@ module _ (m : Running) (st : State) (is : IsMachine m st) (t pid : ℕ) (made : 
   closed = set m.threads (t - 1) (record row { pending = None })
 
   abbrev alive : ℕ → Bool
-  alive = life_without_number (is_live st) made.seq
+  alive = life_without_number (is_live st) ready.seq
 
   -- the threads after the caller's call was made
   abbrev closed_threads : ℕ → ThreadState
@@ -116,75 +116,75 @@ module _ (m : Running) (st : State) (is : IsMachine m st) (t pid : ℕ) (made : 
   own_pid : (st.threads t).owner ≡ pid
   own_pid = owner_is m st is t pid process
 
-  module _ (outcome : Outcome) (parts : Parts) (done_is : IsDone made.call (request_with m t pid made) outcome m.system parts) (changes : List Change) (effect_is : (effect (system_of m.input st) made.call (request_of m.input st t made.regs made.args made.ids)).changes ≡ changes) where
+  module _ (outcome : Outcome) (parts : Parts) (done_is : IsCallMade ready.call (request_with m t pid ready) outcome m.system parts) (changes : List Change) (effect_is : (effect (system_of m.input st) ready.call (request_of m.input st t ready.regs ready.args ready.ids)).changes ≡ changes) where
     abbrev entry : Entry
-    entry = Used t made.seq made.call made.regs made.args made.ids outcome.result changes
+    entry = Used t ready.seq ready.call ready.regs ready.args ready.ids outcome.result changes
 
-    request : request_with m t pid made ≡ request_of input st t made.regs made.args made.ids
-    request = request_is m st is t pid made process row row_is
+    request : request_with m t pid ready ≡ request_of input st t ready.regs ready.args ready.ids
+    request = request_is m st is t pid ready process row row_is
 
-    is_made : IsMade input st made.seq made.call (request_with m t pid made) outcome parts
+    is_made : IsMade input st ready.seq ready.call (request_with m t pid ready) outcome parts
     is_made = done_is input st is.system request
-        (has_child m st is t pid made process row row_is made.seq made.call made.regs (now m st is t pid made next process row row_is) (used m st is t pid made next process row row_is)) made.seq
+        (has_child m st is t pid ready process row row_is ready.seq ready.call ready.regs (now m st is t pid ready next process row row_is) (used m st is t pid ready next process row row_is)) ready.seq
 
-    full : with_renewals input st made.call (request_with m t pid made) outcome.result outcome.changes ≡ changes
-    full = is_made.changes ∙ ap (λ (r : effects.Request). (effect (system_of input st) made.call r).changes) request ∙ effect_is
+    full : with_renewals input st ready.call (request_with m t pid ready) outcome.result outcome.changes ≡ changes
+    full = is_made.changes ∙ ap (λ (r : effects.Request). (effect (system_of input st) ready.call r).changes) request ∙ effect_is
 
     -- if the entry has no changes, the outcome has none
     pub none_made : changes ≡ [] → outcome.changes ≡ []
-    none_made none = none_before (sets_ids made.call) outcome.changes (renewals_of input st (request_with m t pid made) outcome.result) (full ∙ none)
+    none_made none = none_before (sets_ids ready.call) outcome.changes (renewals_of input st (request_with m t pid ready) outcome.result) (full ∙ none)
 
     pub entry_is : entry_of input st (choice.Thread t) ≡ Some entry
     entry_is =
-        let result = ap (λ (r : effects.Request). (effect (system_of input st) made.call r).result) (sym request) ∙ sym is_made.result in
-        next st is ∙ (λ k. Some (Used t made.seq made.call made.regs made.args made.ids (result k) (effect_is k)))
+        let result = ap (λ (r : effects.Request). (effect (system_of input st) ready.call r).result) (sym request) ∙ sym is_made.result in
+        next st is ∙ (λ k. Some (Used t ready.seq ready.call ready.regs ready.args ready.ids (result k) (effect_is k)))
 
-    law : IsUsed input st t made.seq made.call made.regs made.args made.ids outcome.result changes
+    law : IsUsed input st t ready.seq ready.call ready.regs ready.args ready.ids outcome.result changes
     law = lawful_entry input st (reached_of input st is.reached) (choice.Thread t) entry entry_is
 
     is_system : IsSystem input (state_after input st entry) parts
-    is_system = subst (λ (cs : List Change). IsSystem input (state_after input st (Used t made.seq made.call made.regs made.args made.ids outcome.result cs)) parts) full is_made.system
+    is_system = subst (λ (cs : List Change). IsSystem input (state_after input st (Used t ready.seq ready.call ready.regs ready.args ready.ids outcome.result cs)) parts) full is_made.system
 
     lives : is_live (state_after input st entry) ≡ life_after_changes st (st.threads t).owner alive changes
-    lives = λ k other. life_is input st (reached_of input st is.reached) t made.seq made.call made.regs made.args made.ids outcome.result changes law other k
+    lives = λ k other. life_is input st (reached_of input st is.reached) t ready.seq ready.call ready.regs ready.args ready.ids outcome.result changes law other k
 
   -- ---- the call is refused
 
-  module _ (outcome : Outcome) (parts : Parts) (done_is : IsDone made.call (request_with m t pid made) outcome m.system parts) (effect_is : (effect (system_of m.input st) made.call (request_of m.input st t made.regs made.args made.ids)).changes ≡ []) where
+  module _ (outcome : Outcome) (parts : Parts) (done_is : IsCallMade ready.call (request_with m t pid ready) outcome m.system parts) (effect_is : (effect (system_of m.input st) ready.call (request_of m.input st t ready.regs ready.args ready.ids)).changes ≡ []) where
     abbrev entry_refused : Entry
-    entry_refused = Used t made.seq made.call made.regs made.args made.ids outcome.result []
+    entry_refused = Used t ready.seq ready.call ready.regs ready.args ready.ids outcome.result []
 
-    pub refused_here : (between : UnderWay) → EndsCall made.seq m.workers between → IsMachine (with_parts m parts between closed) (state_after m.input st entry_refused)
+    pub refused_here : (between : UnderWay) → EndsCall ready.seq m.workers between → Refines (with_parts m parts between closed) (state_after m.input st entry_refused)
     refused_here between closes =
         let later : ℕ → Bool = is_live (state_after input st entry_refused) in
-        let kept : IsKept input st later between = subst (λ (life : ℕ → Bool). IsKept input st life between) (sym (lives outcome parts done_is [] effect_is)) (closes input st (is_live st) is.workers) in
-        behind m st is (choice.Thread t) entry_refused (entry_is outcome parts done_is [] effect_is) refl refl parts between closed (is_system outcome parts done_is [] effect_is)
+        let kept : RepresentsMessages input st later between = subst (λ (life : ℕ → Bool). RepresentsMessages input st life between) (sym (lives outcome parts done_is [] effect_is)) (closes input st (is_live st) is.workers) in
+        following m st is (choice.Thread t) entry_refused (entry_is outcome parts done_is [] effect_is) refl refl parts between closed (is_system outcome parts done_is [] effect_is)
         (closing_is_not_kept input st.messages (state_after input st entry_refused).messages st.turns later st.posted between kept (λ q. refl))
         (rows_stand closed closed_threads (thread_after st entry_refused) (λ u. record { left = refl; pending = refl; number = refl; dying = refl; ended = refl }) closed_rows)
         (length-set m.threads (t - 1) _)
 
   -- ---- the call succeeds
 
-  module _ (outcome : Outcome) (parts : Parts) (done_is : IsDone made.call (request_with m t pid made) outcome m.system parts) (given : Ids)
-      (effect_is : (effect (system_of m.input st) made.call (request_of m.input st t made.regs made.args made.ids)).changes ≡ SetIds given ∷ renewals (st.threads t).owner t (suc st.posted) (held_from st 1 (thread_count m.input))) where
+  module _ (outcome : Outcome) (parts : Parts) (done_is : IsCallMade ready.call (request_with m t pid ready) outcome m.system parts) (given : Ids)
+      (effect_is : (effect (system_of m.input st) ready.call (request_of m.input st t ready.regs ready.args ready.ids)).changes ≡ SetIds given ∷ renewals (st.threads t).owner t (suc st.posted) (held_from st 1 (thread_count m.input))) where
     abbrev ns : List ℕ
     ns = numbers_from m.system.processes pid t 1 m.threads
 
-    abbrev told : List Change
-    told = SetIds given ∷ renewals_from (suc st.posted) ns
+    abbrev known : List Change
+    known = SetIds given ∷ renewals_from (suc st.posted) ns
 
     owners : (u : ℕ) → owner_of m.system.processes u ≡ (st.threads u).owner
     owners u = owner_by m.system.processes u (st.threads u) (is.system.threads u)
 
-    told_is : (effect (system_of input st) made.call (request_of input st t made.regs made.args made.ids)).changes ≡ told
-    told_is = effect_is ∙ (λ k. SetIds given ∷ renewals (own_pid k) t (suc st.posted) (held_from st 1 (sym is.count k)))
+    known_is : (effect (system_of input st) ready.call (request_of input st t ready.regs ready.args ready.ids)).changes ≡ known
+    known_is = effect_is ∙ (λ k. SetIds given ∷ renewals (own_pid k) t (suc st.posted) (held_from st 1 (sym is.count k)))
         ∙ ap (λ (cs : List Change). SetIds given ∷ cs) (law_renewals m.system.processes pid t st owners m.threads 1 (suc st.posted) (rows_from st.threads m.threads is.threads))
 
     abbrev entry_set : Entry
-    entry_set = Used t made.seq made.call made.regs made.args made.ids outcome.result told
+    entry_set = Used t ready.seq ready.call ready.regs ready.args ready.ids outcome.result known
 
     system_then : IsSystem input (state_after input st entry_set) parts
-    system_then = is_system outcome parts done_is told told_is
+    system_then = is_system outcome parts done_is known known_is
 
     owners_then : (u : ℕ) → owner_of parts.processes u ≡ (st.threads u).owner
     owners_then u = owner_by parts.processes u ((state_after input st entry_set).threads u) (system_then.threads u)
@@ -215,24 +215,24 @@ module _ (m : Running) (st : State) (is : IsMachine m st) (t pid : ℕ) (made : 
     abbrev owner : ℕ → ℕ
     owner q = tid_of (st.messages q).head
 
-    module _ (between : UnderWay) (closes : EndsCall made.seq m.workers between) where
-      kept_between : IsKept input st alive between
+    module _ (between : UnderWay) (closes : EndsCall ready.seq m.workers between) where
+      kept_between : RepresentsMessages input st alive between
       kept_between = closes input st (is_live st) is.workers
 
       tags : AreTagged owner alive (suc st.posted) 1 closed
       tags = tags_from owner alive (suc st.posted) closed (λ u other q at held.
-          let x = (are_closed m st is t pid made next process row row_is).lives u other q at held in
+          let x = (are_closed m st is t pid ready next process row row_is).lives u other q at held in
           let low = (kept_between.agrees.given q x.lives).1 in
           record { live = x.lives; tid = ap tid_of x.posted ∙ x.tid_is; below = omega (arith, low) })
 
-      live_then : LiveApart alive (numbers_from parts.processes pid t 1 closed)
+      live_then : AreLiveAndDistinct alive (numbers_from parts.processes pid t 1 closed)
       live_then = live_apart parts.processes pid t owner alive (suc st.posted) closed 1 tags
 
       -- the numbers can be renewed
       pub can_renew : CanRenew between (numbers_from parts.processes pid t 1 closed)
       can_renew = record { input = input; state = st; alive = alive; kept = kept_between; live = live_then }
 
-      have_heads : (numbers : List ℕ) → LiveApart alive numbers → HaveHeads (λ p. (st.messages p).head) st.posted st.messages numbers
+      have_heads : (numbers : List ℕ) → AreLiveAndDistinct alive numbers → HaveHeads (λ p. (st.messages p).head) st.posted st.messages numbers
       have_heads [] x = tt
       have_heads (q ∷ numbers) x = (refl, (kept_between.agrees.given q x.0).1, have_heads numbers x.2)
 
@@ -248,13 +248,13 @@ module _ (m : Running) (st : State) (is : IsMachine m st) (t pid : ℕ) (made : 
         abbrev row_then : Process
         row_then = process_at parts.processes pid
 
-        row_is_then : process_after st.processes (st.threads t).owner (st.threads t).owner told ≡ row_then
+        row_is_then : process_after st.processes (st.threads t).owner (st.threads t).owner known ≡ row_then
         row_is_then = system_then.processes (st.threads t).owner ∙ ap (process_at parts.processes) own_pid
 
         renewed : RenewsAll row_then ns between left
         renewed = subst (λ (numbers : List ℕ). RenewsAll row_then numbers between left) numbers_stay have.all
 
-        kept_then : AreKept input (messages_after row_then ns st.posted st.messages) st.turns (life_after_changes st (st.threads t).owner alive told) then.posted left
+        kept_then : RepresentsMachineMessages input (messages_after row_then ns st.posted st.messages) st.turns (life_after_changes st (st.threads t).owner alive known) then.posted left
         kept_then = kept_all input st.turns row_then st (st.threads t).owner ns st.messages alive st.posted between left kept_between renewed
 
         messages_then : (q : ℕ) → then.messages q ≡ record (messages_after row_then ns st.posted st.messages q) { closed = (then.messages q).closed }
@@ -262,14 +262,14 @@ module _ (m : Running) (st : State) (is : IsMachine m st) (t pid : ℕ) (made : 
             (λ k. record (then.messages q) { head = fold (head_after_change heads (row_is_then k) q) (heads q) (renewals_from (suc st.posted) ns) })
             ∙ ap (λ (message : Message). record message { closed = (then.messages q).closed }) (sym (message_is heads row_then st.posted ns st.posted st.messages (omega arith) (subst (HaveHeads heads st.posted st.messages) numbers_stay (have_heads (numbers_from parts.processes pid t 1 closed) live_then)) q))
 
-        is_kept : IsKept input then (is_live then) left
+        is_kept : RepresentsMessages input then (is_live then) left
         is_kept = closing_is_not_kept input (messages_after row_then ns st.posted st.messages) then.messages st.turns (is_live then) then.posted left
-            (subst (λ (life : ℕ → Bool). AreKept input (messages_after row_then ns st.posted st.messages) st.turns life then.posted left) (sym (lives outcome parts done_is told told_is)) kept_then) messages_then
+            (subst (λ (life : ℕ → Bool). RepresentsMachineMessages input (messages_after row_then ns st.posted st.messages) st.turns life then.posted left) (sym (lives outcome parts done_is known known_is)) kept_then) messages_then
 
         next_is : between.calls.next ≡ suc st.posted
         next_is = kept_between.agrees.next
 
-        same : (u : ℕ) → u ≢ 0 → SameBut (λ q. seq_after q told) (closed_threads u) (thread_after st entry_set u)
+        same : (u : ℕ) → u ≢ 0 → SameBut (λ q. seq_after q known) (closed_threads u) (thread_after st entry_set u)
         same u there = record {
           left = refl;
           pending = refl;
@@ -281,15 +281,15 @@ module _ (m : Running) (st : State) (is : IsMachine m st) (t pid : ℕ) (made : 
         rows_are : AreRows new (thread_after st entry_set)
         rows_are = subst (λ (rows : List ThreadRow). AreRows rows (thread_after st entry_set)) (sym have.rows_are)
             (rows_at (thread_after st entry_set) (rows_renewed parts.processes pid t between.calls.next 1 closed)
-            (rows_then parts.processes pid t owner alive (suc st.posted) (λ q. seq_after q told) closed_threads (thread_after st entry_set) same closed 1 between.calls.next (λ none. omega (arith, none)) (let e = next_is in omega (arith, e)) tags
+            (rows_then parts.processes pid t owner alive (suc st.posted) (λ q. seq_after q known) closed_threads (thread_after st entry_set) same closed 1 between.calls.next (λ none. omega (arith, none)) (let e = next_is in omega (arith, e)) tags
             (λ q over k. seq_after q (renewals_from (sym next_is k) (sym numbers_stay k))) (rows_from closed_threads closed closed_rows)))
 
-        pub set_here : IsMachine (with_parts m parts left new) (state_after m.input st entry_set)
-        set_here = behind m st is (choice.Thread t) entry_set (entry_is outcome parts done_is told told_is) refl refl parts left new system_then is_kept rows_are
+        pub set_here : Refines (with_parts m parts left new) (state_after m.input st entry_set)
+        set_here = following m st is (choice.Thread t) entry_set (entry_is outcome parts done_is known known_is) refl refl parts left new system_then is_kept rows_are
             (ap length have.rows_are ∙ count_renewed parts.processes pid t closed 1 between.calls.next ∙ length-set m.threads (t - 1) _)
 
     pub entry_here : entry_of m.input st (choice.Thread t) ≡ Some entry_set
-    entry_here = entry_is outcome parts done_is told told_is
+    entry_here = entry_is outcome parts done_is known known_is
 
     -- the process still exists
     pub there_stays : IsPid m.system.processes pid → IsPid parts.processes pid
@@ -307,7 +307,7 @@ module _ (m : Running) (st : State) (is : IsMachine m st) (t pid : ℕ) (made : 
 -- ---- in each state that the machine represents
 
 -- enough numbers are left for all threads
-pub room_for_all : (m : Running) (st : State) → IsMachine m st → m.workers.calls.next + length m.threads < 2 ^ 64
+pub room_for_all : (m : Running) (st : State) → Refines m st → m.workers.calls.next + length m.threads < 2 ^ 64
 room_for_all m st is =
     let drawn : st.posted ≤ most_numbers m.input = subst (λ (s : State). s.posted ≤ most_numbers m.input) (sym is.reached.state_is) (few_drawn m.input is.reached.startable is.reached.choices) in
     let fewer : schedules.set_id_count m.input ≤ schedules.instruction_count m.input = fewer_set m.input in
@@ -317,39 +317,39 @@ room_for_all m st is =
     let count = is.count in
     omega (arith, drawn, fewer, few, threads, next, count)
 
-module _ (m : Running) (t pid : ℕ) (made : Use) (next : IsNext m t (steps.Make made)) (process : pid_of m.system.processes t ≡ Some pid) (row : ThreadRow) (row_is : item_at_number m.threads t ≡ Some row) (sets : schedules.sets_ids made.call ≡ true)
-    (outcome : Outcome) (parts : Parts) (done_is : IsDone made.call (request_with m t pid made) outcome m.system parts) (between : UnderWay) (closes : EndsCall made.seq m.workers between) where
+module _ (m : Running) (t pid : ℕ) (ready : ReadyCall) (next : IsNextStep m t (steps.Make ready)) (process : pid_of m.system.processes t ≡ Some pid) (row : ThreadRow) (row_is : item_at_number m.threads t ≡ Some row) (sets : schedules.sets_ids ready.call ≡ true)
+    (outcome : Outcome) (parts : Parts) (done_is : IsCallMade ready.call (request_with m t pid ready) outcome m.system parts) (between : UnderWay) (closes : EndsCall ready.seq m.workers between) where
   abbrev shut : List ThreadRow
   shut = set m.threads (t - 1) (record row { pending = None })
 
   -- a call that is to set ids is made, and is refused
-  pub refusing : IsSome (set_refused made.call made.ids (slice_index_or made.regs 0 0))
-      → IsStep m (choice.Thread t) (Some (Used t made.seq made.call made.regs made.args made.ids outcome.result outcome.changes)) (with_parts m parts between shut)
+  pub refusing : IsSome (set_refused ready.call ready.ids (slice_index_or ready.regs 0 0))
+      → IsStep m (choice.Thread t) (Some (Used t ready.seq ready.call ready.regs ready.args ready.ids outcome.result outcome.changes)) (with_parts m parts between shut)
   refusing refused = λ st is.
-      let none = changes_none made.call sets (system_of m.input st) (request_of m.input st t made.regs made.args made.ids) refused in
-      let entry_by : List Change → Entry = λ changes. Used t made.seq made.call made.regs made.args made.ids outcome.result changes in
-      subst (λ (changes : List Change). (entry_of m.input st (choice.Thread t) ≡ Some (entry_by changes)) × IsMachine (with_parts m parts between shut) (state_after m.input st (entry_by changes)))
-      (sym (none_made m st is t pid made next process row row_is outcome parts done_is [] none refl))
-      (entry_is m st is t pid made next process row row_is outcome parts done_is [] none, refused_here m st is t pid made next process row row_is outcome parts done_is none between closes)
+      let none = changes_none ready.call sets (system_of m.input st) (request_of m.input st t ready.regs ready.args ready.ids) refused in
+      let entry_by : List Change → Entry = λ changes. Used t ready.seq ready.call ready.regs ready.args ready.ids outcome.result changes in
+      subst (λ (changes : List Change). (entry_of m.input st (choice.Thread t) ≡ Some (entry_by changes)) × Refines (with_parts m parts between shut) (state_after m.input st (entry_by changes)))
+      (sym (none_made m st is t pid ready next process row row_is outcome parts done_is [] none refl))
+      (entry_is m st is t pid ready next process row row_is outcome parts done_is [] none, refused_here m st is t pid ready next process row row_is outcome parts done_is none between closes)
 
-  module _ (given : Ids) (well : set_refused made.call made.ids (slice_index_or made.regs 0 0) ≡ None) (given_is : ids_after_set made.call made.ids (slice_index_or made.regs 0 0) ≡ given) where
-    effect_given : (st : State) → (effect (system_of m.input st) made.call (request_of m.input st t made.regs made.args made.ids)).changes ≡ SetIds given ∷ renewals (st.threads t).owner t (suc st.posted) (held_from st 1 (thread_count m.input))
-    effect_given st = changes_set made.call sets (system_of m.input st) (request_of m.input st t made.regs made.args made.ids) well ∙ ap (λ (ids : Ids). SetIds ids ∷ renewals (st.threads t).owner t (suc st.posted) (held_from st 1 (thread_count m.input))) given_is
+  module _ (given : Ids) (well : set_refused ready.call ready.ids (slice_index_or ready.regs 0 0) ≡ None) (given_is : ids_after_set ready.call ready.ids (slice_index_or ready.regs 0 0) ≡ given) where
+    effect_given : (st : State) → (effect (system_of m.input st) ready.call (request_of m.input st t ready.regs ready.args ready.ids)).changes ≡ SetIds given ∷ renewals (st.threads t).owner t (suc st.posted) (held_from st 1 (thread_count m.input))
+    effect_given st = changes_set ready.call sets (system_of m.input st) (request_of m.input st t ready.regs ready.args ready.ids) well ∙ ap (λ (ids : Ids). SetIds ids ∷ renewals (st.threads t).owner t (suc st.posted) (held_from st 1 (thread_count m.input))) given_is
 
     -- the other held calls of its process can be renewed, with as many copies of its directory
-    pub can_set : (st : State) → IsMachine m st → CanRenew between (numbers_from parts.processes pid t 1 shut)
-    can_set st is = can_renew m st is t pid made next process row row_is outcome parts done_is given (effect_given st) between closes
+    pub can_set : (st : State) → Refines m st → CanRenew between (numbers_from parts.processes pid t 1 shut)
+    can_set st is = can_renew m st is t pid ready next process row row_is outcome parts done_is given (effect_given st) between closes
 
-    pub copies_set : (st : State) → IsMachine m st → replicate (length (numbers_from m.system.processes pid t 1 m.threads)) (process_at m.system.processes pid).cwd ≡ replicate (length (numbers_from parts.processes pid t 1 shut)) (process_at parts.processes pid).cwd
-    copies_set st is = copies_stay m st is t pid made next process row row_is outcome parts done_is given (effect_given st)
+    pub copies_set : (st : State) → Refines m st → replicate (length (numbers_from m.system.processes pid t 1 m.threads)) (process_at m.system.processes pid).cwd ≡ replicate (length (numbers_from parts.processes pid t 1 shut)) (process_at parts.processes pid).cwd
+    copies_set st is = copies_stay m st is t pid ready next process row row_is outcome parts done_is given (effect_given st)
 
-    pub cwd_set : (st : State) → IsMachine m st → (process_at m.system.processes pid).cwd ≡ (process_at parts.processes pid).cwd
-    cwd_set st is = sym (cwd_stays m st is t pid made next process row row_is outcome parts done_is given (effect_given st))
+    pub cwd_set : (st : State) → Refines m st → (process_at m.system.processes pid).cwd ≡ (process_at parts.processes pid).cwd
+    cwd_set st is = sym (cwd_stays m st is t pid ready next process row row_is outcome parts done_is given (effect_given st))
 
-    pub there_set : (st : State) → IsMachine m st → IsPid m.system.processes pid → IsPid parts.processes pid
-    there_set st is there = there_stays m st is t pid made next process row row_is outcome parts done_is given (effect_given st) there
+    pub there_set : (st : State) → Refines m st → IsPid m.system.processes pid → IsPid parts.processes pid
+    there_set st is there = there_stays m st is t pid ready next process row row_is outcome parts done_is given (effect_given st) there
 
-    pub room_set : (st : State) → IsMachine m st → between.calls.next + length shut < 2 ^ 64
+    pub room_set : (st : State) → Refines m st → between.calls.next + length shut < 2 ^ 64
     room_set st is =
         let room = room_for_all m st is in
         let old : m.workers.calls.next ≡ suc st.posted = is.workers.agrees.next in
@@ -359,11 +359,11 @@ module _ (m : Running) (t pid : ℕ) (made : Use) (next : IsNext m t (steps.Make
 
     -- a call that sets ids is made, and the other held calls of its process are renewed
     pub setting : (left : UnderWay) (rows : List ThreadRow) → HaveRenewed parts.processes pid t shut between rows left
-        → IsStep m (choice.Thread t) (Some (Used t made.seq made.call made.regs made.args made.ids outcome.result (SetIds given ∷ renewals_from m.workers.calls.next (numbers_from m.system.processes pid t 1 m.threads)))) (with_parts m parts left rows)
+        → IsStep m (choice.Thread t) (Some (Used t ready.seq ready.call ready.regs ready.args ready.ids outcome.result (SetIds given ∷ renewals_from m.workers.calls.next (numbers_from m.system.processes pid t 1 m.threads)))) (with_parts m parts left rows)
     setting left rows have = λ st is.
         let given_here = effect_given st in
-        let entry_by : ℕ → Entry = λ n. Used t made.seq made.call made.regs made.args made.ids outcome.result (SetIds given ∷ renewals_from n (numbers_from m.system.processes pid t 1 m.threads)) in
-        subst (λ (n : ℕ). (entry_of m.input st (choice.Thread t) ≡ Some (entry_by n)) × IsMachine (with_parts m parts left rows) (state_after m.input st (entry_by n))) (sym is.workers.agrees.next) (
-          entry_here m st is t pid made next process row row_is outcome parts done_is given given_here,
-          set_here m st is t pid made next process row row_is outcome parts done_is given given_here between closes rows left have,
+        let entry_by : ℕ → Entry = λ n. Used t ready.seq ready.call ready.regs ready.args ready.ids outcome.result (SetIds given ∷ renewals_from n (numbers_from m.system.processes pid t 1 m.threads)) in
+        subst (λ (n : ℕ). (entry_of m.input st (choice.Thread t) ≡ Some (entry_by n)) × Refines (with_parts m parts left rows) (state_after m.input st (entry_by n))) (sym is.workers.agrees.next) (
+          entry_here m st is t pid ready next process row row_is outcome parts done_is given given_here,
+          set_here m st is t pid ready next process row row_is outcome parts done_is given given_here between closes rows left have,
         )

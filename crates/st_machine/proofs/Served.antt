@@ -7,7 +7,7 @@ use Rattle.st_calls.specs.declared.judged.Snapshot.{Snapshot}
 use Rattle.st_calls.specs.declared.judged.Verdict.{Verdict}
 use Rattle.st_filter.specs.Judging.{verdict}
 use Rattle.st_filter.specs.Policies.{filters_of, policy_of}
-use Rattle.st_messages.specs.Messages.{is_live}
+use Rattle.st_messages.specs.Messages.{is_live_number}
 use Rattle.st_messages.specs.declared.message.Delivered.{Delivered}
 use Rattle.st_messages.specs.declared.message.Delivered.TheVariants.{Applied, Stale}
 use Rattle.st_model.specs.Memory.{word_of}
@@ -26,20 +26,20 @@ use Rattle.st_law.specs.State as law
 use Rattle.st_law.specs.State.{State, ThreadState, space_of_head, word_for}
 use Rattle.st_base.specs.declared.errno.Errno.{Errno}
 use Rattle.st_model.specs.Processes.{StartedThread, thread_at as started_at}
-use Rattle.st_system.specs.System.{IsSystem, IsThread, Parts}
-use Rattle.st_workers.specs.Kept.{Follows, IsKept, IsKeptAfter, Stands}
+use Rattle.st_system.specs.System.{IsSystem, IsThreadState, Parts}
+use Rattle.st_workers.specs.Refinement.{RepresentsAfterEntry, RepresentsMessages, RepresentsMessagesAfter, SameWorkersState}
 use Rattle.st_workers.specs.Tasks.{IsOfProcess}
-use Rattle.st_workers.specs.UnderWay.{turn_at, UnderWay}
+use Rattle.st_workers.specs.UnderWay.{turn_of_worker, UnderWay}
 use Rattle.st_workers.specs.declared.task.Task.TheVariants as tasks
 use Rattle.st_workers.specs.declared.turn.Turn.{Turn}
 use Rattle.st_workers.specs.declared.turn.Turn.TheVariants.{Idle, Working, Ready}
-use Rattle.st_next.specs.Machine as machine
+use Rattle.st_decide.specs.Machine as machine
 use Rattle.st_machine.specs.Serving.{is_applied}
-use Rattle.st_next.specs.Machine.{HasTask, IsMachine, IsRunning, IsStep, Running}
+use Rattle.st_decide.specs.Machine.{HasTask, Refines, RefinesSomeState, IsStep, Running}
 use Rattle.st_reached.proofs.Owning.{own_process}
 use Rattle.st_workers.proofs.Ended.{lives_as}
-use Rattle.st_next.proofs.Reached.{reached_of}
-use Rattle.st_machine.proofs.After.{AreRows, behind, with_parts}
+use Rattle.st_decide.proofs.Reached.{reached_of}
+use Rattle.st_machine.proofs.After.{AreRows, following, with_parts}
 
 -- ---- only the messages change
 
@@ -48,7 +48,7 @@ abbrev pub with_workers : Running → UnderWay → Running
 with_workers m workers = with_parts m m.system workers m.threads
 
 -- the machine represents the same state as before if its messages do
-pub stands_so : (m : Running) (new : UnderWay) → Stands m.workers new → machine.Stands m (with_workers m new)
+pub stands_so : (m : Running) (new : UnderWay) → SameWorkersState m.workers new → machine.SameState m (with_workers m new)
 stands_so m new stands st is = record {
   reached = is.reached;
   bounded = is.bounded;
@@ -86,7 +86,7 @@ copies_of s (Some Idle) = s
 copies_of s (Some (Working q)) = s
 copies_of s (Some (Ready own)) = own
 
-pub same_copies : (kept : UnderWay) (w : ℕ) (one two : Snapshot) → turn_at kept w ≡ Some (Ready one) → turn_at kept w ≡ Some (Ready two) → one ≡ two
+pub same_copies : (kept : UnderWay) (w : ℕ) (one two : Snapshot) → turn_of_worker kept w ≡ Some (Ready one) → turn_of_worker kept w ≡ Some (Ready two) → one ≡ two
 same_copies kept w one two first second = ap (copies_of one) (sym first ∙ second)
 
 -- an answer is applied iff its number is live
@@ -99,7 +99,7 @@ applied_as Stale false x = refl
 
 -- ---- one more entry of a worker
 
-same_thread : (o : Option StartedThread) (a b : ThreadState) → b.owner ≡ a.owner → b.ended ≡ a.ended → IsThread o a → IsThread o b
+same_thread : (o : Option StartedThread) (a b : ThreadState) → b.owner ≡ a.owner → b.ended ≡ a.ended → IsThreadState o a → IsThreadState o b
 same_thread None a b owner ended x = (owner ∙ x.0, ended ∙ x.1)
 same_thread (Some thread) a b owner ended x = (owner ∙ x.0, ended ∙ x.1)
 
@@ -117,47 +117,47 @@ same_system i st new parts tree descriptors processes next_process memory next_s
   among = x.among;
 }
 
-module _ (m : Running) (st : State) (is : IsMachine m st) (w : ℕ) (new : UnderWay) where
+module _ (m : Running) (st : State) (is : Refines m st) (w : ℕ) (new : UnderWay) where
   -- the messages after a worker's step, and its entry
   abbrev pub IsServedBy : Entry → Type 0
-  IsServedBy e = (worker_entry m.input st w ≡ Some e) × IsMachine (with_workers m new) (state_after m.input st e)
+  IsServedBy e = (worker_entry m.input st w ≡ Some e) × Refines (with_workers m new) (state_after m.input st e)
 
   rows : AreRows m.threads st.threads
   rows = is.threads
 
-  pub claimed_step : (v q : ℕ) → worker_entry m.input st w ≡ Some (entry.Claimed v q) → IsKeptAfter m.input st (entry.Claimed v q) (law.is_live st) new → IsServedBy (entry.Claimed v q)
+  pub claimed_step : (v q : ℕ) → worker_entry m.input st w ≡ Some (entry.Claimed v q) → RepresentsMessagesAfter m.input st (entry.Claimed v q) (law.is_live st) new → IsServedBy (entry.Claimed v q)
   claimed_step v q is_entry kept = (
     is_entry,
-    behind m st is (choice.Worker w) (entry.Claimed v q) is_entry refl refl m.system new m.threads
+    following m st is (choice.Worker w) (entry.Claimed v q) is_entry refl refl m.system new m.threads
         (same_system m.input st (state_after m.input st (entry.Claimed v q)) m.system refl refl refl refl refl refl (λ t. refl) (λ t. refl) is.system) kept rows refl,
   )
 
-  pub copied_step : (q part place word : ℕ) → worker_entry m.input st w ≡ Some (entry.Copied q part place word) → IsKeptAfter m.input st (entry.Copied q part place word) (law.is_live st) new → IsServedBy (entry.Copied q part place word)
+  pub copied_step : (q part place word : ℕ) → worker_entry m.input st w ≡ Some (entry.Copied q part place word) → RepresentsMessagesAfter m.input st (entry.Copied q part place word) (law.is_live st) new → IsServedBy (entry.Copied q part place word)
   copied_step q part place word is_entry kept = (
     is_entry,
-    behind m st is (choice.Worker w) (entry.Copied q part place word) is_entry refl refl m.system new m.threads
+    following m st is (choice.Worker w) (entry.Copied q part place word) is_entry refl refl m.system new m.threads
         (same_system m.input st (state_after m.input st (entry.Copied q part place word)) m.system refl refl refl refl refl refl (λ t. refl) (λ t. refl) is.system) kept rows refl,
   )
 
-  pub looked_step : (q part : ℕ) (name : Components) (seen : SeenText) → worker_entry m.input st w ≡ Some (entry.Looked q part name seen) → IsKeptAfter m.input st (entry.Looked q part name seen) (law.is_live st) new → IsServedBy (entry.Looked q part name seen)
+  pub looked_step : (q part : ℕ) (name : Components) (seen : SeenText) → worker_entry m.input st w ≡ Some (entry.Looked q part name seen) → RepresentsMessagesAfter m.input st (entry.Looked q part name seen) (law.is_live st) new → IsServedBy (entry.Looked q part name seen)
   looked_step q part name seen is_entry kept = (
     is_entry,
-    behind m st is (choice.Worker w) (entry.Looked q part name seen) is_entry refl refl m.system new m.threads
+    following m st is (choice.Worker w) (entry.Looked q part name seen) is_entry refl refl m.system new m.threads
         (same_system m.input st (state_after m.input st (entry.Looked q part name seen)) m.system refl refl refl refl refl refl (λ t. refl) (λ t. refl) is.system) kept rows refl,
   )
 
-  pub faulted_step : (q : ℕ) (errno : Errno) → worker_entry m.input st w ≡ Some (entry.Faulted q errno) → IsKeptAfter m.input st (entry.Faulted q errno) (law.is_live st) new → IsServedBy (entry.Faulted q errno)
+  pub faulted_step : (q : ℕ) (errno : Errno) → worker_entry m.input st w ≡ Some (entry.Faulted q errno) → RepresentsMessagesAfter m.input st (entry.Faulted q errno) (law.is_live st) new → IsServedBy (entry.Faulted q errno)
   faulted_step q errno is_entry kept = (
     is_entry,
-    behind m st is (choice.Worker w) (entry.Faulted q errno) is_entry refl refl m.system new m.threads
+    following m st is (choice.Worker w) (entry.Faulted q errno) is_entry refl refl m.system new m.threads
         (same_system m.input st (state_after m.input st (entry.Faulted q errno)) m.system refl refl refl refl refl refl (λ t. refl) (λ t. refl) is.system) kept rows refl,
   )
 
-  pub answered_step : (v : ℕ) (s : Snapshot) (verdict : Verdict) (applied : Bool) → worker_entry m.input st w ≡ Some (entry.Answered v s verdict applied) → IsKeptAfter m.input st (entry.Answered v s verdict applied) (law.is_live st) new
+  pub answered_step : (v : ℕ) (s : Snapshot) (verdict : Verdict) (applied : Bool) → worker_entry m.input st w ≡ Some (entry.Answered v s verdict applied) → RepresentsMessagesAfter m.input st (entry.Answered v s verdict applied) (law.is_live st) new
       → IsServedBy (entry.Answered v s verdict applied)
   answered_step v s verdict applied is_entry kept = (
     is_entry,
-    behind m st is (choice.Worker w) (entry.Answered v s verdict applied) is_entry refl refl m.system new m.threads
+    following m st is (choice.Worker w) (entry.Answered v s verdict applied) is_entry refl refl m.system new m.threads
         (same_system m.input st (state_after m.input st (entry.Answered v s verdict applied)) m.system refl refl refl refl refl refl (λ t. refl) (λ t. refl) is.system) kept rows refl,
   )
 
@@ -165,18 +165,18 @@ module _ (m : Running) (st : State) (is : IsMachine m st) (w : ℕ) (new : Under
 
 module _ (m : Running) (w : ℕ) (new : UnderWay) where
   abbrev HasEntry : Entry → Type 0
-  HasEntry e = (i : Input) (st : State) → IsKept i st (law.is_live st) m.workers → worker_entry i st w ≡ Some e
+  HasEntry e = (i : Input) (st : State) → RepresentsMessages i st (law.is_live st) m.workers → worker_entry i st w ≡ Some e
 
-  pub claimed : (q : ℕ) → HasEntry (entry.Claimed w q) → Follows m.workers (entry.Claimed w q) new → IsStep m (choice.Worker w) (Some (entry.Claimed w q)) (with_workers m new)
+  pub claimed : (q : ℕ) → HasEntry (entry.Claimed w q) → RepresentsAfterEntry m.workers (entry.Claimed w q) new → IsStep m (choice.Worker w) (Some (entry.Claimed w q)) (with_workers m new)
   claimed q its follows = λ st is. claimed_step m st is w new w q (its m.input st is.workers) (follows m.input st (law.is_live st) is.workers)
 
-  pub faulted : (q : ℕ) (errno : Errno) → HasTask m w (tasks.Fault q errno) → Follows m.workers (entry.Faulted q errno) new → IsStep m (choice.Worker w) (Some (entry.Faulted q errno)) (with_workers m new)
+  pub faulted : (q : ℕ) (errno : Errno) → HasTask m w (tasks.Fault q errno) → RepresentsAfterEntry m.workers (entry.Faulted q errno) new → IsStep m (choice.Worker w) (Some (entry.Faulted q errno)) (with_workers m new)
   faulted q errno task follows = λ st is. faulted_step m st is w new q errno (task.law m.input st is.workers) (follows m.input st (law.is_live st) is.workers)
 
   -- a worker that copies the word that its message's memory has
   pub copied : (q pid part place word : ℕ) → HasTask m w (tasks.Copy q pid part place)
       → ((i : Input) (st : State) → IsSystem i st m.system → word ≡ word_of (st.memory (st.processes pid).space) place)
-      → Follows m.workers (entry.Copied q part place word) new → IsStep m (choice.Worker w) (Some (entry.Copied q part place word)) (with_workers m new)
+      → RepresentsAfterEntry m.workers (entry.Copied q part place word) new → IsStep m (choice.Worker w) (Some (entry.Copied q part place word)) (with_workers m new)
   copied q pid part place word task is_word follows = λ st is.
       let own = task.law m.input st is.workers in
       copied_step m st is w new q part place word
@@ -184,18 +184,18 @@ module _ (m : Running) (w : ℕ) (new : UnderWay) where
       (follows m.input st (law.is_live st) is.workers)
 
   -- a worker that looks at a name, and sees what the tree has under it
-  pub looked : (readied : UnderWay) (q part : ℕ) (name : Components) (seen : SeenText) → seen ≡ look m.system.tree name → Stands m.workers readied
-      → ((i : Input) (st : State) → IsKept i st (law.is_live st) m.workers → worker_entry i st w ≡ Some (entry.Looked q part name (look st.tree name)))
-      → Follows readied (entry.Looked q part name seen) new → IsStep m (choice.Worker w) (Some (entry.Looked q part name seen)) (with_workers m new)
+  pub looked : (readied : UnderWay) (q part : ℕ) (name : Components) (seen : SeenText) → seen ≡ look m.system.tree name → SameWorkersState m.workers readied
+      → ((i : Input) (st : State) → RepresentsMessages i st (law.is_live st) m.workers → worker_entry i st w ≡ Some (entry.Looked q part name (look st.tree name)))
+      → RepresentsAfterEntry readied (entry.Looked q part name seen) new → IsStep m (choice.Worker w) (Some (entry.Looked q part name seen)) (with_workers m new)
   looked readied q part name seen is_seen stands its follows = λ st is.
       looked_step m st is w new q part name seen
       (its m.input st is.workers ∙ ap (λ (tree : Tree). Some (entry.Looked q part name (look tree name))) is.system.tree ∙ ap (λ (x : SeenText). Some (entry.Looked q part name x)) (sym is_seen))
       (follows m.input st (law.is_live st) (stands m.input st.messages st.turns (law.is_live st) st.posted is.workers))
 
   -- a ready worker answers
-  pub answered : (s : Snapshot) (v : Verdict) (applied : Bool) → turn_at m.workers w ≡ Some (Ready s) → v ≡ verdict (filters_of s.rule (policy_of m.input.policies s.policy)) s
-      → ((i : Input) (st : State) (alive : ℕ → Bool) → IsKept i st alive m.workers → applied ≡ alive s.seq) → HasTask m w tasks.Answer
-      → ((i : Input) (st : State) (alive : ℕ → Bool) → IsKept i st alive m.workers → v ≡ verdict (filters_of s.rule (policy_of i.policies s.policy)) s → IsKeptAfter i st (entry.Answered w s v (alive s.seq)) alive new)
+  pub answered : (s : Snapshot) (v : Verdict) (applied : Bool) → turn_of_worker m.workers w ≡ Some (Ready s) → v ≡ verdict (filters_of s.rule (policy_of m.input.policies s.policy)) s
+      → ((i : Input) (st : State) (alive : ℕ → Bool) → RepresentsMessages i st alive m.workers → applied ≡ alive s.seq) → HasTask m w tasks.Answer
+      → ((i : Input) (st : State) (alive : ℕ → Bool) → RepresentsMessages i st alive m.workers → v ≡ verdict (filters_of s.rule (policy_of i.policies s.policy)) s → RepresentsMessagesAfter i st (entry.Answered w s v (alive s.seq)) alive new)
       → IsStep m (choice.Worker w) (Some (entry.Answered w s v applied)) (with_workers m new)
   answered s v applied ready judged lives task after = λ st is.
       let own = task.law m.input st is.workers in
@@ -204,11 +204,11 @@ module _ (m : Running) (w : ℕ) (new : UnderWay) where
       answered_step m st is w new w s v applied
       (own.2 ∙ ap (λ (x : Snapshot). Some (entry.Answered w x (verdict (filters_of x.rule (policy_of m.input.policies x.policy)) x) (law.is_live st x.seq))) here
       ∙ ap (λ (x : Verdict). Some (entry.Answered w s x (law.is_live st s.seq))) (sym judged) ∙ ap (λ (b : Bool). Some (entry.Answered w s v b)) (sym applies))
-      (subst (λ (b : Bool). IsKeptAfter m.input st (entry.Answered w s v b) (law.is_live st) new) (sym applies) (after m.input st (law.is_live st) is.workers judged))
+      (subst (λ (b : Bool). RepresentsMessagesAfter m.input st (entry.Answered w s v b) (law.is_live st) new) (sym applies) (after m.input st (law.is_live st) is.workers judged))
 
 -- the process of a live message exists
-pub process_there : (m : Running) → IsRunning m → (q pid : ℕ) → is_live m.workers.calls q ≡ true
-    → ((i : Input) (st : State) → IsKept i st (law.is_live st) m.workers → IsOfProcess st q pid) → IsPid m.system.processes pid
+pub process_there : (m : Running) → RefinesSomeState m → (q pid : ℕ) → is_live_number m.workers.calls q ≡ true
+    → ((i : Input) (st : State) → RepresentsMessages i st (law.is_live st) m.workers → IsOfProcess st q pid) → IsPid m.system.processes pid
 process_there m run q pid live of_process =
     let st = run.state in
     let is = run.is in
@@ -231,13 +231,13 @@ pub left_as : (old new : Running) (c : Choice) (added : Option Entry) (e : Entry
 left_as old new c added e is step = subst (λ (o : Option Entry). IsStep old c o new) (sym is) step
 
 -- representing the same state as before is transitive
-pub stands_on : (a b d : UnderWay) → Stands a b → Stands b d → Stands a d
+pub stands_on : (a b d : UnderWay) → SameWorkersState a b → SameWorkersState b d → SameWorkersState a d
 stands_on a b d first second = λ i messages turns alive posted kept. second i messages turns alive posted (first i messages turns alive posted kept)
 
 -- ---- the machine that runs, after a step
 
-pub running_step : (m new : Running) (c : Choice) (e : Entry) → IsRunning m → IsStep m c (Some e) new → IsRunning new
+pub running_step : (m new : Running) (c : Choice) (e : Entry) → RefinesSomeState m → IsStep m c (Some e) new → RefinesSomeState new
 running_step m new c e run step = record { state = state_after m.input run.state e; is = (step run.state run.is).1 }
 
-pub running_stands : (m new : Running) → IsRunning m → machine.Stands m new → IsRunning new
+pub running_stands : (m new : Running) → RefinesSomeState m → machine.SameState m new → RefinesSomeState new
 running_stands m new run stands = record { state = run.state; is = stands run.state run.is }

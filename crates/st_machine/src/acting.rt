@@ -1,24 +1,24 @@
 // The steps of threads. Each changes the machine as its entry says, and stores the entry in the caller's `added`. An entry has many words,
 // so it is written once and not passed on. It is written when nothing can fail any more, so that `added` is unchanged if a step fails.
 ghost use Rattle.std.specs.Prelude.{◌≡◌, OnOk, OnErr, Some};
-ghost use Rattle.st_next.specs.Machine.{IsNext, IsStep, Stands};
-ghost use Rattle.st_next.specs.NextSteps.{CanBeDone};
+ghost use Rattle.st_decide.specs.Machine.{IsNextStep, IsStep, SameState};
+ghost use Rattle.st_decide.specs.NextSteps.{CanBeDone};
 ghost use Rattle.st_model.specs.Processes.{pid_of, IsPid};
-ghost use Rattle.st_next.specs.declared.step.Step.TheVariants as steps;
+ghost use Rattle.st_decide.specs.declared.step.Step.TheVariants as steps;
 ghost use Rattle.st_trace.specs.declared.entry.Choice.TheVariants.{Thread};
 
 use crate::machine::Machine;
 use crate::placing::{leave, leave_none};
 use st_base::{Errno, Ids, Pid, Seq, Sequence, Tid};
 use st_calls::SysCall;
-use st_next::{Step, Use};
+use st_decide::{ReadyCall, Step};
 use st_trace::{CallArgs, CallResult, Cause, Entry};
 use std::alloc::{AllocError, Global};
 
 impl<'a> Machine<'a> {
     // Ends a thread, and its process if this was its last thread.
     fn end(&mut self, tid: Tid, added: &mut Option<Entry>)
-        requires { IsNext self.old tid steps.End }
+        requires { IsNextStep self.old tid steps.End }
         ensures step { IsStep self.old (Thread tid) added.new self.new }
         ensures input { self.new.input ≡ self.old.input }
     {
@@ -29,7 +29,7 @@ impl<'a> Machine<'a> {
 
     // Stores a word for a thread.
     fn store(&mut self, tid: Tid, place: u32, word: u64, added: &mut Option<Entry>)
-        requires { IsNext self.old tid (steps.Store place word) }
+        requires { IsNextStep self.old tid (steps.Store place word) }
         ensures step { IsStep self.old (Thread tid) added.new self.new }
         ensures input { self.new.input ≡ self.old.input }
     {
@@ -49,12 +49,12 @@ impl<'a> Machine<'a> {
         errno: Errno,
         added: &mut Option<Entry>,
     )
-        requires { IsNext self.old tid (steps.Fail call regs ids errno) }
+        requires { IsNextStep self.old tid (steps.Fail call regs ids errno) }
         ensures step { IsStep self.old (Thread tid) added.new self.new }
         ensures input { self.new.input ≡ self.old.input }
     {
         self.threads[tid as usize - 1].close();
-        let failed = Use {
+        let failed = ReadyCall {
             seq: None,
             call,
             regs,
@@ -69,7 +69,7 @@ impl<'a> Machine<'a> {
 
     // Denies a thread's barred call.
     fn deny_barred(&mut self, tid: Tid, errno: Errno, cause: Cause, added: &mut Option<Entry>)
-        requires { IsNext self.old tid (steps.Deny None errno cause) }
+        requires { IsNextStep self.old tid (steps.Deny None errno cause) }
         ensures step { IsStep self.old (Thread tid) added.new self.new }
         ensures input { self.new.input ≡ self.old.input }
     {
@@ -94,7 +94,7 @@ impl<'a> Machine<'a> {
         cause: Cause,
         added: &mut Option<Entry>,
     )
-        requires { IsNext self.old tid (steps.Deny (Some seq) errno cause) }
+        requires { IsNextStep self.old tid (steps.Deny (Some seq) errno cause) }
         ensures step { IsStep self.old (Thread tid) added.new self.new }
         ensures input { self.new.input ≡ self.old.input }
     {
@@ -120,7 +120,7 @@ impl<'a> Machine<'a> {
         cause: Cause,
         added: &mut Option<Entry>,
     )
-        requires { IsNext self.old tid (steps.Deny seq errno cause) }
+        requires { IsNextStep self.old tid (steps.Deny seq errno cause) }
         ensures step { IsStep self.old (Thread tid) added.new self.new }
         ensures input { self.new.input ≡ self.old.input }
     {
@@ -139,18 +139,18 @@ impl<'a> Machine<'a> {
         step: Step,
         added: &mut Option<Entry>,
     ) -> Result<(), AllocError>
-        requires next { IsNext self.old tid step }
+        requires next { IsNextStep self.old tid step }
         requires can { CanBeDone self.old.system step }
         requires process { pid_of self.old.system.processes tid ≡ Some pid }
         requires there { IsPid self.old.system.processes pid }
         ensures step { OnOk result (IsStep self.old (Thread tid) added.new self.new) }
-        ensures err { OnErr result (Stands self.old self.new) }
+        ensures err { OnErr result (SameState self.old self.new) }
         ensures place { OnErr result (added.new ≡ added.old) }
         ensures input { self.new.input ≡ self.old.input }
     {
         match step {
             Step::Enter { call, regs } => self.enter(alloc, tid, pid, call, regs, added),
-            Step::Make(made) => self.use_call(alloc, tid, pid, made, added),
+            Step::Make(ready) => self.use_call(alloc, tid, pid, ready, added),
             Step::Wait => {
                 leave_none(added);
                 Ok(())
@@ -188,7 +188,7 @@ impl<'a> Machine<'a> {
         added: &mut Option<Entry>,
     ) -> Result<(), AllocError>
         ensures step { OnOk result (IsStep self.old (Thread tid) added.new self.new) }
-        ensures err { OnErr result (Stands self.old self.new) }
+        ensures err { OnErr result (SameState self.old self.new) }
         ensures place { OnErr result (added.new ≡ added.old) }
         ensures input { self.new.input ≡ self.old.input }
     {

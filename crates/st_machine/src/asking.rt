@@ -1,6 +1,6 @@
 // The operator's step: it answers the least question.
 ghost use Rattle.std.specs.Prelude.{◌≡◌, OnOk, OnErr};
-ghost use Rattle.st_next.specs.Machine.{IsStep, Stands};
+ghost use Rattle.st_decide.specs.Machine.{IsStep, SameState};
 ghost use Rattle.st_trace.specs.declared.entry.Choice.TheVariants.{Operator};
 
 use crate::machine::Machine;
@@ -13,7 +13,7 @@ impl<'a> Machine<'a> {
     /// runs out, nothing changes.
     pub fn ask(&mut self, alloc: Global, added: &mut Option<Entry>) -> Result<(), AllocError>
         ensures step { OnOk result (IsStep self.old Operator added.new self.new) }
-        ensures err { OnErr result (Stands self.old self.new) }
+        ensures err { OnErr result (SameState self.old self.new) }
         ensures place { OnErr result (added.new ≡ added.old) }
         ensures input { self.new.input ≡ self.old.input }
     {

@@ -1,6 +1,6 @@
 // Choices: each is made by its thread, its worker or the operator.
 ghost use Rattle.std.specs.Prelude.{◌≡◌, OnOk, OnErr};
-ghost use Rattle.st_next.specs.Machine.{IsStep, Stands};
+ghost use Rattle.st_decide.specs.Machine.{IsStep, SameState};
 ghost use Rattle.st_trace.specs.declared.entry.Choice.TheVariants as choices;
 
 use crate::machine::Machine;
@@ -18,7 +18,7 @@ impl<'a> Machine<'a> {
         added: &mut Option<Entry>,
     ) -> Result<(), AllocError>
         ensures step { OnOk result (IsStep self.old (choices.Worker worker) added.new self.new) }
-        ensures err { OnErr result (Stands self.old self.new) }
+        ensures err { OnErr result (SameState self.old self.new) }
         ensures place { OnErr result (added.new ≡ added.old) }
         ensures input { self.new.input ≡ self.old.input }
     {
@@ -38,7 +38,7 @@ impl<'a> Machine<'a> {
         added: &mut Option<Entry>,
     ) -> Result<(), AllocError>
         ensures step { OnOk result (IsStep self.old choice added.new self.new) }
-        ensures err { OnErr result (Stands self.old self.new) }
+        ensures err { OnErr result (SameState self.old self.new) }
         ensures place { OnErr result (added.new ≡ added.old) }
         ensures input { self.new.input ≡ self.old.input }
     {

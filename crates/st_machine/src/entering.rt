@@ -1,8 +1,8 @@
 // Enters calls: fast, barred, untraced, or held under the next number.
 ghost use Rattle.std.specs.Prelude.{◌≡◌, ◌<◌, ◌-◌, ◌^◌, Some, IfOk, OnOk, OnErr};
-ghost use Rattle.st_next.specs.Entering.{IsUnposted, IsWayOf};
-ghost use Rattle.st_next.specs.Machine.{IsNext, IsStep, Stands};
-ghost use Rattle.st_next.specs.declared.step.Step.TheVariants as steps;
+ghost use Rattle.st_decide.specs.Entering.{IsUnposted, IsWayOf};
+ghost use Rattle.st_decide.specs.Machine.{IsNextStep, IsStep, SameState};
+ghost use Rattle.st_decide.specs.declared.step.Step.TheVariants as steps;
 ghost use Rattle.st_model.specs.Processes.{pid_of, IsPid};
 ghost use Rattle.st_trace.specs.declared.entry.Choice.TheVariants.{Thread};
 ghost use Rattle.st_trace.specs.declared.entry.Way.TheVariants.{Held};
@@ -24,7 +24,7 @@ impl<'a> Machine<'a> {
         way: Way,
         added: &mut Option<Entry>,
     )
-        requires next { IsNext self.old tid (steps.Enter call regs) }
+        requires next { IsNextStep self.old tid (steps.Enter call regs) }
         requires way { IsWayOf self.old tid call regs way }
         requires unposted { IsUnposted way }
         ensures step { IsStep self.old (Thread tid) added.new self.new }
@@ -54,12 +54,12 @@ impl<'a> Machine<'a> {
         seq: Seq,
         added: &mut Option<Entry>,
     ) -> Result<(), AllocError>
-        requires next { IsNext self.old tid (steps.Enter call regs) }
+        requires next { IsNextStep self.old tid (steps.Enter call regs) }
         requires way { IsWayOf self.old tid call regs (Held seq) }
         requires process { pid_of self.old.system.processes tid ≡ Some pid }
         requires there { IsPid self.old.system.processes pid }
         ensures step { OnOk result (IsStep self.old (Thread tid) added.new self.new) }
-        ensures err { OnErr result (Stands self.old self.new) }
+        ensures err { OnErr result (SameState self.old self.new) }
         ensures place { OnErr result (added.new ≡ added.old) }
         ensures input { self.new.input ≡ self.old.input }
     {
@@ -89,11 +89,11 @@ impl<'a> Machine<'a> {
         regs: [u64; 6],
         added: &mut Option<Entry>,
     ) -> Result<(), AllocError>
-        requires next { IsNext self.old tid (steps.Enter call regs) }
+        requires next { IsNextStep self.old tid (steps.Enter call regs) }
         requires process { pid_of self.old.system.processes tid ≡ Some pid }
         requires there { IsPid self.old.system.processes pid }
         ensures step { OnOk result (IsStep self.old (Thread tid) added.new self.new) }
-        ensures err { OnErr result (Stands self.old self.new) }
+        ensures err { OnErr result (SameState self.old self.new) }
         ensures place { OnErr result (added.new ≡ added.old) }
         ensures input { self.new.input ≡ self.old.input }
     {

@@ -3,19 +3,18 @@ ghost use Rattle.st_law.specs.Inputs.{IsStartable};
 ghost use Rattle.st_law.specs.Machine.{first_state};
 ghost use Rattle.st_law.specs.State.{State, is_live};
 ghost use Rattle.st_compile.specs.Table.{IsTableOf};
-ghost use Rattle.st_operator.specs.Operator.{IsAdded};
-ghost use Rattle.st_workers.specs.Kept.{IsKept};
-ghost use Rattle.st_next.specs.Machine.{IsMachine};
+ghost use Rattle.st_learn.specs.Operator.{IsAdded};
+ghost use Rattle.st_workers.specs.Refinement.{RepresentsMessages};
+ghost use Rattle.st_decide.specs.Machine.{Refines};
 ghost use Rattle.st_threads.specs.Thread.{first_row};
 ghost use Rattle.st_reached.specs.Grants.{RepliesUngranted, SetIdsUngranted};
 ghost use Rattle.st_reached.specs.Scripts.{IsBounded};
 ghost use Rattle.st_system.specs.Start.{CanStart};
 
 use st_compile::FastTable;
+use st_decide::View;
 use st_law::Input;
-use st_learn::Session;
-use st_next::View;
-use st_operator::Operator;
+use st_learn::{Operator, Session};
 use st_system::System;
 use st_threads::Thread;
 use st_trace::ThreadRow;
@@ -39,7 +38,7 @@ pub struct Machine<'a> {
 impl<'a> Model for Machine<'a> {
     ghost use Rattle.std.specs.Coded.{codes};
     ghost use Rattle.st_filter.specs.FormulaCode.{formula_code};
-    ghost use Rattle.st_next.specs.Machine.{IsRunning, Running};
+    ghost use Rattle.st_decide.specs.Machine.{RefinesSomeState, Running};
 
     ghost Value = { Running };
 
@@ -47,7 +46,7 @@ impl<'a> Model for Machine<'a> {
 
     ghost view = { λ m. record { input = m.input.now; system = m.system; workers = m.workers; threads = m.threads.items; answers = m.answers; operator = m.operator } };
 
-    ghost invariant = { λ m. IsRunning (record { input = m.input.now; system = m.system; workers = m.workers; threads = m.threads.items; answers = m.answers; operator = m.operator }) };
+    ghost invariant = { λ m. RefinesSomeState (record { input = m.input.now; system = m.system; workers = m.workers; threads = m.threads.items; answers = m.answers; operator = m.operator }) };
 }
 
 // The threads of these rows, before their first step.
@@ -64,7 +63,7 @@ fn workers_and_threads<'a>(
     alloc: Global,
     input: &'a Input,
 ) -> Result<(Workers, Vec<Thread<'a>>), AllocError>
-    ensures workers { IfOk result (λ both. IsKept input.now (first_state input.now) (is_live (first_state input.now)) both.0) }
+    ensures workers { IfOk result (λ both. RepresentsMessages input.now (first_state input.now) (is_live (first_state input.now)) both.0) }
     ensures threads { IfOk result (λ both. both.1.items ≡ map (λ row. first_row row.body) input.now.start.threads) }
 {
     let threads = threads_of(alloc, input.start.threads.as_slice())?;
@@ -93,7 +92,7 @@ struct Parts<'a> {
 }
 
 fn parts_of<'a>(alloc: Global, input: &'a Input) -> Result<Parts<'a>, AllocError>
-    ensures workers { IfOk result (λ parts. IsKept input.now (first_state input.now) (is_live (first_state input.now)) parts.workers) }
+    ensures workers { IfOk result (λ parts. RepresentsMessages input.now (first_state input.now) (is_live (first_state input.now)) parts.workers) }
     ensures threads { IfOk result (λ parts. parts.threads.items ≡ map (λ row. first_row row.body) input.now.start.threads) }
     ensures answers { IfOk result (λ parts. IsTableOf input.now.policies parts.answers) }
     ensures operator { IfOk result (λ parts. IsAdded input.now (first_state input.now) parts.operator) }
@@ -117,7 +116,7 @@ impl<'a> Machine<'a> {
         requires ungranted { SetIdsUngranted input.now.policies }
         requires replies { RepliesUngranted input.now.replies }
         ensures input { IfOk result (λ machine. machine.input ≡ input.now) }
-        ensures first { IfOk result (λ machine. IsMachine machine (first_state input.now)) }
+        ensures first { IfOk result (λ machine. Refines machine (first_state input.now)) }
     {
         let system = System::start(alloc, input)?;
         let parts = parts_of(alloc, input)?;
@@ -140,7 +139,7 @@ impl<'a> Machine<'a> {
 
     /// The session of each abstract state that the machine represents.
     pub fn session(&self) -> &Session
-        ensures { (st : State) → IsMachine self.now st → result.now.filters ≡ st.session }
+        ensures { (st : State) → Refines self.now st → result.now.filters ≡ st.session }
     {
         self.operator.session()
     }

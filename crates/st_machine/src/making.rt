@@ -2,10 +2,10 @@
 ghost use Rattle.std.specs.Prelude.{◌≡◌, true, false, Some, IfOk, OnOk, OnErr};
 ghost use Rattle.st_law.specs.Schedules.{sets_ids};
 ghost use Rattle.st_machine.specs.Making.{MakesCall};
-ghost use Rattle.st_next.specs.Machine.{IsNext, IsStep, Stands};
-ghost use Rattle.st_next.specs.Making.{request_with};
-ghost use Rattle.st_next.specs.NextSteps.{IsFit};
-ghost use Rattle.st_next.specs.declared.step.Step.TheVariants as steps;
+ghost use Rattle.st_decide.specs.Machine.{IsNextStep, IsStep, SameState};
+ghost use Rattle.st_decide.specs.Making.{request_with};
+ghost use Rattle.st_decide.specs.NextSteps.{IsFit};
+ghost use Rattle.st_decide.specs.declared.step.Step.TheVariants as steps;
 ghost use Rattle.st_calls.specs.Call.{follows};
 ghost use Rattle.st_exec_fs.specs.Open.{IsNoLink};
 ghost use Rattle.st_model.specs.Processes.{pid_of, IsPid};
@@ -17,7 +17,7 @@ use crate::machine::Machine;
 use crate::placing::leave;
 use st_base::{Pid, Tid};
 use st_calls::SysCall;
-use st_next::Use;
+use st_decide::ReadyCall;
 use st_request::Outcome;
 use st_threads::{end_by_all, end_call};
 use st_trace::Entry;
@@ -35,21 +35,27 @@ fn sets_ids(call: SysCall) -> bool
 
 impl<'a> Machine<'a> {
     // Makes a thread's call that sets no ids. If memory runs out, the abstract state is unchanged.
-    fn make(&mut self, alloc: Global, tid: Tid, pid: Pid, made: &Use) -> Result<Outcome, AllocError>
-        requires next { IsNext self.old tid (steps.Make made.now) }
+    fn make(
+        &mut self,
+        alloc: Global,
+        tid: Tid,
+        pid: Pid,
+        ready: &ReadyCall,
+    ) -> Result<Outcome, AllocError>
+        requires next { IsNextStep self.old tid (steps.Make ready.now) }
         requires process { pid_of self.old.system.processes tid ≡ Some pid }
         requires there { IsPid self.old.system.processes pid }
-        requires can { CanMake made.now.call self.old.system (request_with self.old tid pid made.now) }
-        requires unlinked { follows made.now.call made.now.regs 0 ≡ true → IsNoLink self.old.system.tree (first_name made.now.args) }
-        requires sets_none { sets_ids made.now.call ≡ false }
-        ensures made { IfOk result (λ outcome. MakesCall self.old tid made.now outcome self.new) }
-        ensures err { OnErr result (Stands self.old self.new) }
+        requires can { CanMake ready.now.call self.old.system (request_with self.old tid pid ready.now) }
+        requires unlinked { follows ready.now.call ready.now.regs 0 ≡ true → IsNoLink self.old.system.tree (first_name ready.now.args) }
+        requires sets_none { sets_ids ready.now.call ≡ false }
+        ensures made { IfOk result (λ outcome. MakesCall self.old tid ready.now outcome self.new) }
+        ensures err { OnErr result (SameState self.old self.new) }
         ensures input { self.new.input ≡ self.old.input }
     {
-        let request = self.view().request_with(tid, pid, made);
-        let outcome = self.system.execute(alloc, made.call, &request)?;
+        let request = self.view().request_with(tid, pid, ready);
+        let outcome = self.system.execute(alloc, ready.call, &request)?;
         self.threads[tid as usize - 1].close();
-        end_call(&mut self.workers, made.seq);
+        end_call(&mut self.workers, ready.seq);
         let changes = outcome.changes.as_slice();
         end_by_all(
             &mut self.threads,
@@ -68,22 +74,22 @@ impl<'a> Machine<'a> {
         alloc: Global,
         tid: Tid,
         pid: Pid,
-        made: &Use,
+        ready: &ReadyCall,
     ) -> Result<Outcome, AllocError>
-        requires next { IsNext self.old tid (steps.Make made.now) }
-        requires fit { IsFit self.old.system made.now }
+        requires next { IsNextStep self.old tid (steps.Make ready.now) }
+        requires fit { IsFit self.old.system ready.now }
         requires process { pid_of self.old.system.processes tid ≡ Some pid }
         requires there { IsPid self.old.system.processes pid }
-        ensures made { IfOk result (λ outcome. MakesCall self.old tid made.now outcome self.new) }
-        ensures err { OnErr result (Stands self.old self.new) }
+        ensures made { IfOk result (λ outcome. MakesCall self.old tid ready.now outcome self.new) }
+        ensures err { OnErr result (SameState self.old self.new) }
         ensures input { self.new.input ≡ self.old.input }
     {
         // A thread that has started has a process, and the thread that a fork starts has none.
         let _has_started = self.system.has_started(self.view().child_of(tid));
-        if sets_ids(made.call) {
-            self.make_and_renew(alloc, tid, pid, made)
+        if sets_ids(ready.call) {
+            self.make_and_renew(alloc, tid, pid, ready)
         } else {
-            self.make(alloc, tid, pid, made)
+            self.make(alloc, tid, pid, ready)
         }
     }
 
@@ -93,20 +99,20 @@ impl<'a> Machine<'a> {
         alloc: Global,
         tid: Tid,
         pid: Pid,
-        made: Use,
+        ready: ReadyCall,
         added: &mut Option<Entry>,
     ) -> Result<(), AllocError>
-        requires next { IsNext self.old tid (steps.Make made) }
-        requires fit { IsFit self.old.system made }
+        requires next { IsNextStep self.old tid (steps.Make ready) }
+        requires fit { IsFit self.old.system ready }
         requires process { pid_of self.old.system.processes tid ≡ Some pid }
         requires there { IsPid self.old.system.processes pid }
         ensures step { OnOk result (IsStep self.old (Thread tid) added.new self.new) }
-        ensures err { OnErr result (Stands self.old self.new) }
+        ensures err { OnErr result (SameState self.old self.new) }
         ensures place { OnErr result (added.new ≡ added.old) }
         ensures input { self.new.input ≡ self.old.input }
     {
-        let outcome = self.make_any(alloc, tid, pid, &made)?;
-        leave(added, made.entry(tid, outcome.result, outcome.changes));
+        let outcome = self.make_any(alloc, tid, pid, &ready)?;
+        leave(added, ready.entry(tid, outcome.result, outcome.changes));
         Ok(())
     }
 }

@@ -2,9 +2,9 @@
 ghost use Rattle.std.specs.Prelude.{◌≡◌, ◌≢◌, ◌<◌, ◌+◌, ◌-◌, ◌^◌, true, [], ◌∷◌, ◌++◌, length, replicate, slice_index_or, Some, None, IsSome, IfSome, IfOk, OnErr};
 ghost use Rattle.st_law.specs.Schedules.{sets_ids};
 ghost use Rattle.st_machine.specs.Making.{MakesCall};
-ghost use Rattle.st_next.specs.Machine.{IsNext, Stands};
-ghost use Rattle.st_next.specs.Making.{request_with};
-ghost use Rattle.st_next.specs.declared.step.Step.TheVariants as steps;
+ghost use Rattle.st_decide.specs.Machine.{IsNextStep, SameState};
+ghost use Rattle.st_decide.specs.Making.{request_with};
+ghost use Rattle.st_decide.specs.declared.step.Step.TheVariants as steps;
 ghost use Rattle.st_calls.specs.Call.{follows};
 ghost use Rattle.st_exec_fs.specs.Open.{IsNoLink};
 ghost use Rattle.st_model.specs.Identity.{ids_after_set, set_refused};
@@ -14,7 +14,7 @@ ghost use Rattle.st_system.specs.Steps.{CanMake};
 
 use crate::machine::Machine;
 use st_base::{Ids, Pid, Tid};
-use st_next::Use;
+use st_decide::ReadyCall;
 use st_procs::ids_after;
 use st_request::Outcome;
 use st_threads::{end_call, plan_renewals, renew_all};
@@ -28,19 +28,19 @@ impl<'a> Machine<'a> {
         alloc: Global,
         tid: Tid,
         pid: Pid,
-        made: &Use,
+        ready: &ReadyCall,
         set: Ids,
     ) -> Result<Outcome, AllocError>
-        requires next { IsNext self.old tid (steps.Make made.now) }
+        requires next { IsNextStep self.old tid (steps.Make ready.now) }
         requires process { pid_of self.old.system.processes tid ≡ Some pid }
         requires there { IsPid self.old.system.processes pid }
-        requires can { CanMake made.now.call self.old.system (request_with self.old tid pid made.now) }
-        requires unlinked { follows made.now.call made.now.regs 0 ≡ true → IsNoLink self.old.system.tree (first_name made.now.args) }
-        requires sets { sets_ids made.now.call ≡ true }
-        requires refused { set_refused made.now.call made.now.ids (slice_index_or made.now.regs 0 0) ≡ None }
-        requires set { ids_after_set made.now.call made.now.ids (slice_index_or made.now.regs 0 0) ≡ set }
-        ensures made { IfOk result (λ outcome. MakesCall self.old tid made.now outcome self.new) }
-        ensures err { OnErr result (Stands self.old self.new) }
+        requires can { CanMake ready.now.call self.old.system (request_with self.old tid pid ready.now) }
+        requires unlinked { follows ready.now.call ready.now.regs 0 ≡ true → IsNoLink self.old.system.tree (first_name ready.now.args) }
+        requires sets { sets_ids ready.now.call ≡ true }
+        requires refused { set_refused ready.now.call ready.now.ids (slice_index_or ready.now.regs 0 0) ≡ None }
+        requires set { ids_after_set ready.now.call ready.now.ids (slice_index_or ready.now.regs 0 0) ≡ set }
+        ensures made { IfOk result (λ outcome. MakesCall self.old tid ready.now outcome self.new) }
+        ensures err { OnErr result (SameState self.old self.new) }
         ensures input { self.new.input ≡ self.old.input }
     {
         let plan = plan_renewals(
@@ -52,10 +52,10 @@ impl<'a> Machine<'a> {
             set,
             self.workers.next_seq(),
         )?;
-        let request = self.view().request_with(tid, pid, made);
-        let outcome = self.system.execute(alloc, made.call, &request)?;
+        let request = self.view().request_with(tid, pid, ready);
+        let outcome = self.system.execute(alloc, ready.call, &request)?;
         self.threads[tid as usize - 1].close();
-        end_call(&mut self.workers, made.seq);
+        end_call(&mut self.workers, ready.seq);
         renew_all(
             &mut self.threads,
             &mut self.workers,
@@ -76,23 +76,23 @@ impl<'a> Machine<'a> {
         alloc: Global,
         tid: Tid,
         pid: Pid,
-        made: &Use,
+        ready: &ReadyCall,
     ) -> Result<Outcome, AllocError>
-        requires next { IsNext self.old tid (steps.Make made.now) }
+        requires next { IsNextStep self.old tid (steps.Make ready.now) }
         requires process { pid_of self.old.system.processes tid ≡ Some pid }
         requires there { IsPid self.old.system.processes pid }
-        requires can { CanMake made.now.call self.old.system (request_with self.old tid pid made.now) }
-        requires unlinked { follows made.now.call made.now.regs 0 ≡ true → IsNoLink self.old.system.tree (first_name made.now.args) }
-        requires sets { sets_ids made.now.call ≡ true }
-        requires refused { IsSome (set_refused made.now.call made.now.ids (slice_index_or made.now.regs 0 0)) }
-        ensures made { IfOk result (λ outcome. MakesCall self.old tid made.now outcome self.new) }
-        ensures err { OnErr result (Stands self.old self.new) }
+        requires can { CanMake ready.now.call self.old.system (request_with self.old tid pid ready.now) }
+        requires unlinked { follows ready.now.call ready.now.regs 0 ≡ true → IsNoLink self.old.system.tree (first_name ready.now.args) }
+        requires sets { sets_ids ready.now.call ≡ true }
+        requires refused { IsSome (set_refused ready.now.call ready.now.ids (slice_index_or ready.now.regs 0 0)) }
+        ensures made { IfOk result (λ outcome. MakesCall self.old tid ready.now outcome self.new) }
+        ensures err { OnErr result (SameState self.old self.new) }
         ensures input { self.new.input ≡ self.old.input }
     {
-        let request = self.view().request_with(tid, pid, made);
-        let outcome = self.system.execute(alloc, made.call, &request)?;
+        let request = self.view().request_with(tid, pid, ready);
+        let outcome = self.system.execute(alloc, ready.call, &request)?;
         self.threads[tid as usize - 1].close();
-        end_call(&mut self.workers, made.seq);
+        end_call(&mut self.workers, ready.seq);
         Ok(outcome)
     }
 
@@ -103,21 +103,21 @@ impl<'a> Machine<'a> {
         alloc: Global,
         tid: Tid,
         pid: Pid,
-        made: &Use,
+        ready: &ReadyCall,
     ) -> Result<Outcome, AllocError>
-        requires next { IsNext self.old tid (steps.Make made.now) }
+        requires next { IsNextStep self.old tid (steps.Make ready.now) }
         requires process { pid_of self.old.system.processes tid ≡ Some pid }
         requires there { IsPid self.old.system.processes pid }
-        requires can { CanMake made.now.call self.old.system (request_with self.old tid pid made.now) }
-        requires unlinked { follows made.now.call made.now.regs 0 ≡ true → IsNoLink self.old.system.tree (first_name made.now.args) }
-        requires sets { sets_ids made.now.call ≡ true }
-        ensures made { IfOk result (λ outcome. MakesCall self.old tid made.now outcome self.new) }
-        ensures err { OnErr result (Stands self.old self.new) }
+        requires can { CanMake ready.now.call self.old.system (request_with self.old tid pid ready.now) }
+        requires unlinked { follows ready.now.call ready.now.regs 0 ≡ true → IsNoLink self.old.system.tree (first_name ready.now.args) }
+        requires sets { sets_ids ready.now.call ≡ true }
+        ensures made { IfOk result (λ outcome. MakesCall self.old tid ready.now outcome self.new) }
+        ensures err { OnErr result (SameState self.old self.new) }
         ensures input { self.new.input ≡ self.old.input }
     {
-        match ids_after(made.call, made.ids, made.regs[0]) {
-            Ok(set) => self.set_ids(alloc, tid, pid, made, set),
-            Err(_) => self.set_no_ids(alloc, tid, pid, made),
+        match ids_after(ready.call, ready.ids, ready.regs[0]) {
+            Ok(set) => self.set_ids(alloc, tid, pid, ready, set),
+            Err(_) => self.set_no_ids(alloc, tid, pid, ready),
         }
     }
 }

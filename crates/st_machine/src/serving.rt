@@ -1,8 +1,8 @@
 // The steps of workers. Each changes the messages as its entry says, and stores the entry in the caller's `added`.
 ghost use Rattle.std.specs.Prelude.{◌≡◌, ◌<◌, ℕ, Some, OnOk, OnErr};
-ghost use Rattle.st_next.specs.Machine.{HasTask, IsStep, Stands};
+ghost use Rattle.st_decide.specs.Machine.{HasTask, IsStep, SameState};
 ghost use Rattle.st_machine.specs.Serving.{is_applied};
-ghost use Rattle.st_messages.specs.Messages.{IsWorker};
+ghost use Rattle.st_messages.specs.Messages.{HasWorker};
 ghost use Rattle.st_trace.specs.declared.entry.Choice.TheVariants.{Worker};
 ghost use Rattle.st_workers.specs.declared.task.Task.TheVariants as tasks;
 
@@ -34,9 +34,9 @@ impl<'a> Machine<'a> {
         worker: Worker,
         added: &mut Option<Entry>,
     ) -> Result<(), AllocError>
-        requires { IsWorker self.old.workers.calls worker }
+        requires { HasWorker self.old.workers.calls worker }
         ensures step { OnOk result (IsStep self.old (Worker worker) added.new self.new) }
-        ensures err { OnErr result (Stands self.old self.new) }
+        ensures err { OnErr result (SameState self.old self.new) }
         ensures place { OnErr result (added.new ≡ added.old) }
         ensures input { self.new.input ≡ self.old.input }
     {
@@ -73,7 +73,7 @@ impl<'a> Machine<'a> {
     ) -> Result<(), AllocError>
         requires { HasTask self.old worker tasks.Claim }
         ensures step { OnOk result (IsStep self.old (Worker worker) added.new self.new) }
-        ensures err { OnErr result (Stands self.old self.new) }
+        ensures err { OnErr result (SameState self.old self.new) }
         ensures place { OnErr result (added.new ≡ added.old) }
         ensures input { self.new.input ≡ self.old.input }
     {
@@ -95,7 +95,7 @@ impl<'a> Machine<'a> {
     ) -> Result<(), AllocError>
         requires task { HasTask self.old worker (tasks.Copy seq pid part place) }
         ensures step { OnOk result (IsStep self.old (Worker worker) added.new self.new) }
-        ensures err { OnErr result (Stands self.old self.new) }
+        ensures err { OnErr result (SameState self.old self.new) }
         ensures place { OnErr result (added.new ≡ added.old) }
         ensures input { self.new.input ≡ self.old.input }
     {
@@ -124,7 +124,7 @@ impl<'a> Machine<'a> {
     ) -> Result<(), AllocError>
         requires { HasTask self.old worker (tasks.Look seq part) }
         ensures step { OnOk result (IsStep self.old (Worker worker) added.new self.new) }
-        ensures err { OnErr result (Stands self.old self.new) }
+        ensures err { OnErr result (SameState self.old self.new) }
         ensures place { OnErr result (added.new ≡ added.old) }
         ensures input { self.new.input ≡ self.old.input }
     {
@@ -157,7 +157,7 @@ impl<'a> Machine<'a> {
     // Lets a ready worker answer with the verdict of the filters that were read on its copies.
     fn answer_of(&mut self, worker: Worker, added: &mut Option<Entry>)
         requires task { HasTask self.old worker tasks.Answer }
-        requires worker { IsWorker self.old.workers.calls worker }
+        requires worker { HasWorker self.old.workers.calls worker }
         ensures step { IsStep self.old (Worker worker) added.new self.new }
         ensures input { self.new.input ≡ self.old.input }
     {

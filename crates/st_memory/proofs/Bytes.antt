@@ -57,7 +57,7 @@ more_bytes f at n m ys size each =
     ext_get_or 0 (bytes_from f at n ++ ys) (bytes_from f at (n + m)) (length-append (bytes_from f at n) ys ∙ (λ i. first i + size i) ∙ sym (length-map-range_with_len f at (n + m))) (λ i low.
     let inside : i < n + m = omega (arith, low, length-append (bytes_from f at n) ys, first, size) in
     elim (leb_tells n i) [
-      | inl past ↦ let behind : n ≤ i = past.1 in get_or-append_right (bytes_from f at n) ys n i 0 first behind ∙ each (i - n) (omega (arith, behind, inside)) ∙ sym (get_or-map-range_with_len f at (n + m) i (at + n + (i - n)) 0 inside (omega (arith, behind)))
+      | inl past ↦ let following : n ≤ i = past.1 in get_or-append_right (bytes_from f at n) ys n i 0 first following ∙ each (i - n) (omega (arith, following, inside)) ∙ sym (get_or-map-range_with_len f at (n + m) i (at + n + (i - n)) 0 inside (omega (arith, following)))
       | inr less ↦ let before : i < n = less.1 in get_or_append_left (bytes_from f at n) ys 0 i (omega (arith, before, first)) ∙ get_or-map-range_with_len f at n i (at + i) 0 before refl ∙ sym (get_or-map-range_with_len f at (n + m) i (at + i) 0 inside refl)
     ])
 

@@ -5,7 +5,7 @@ use Rattle.std.proofs.lemmas.List.{get_or-set_same, get_or-set_other, get_or_pus
 use Rattle.std.proofs.Math.ListN.{get_or-eq_default}
 use Rattle.std.specs.Prelude.{is_some, unwrap_or}
 use Rattle.st_base.specs.Numbered.{item_at_number_or}
-use Rattle.st_memory.specs.Memory.{byte_of, byte_in, is_live, next_space, words_at, zeros, Memories}
+use Rattle.st_memory.specs.Memory.{byte_of, byte_in, is_space_live, next_space, words_of_space, zeros, Memories}
 use Rattle.st_memory.proofs.Bytes.{byte_of-zeros}
 
 -- ---- items by their numbers
@@ -62,12 +62,12 @@ within (x ∷ spaces) zero is = omega arith
 within (x ∷ spaces) (suc i) is = omega (arith, within spaces i is)
 
 -- a space that exists has one of the numbers that were given
-pub live_within : (spaces : Memories) (space : ℕ) → is_live spaces space ≡ true → (1 ≤ space) × (space ≤ length spaces)
+pub live_within : (spaces : Memories) (space : ℕ) → is_space_live spaces space ≡ true → (1 ≤ space) × (space ≤ length spaces)
 live_within spaces zero is = absurd (true≢false (sym is))
 live_within spaces (suc i) is = (omega arith, omega (arith, within spaces i is))
 
 -- the item at the index of a live space is its words
-pub words-place : (spaces : Memories) (space : ℕ) (o : Option (List ℕ)) → is_live spaces space ≡ true → o ≡ get_or spaces (space - 1) o → words_at spaces space ≡ o
+pub words-place : (spaces : Memories) (space : ℕ) (o : Option (List ℕ)) → is_space_live spaces space ≡ true → o ≡ get_or spaces (space - 1) o → words_of_space spaces space ≡ o
 words-place spaces zero o live is = absurd (true≢false (sym live))
 words-place spaces (suc i) o live is =
     let same : suc i - 1 ≡ i = omega arith in
@@ -80,7 +80,7 @@ under_cond f false x y = refl
 -- an appended space has its bytes, and each other space its own
 pub byte_in-push : (spaces : Memories) (o : Option (List ℕ)) (s b : ℕ) → byte_in (spaces ++ o ∷ []) s b ≡ cond (s == next_space spaces) (byte_of (unwrap_or o []) b) (byte_in spaces s b)
 byte_in-push spaces o s b =
-    ap (λ (o : Option (List ℕ)). byte_of (unwrap_or o []) b) (at_number-push None spaces o s) ∙ under_cond (λ (o : Option (List ℕ)). byte_of (unwrap_or o []) b) (s == next_space spaces) o (words_at spaces s)
+    ap (λ (o : Option (List ℕ)). byte_of (unwrap_or o []) b) (at_number-push None spaces o s) ∙ under_cond (λ (o : Option (List ℕ)). byte_of (unwrap_or o []) b) (s == next_space spaces) o (words_of_space spaces s)
 
 -- an appended space of zeros has the bytes of a space that doesn't exist
 pub byte_in-made : (spaces : Memories) (s b : ℕ) → byte_in (spaces ++ Some zeros ∷ []) s b ≡ byte_in spaces s b
@@ -93,17 +93,17 @@ byte_in-made spaces s b = byte_in-push spaces (Some zeros) s b ∙ elim (cases_e
 pub byte_in-cut : (spaces : Memories) (last s b : ℕ) → 1 ≤ last → last ≡ length spaces → byte_in (take (last - 1) spaces) s b ≡ cond (s == last) 0 (byte_in spaces s b)
 byte_in-cut spaces last s b low is =
     ap (λ (o : Option (List ℕ)). byte_of (unwrap_or o []) b) (at_number-cut None spaces last s low is)
-    ∙ under_cond (λ (o : Option (List ℕ)). byte_of (unwrap_or o []) b) (s == last) None (words_at spaces s)
+    ∙ under_cond (λ (o : Option (List ℕ)). byte_of (unwrap_or o []) b) (s == last) None (words_of_space spaces s)
     ∙ ap (λ (x : ℕ). cond (s == last) x (byte_in spaces s b)) (byte_of-zeros 0 b)
 
 -- a change of one space's bytes changes no other space's
-pub byte_in-put : (change : (ℕ → ℕ) → ℕ → ℕ) (spaces : Memories) (space : ℕ) (o : Option (List ℕ)) (page new : List ℕ) → is_live spaces space ≡ true → o ≡ get_or spaces (space - 1) o → o ≡ Some page
+pub byte_in-put : (change : (ℕ → ℕ) → ℕ → ℕ) (spaces : Memories) (space : ℕ) (o : Option (List ℕ)) (page new : List ℕ) → is_space_live spaces space ≡ true → o ≡ get_or spaces (space - 1) o → o ≡ Some page
     → ((b : ℕ) → byte_of new b ≡ change (byte_of page) b) → (s b : ℕ) → byte_in (set spaces (space - 1) (Some new)) s b ≡ cond (s == space) (change (byte_in spaces s) b) (byte_in spaces s b)
 byte_in-put change spaces space o page new live is some made s b =
     let inside = live_within spaces space live in
-    let old : words_at spaces space ≡ Some page = words-place spaces space o live is ∙ some in
+    let old : words_of_space spaces space ≡ Some page = words-place spaces space o live is ∙ some in
     ap (λ (o : Option (List ℕ)). byte_of (unwrap_or o []) b) (at_number-set None spaces space (Some new) s inside.0 inside.1)
-    ∙ under_cond (λ (o : Option (List ℕ)). byte_of (unwrap_or o []) b) (s == space) (Some new) (words_at spaces s)
+    ∙ under_cond (λ (o : Option (List ℕ)). byte_of (unwrap_or o []) b) (s == space) (Some new) (words_of_space spaces s)
     ∙ elim (cases_eq s space) [
       | inl e ↦ rw (eq-eqb s space e) (made b ∙ ap (λ (o : Option (List ℕ)). change (byte_of (unwrap_or o [])) b) (sym old) ∙ ap (λ (n : ℕ). change (byte_in spaces n) b) (sym e))
       | inr ne ↦ rw (ne_eqb s space ne) refl

@@ -16,16 +16,16 @@ Memories = List (Option (List ℕ))
 -- ---- spaces by their numbers, from 1
 
 -- the words of space s; none if it wasn't made or was given up
-abbrev pub words_at : Memories → ℕ → Option (List ℕ)
-words_at spaces s = item_at_number_or None spaces s
+abbrev pub words_of_space : Memories → ℕ → Option (List ℕ)
+words_of_space spaces s = item_at_number_or None spaces s
 
 -- whether space s exists
-abbrev pub is_live : Memories → ℕ → Bool
-is_live spaces s = is_some (words_at spaces s)
+abbrev pub is_space_live : Memories → ℕ → Bool
+is_space_live spaces s = is_some (words_of_space spaces s)
 
 -- byte b of space s; 0 if the space doesn't exist
 abbrev pub byte_in : Memories → ℕ → ℕ → ℕ
-byte_in spaces s b = byte_of (unwrap_or (words_at spaces s) []) b
+byte_in spaces s b = byte_of (unwrap_or (words_of_space spaces s) []) b
 
 -- the number of the next space
 abbrev pub next_space : Memories → ℕ
@@ -43,7 +43,7 @@ spaces_after_make spaces = spaces ++ Some zeros ∷ []
 
 -- the spaces after a space with the words of another is made
 abbrev pub spaces_after_copy : Memories → ℕ → Memories
-spaces_after_copy spaces from = spaces ++ words_at spaces from ∷ []
+spaces_after_copy spaces from = spaces ++ words_of_space spaces from ∷ []
 
 -- the spaces after one is given up
 abbrev pub spaces_after_give_up : Memories → ℕ → Memories
@@ -51,11 +51,11 @@ spaces_after_give_up spaces space = with_item_at_number spaces space None
 
 -- this space exists exactly if `live` says so, and every other space exists exactly if it did before
 abbrev pub ChangesLive : Memories → ℕ → Bool → Memories → Type 0
-ChangesLive old space live new = (s : ℕ) → is_live new s ≡ (if s == space then live else is_live old s)
+ChangesLive old space live new = (s : ℕ) → is_space_live new s ≡ (if s == space then live else is_space_live old s)
 
 -- the same spaces exist, and the next space has the same number
 abbrev pub KeepsSpaces : Memories → Memories → Type 0
-KeepsSpaces old new = (next_space new ≡ next_space old) × ((s : ℕ) → is_live new s ≡ is_live old s)
+KeepsSpaces old new = (next_space new ≡ next_space old) × ((s : ℕ) → is_space_live new s ≡ is_space_live old s)
 
 -- one of `count` bytes from byte `at` on is past the end of a space
 abbrev pub IsOutside : ℕ → ℕ → Type 0

@@ -1,5 +1,5 @@
 ghost use Rattle.std.specs.Prelude.{◌≡◌, ℕ, suc, ◌-◌, ◌^◌, ◌<◌, ◌≤◌, ◌↔◌, ◌==◌, if◌then◌else◌, List, Option, Some, true, false, [], ◌∷◌, ◌++◌, length, IsTrue, IsNone, IsErr, IsErrOf, IfSome, IfOk, IfErr, OnOk, OnErr};
-ghost use Rattle.st_memory.specs.Memory.{byte_in, is_live, next_space, spaces_after_copy, spaces_after_give_up, spaces_after_make, words_at, ChangesLive, IsOutside, KeepsSpaces, Memories};
+ghost use Rattle.st_memory.specs.Memory.{byte_in, is_space_live, next_space, spaces_after_copy, spaces_after_give_up, spaces_after_make, words_of_space, ChangesLive, IsOutside, KeepsSpaces, Memories};
 ghost use Rattle.st_model.specs.Memory.{bytes_from, memory_after_put, memory_after_store, word_of};
 
 use crate::page::Page;
@@ -75,7 +75,7 @@ impl Spaces {
     /// Makes a copy of a space, as fork(2) does. Its number is one more than that of the space made before. If memory runs out,
     /// nothing changes.
     pub fn copy_space(&mut self, alloc: Global, from: Space) -> Result<Space, AllocError>
-        requires live { is_live self.old from ≡ true }
+        requires live { is_space_live self.old from ≡ true }
         requires room { next_space self.old < 2 ^ 32 }
         ensures number { IfOk result (λ space. space ≡ next_space self.old) }
         ensures ok { OnOk result (self.new ≡ spaces_after_copy self.old from) }
@@ -91,7 +91,7 @@ impl Spaces {
 
     /// Frees the memory of a space. From then on its number names no space.
     pub fn give_up(&mut self, space: Space)
-        requires { is_live self.old space ≡ true }
+        requires { is_space_live self.old space ≡ true }
         ensures spaces { self.new ≡ spaces_after_give_up self.old space }
         ensures next { next_space self.new ≡ next_space self.old }
         ensures live { ChangesLive self.old space false self.new }
@@ -103,7 +103,7 @@ impl Spaces {
     /// Removes the space that was made last; its number is the next one again. If nothing was written since, all is as before the
     /// space was made.
     pub fn unmake(&mut self, space: Space)
-        requires live { is_live self.old space ≡ true }
+        requires live { is_space_live self.old space ≡ true }
         requires last { suc space ≡ next_space self.old }
         ensures undoes { (before : Memories) (words : List ℕ) → self.old ≡ before ++ Some words ∷ [] → self.new ≡ before }
         ensures next { next_space self.new ≡ space }
@@ -115,8 +115,8 @@ impl Spaces {
 
     // The words of a live space.
     fn page(&self, space: Space) -> &Page
-        requires { is_live self.now space ≡ true }
-        ensures { words_at self.now space ≡ Some result.now }
+        requires { is_space_live self.now space ≡ true }
+        ensures { words_of_space self.now space ≡ Some result.now }
     {
         match &self.pages[space as usize - 1] {
             Some(page) => page,
@@ -126,7 +126,7 @@ impl Spaces {
 
     /// The word at an index of a space; `None` exactly when the index is past the end.
     pub fn word(&self, space: Space, place: u32) -> Option<u64>
-        requires { is_live self.now space ≡ true }
+        requires { is_space_live self.now space ≡ true }
         ensures none { IsNone result ↔ (SPACE_WORDS ≤ place) }
         ensures value { IfSome result (λ word. word ≡ word_of (byte_in self.now space) place) }
     {
@@ -139,7 +139,7 @@ impl Spaces {
 
     /// Stores a word at an index of a space, and changes nothing else.
     pub fn put_word(&mut self, space: Space, place: u32, word: u64) -> Result<(), MemFault>
-        requires { is_live self.old space ≡ true }
+        requires { is_space_live self.old space ≡ true }
         ensures ok { OnOk result ((s b : ℕ) → byte_in self.new s b ≡ memory_after_store (byte_in self.old) space place word s b) }
         ensures spaces { KeepsSpaces self.old self.new }
 
@@ -158,7 +158,7 @@ impl Spaces {
 
     /// Puts bytes into a space at an offset, and changes nothing else.
     pub fn put_bytes(&mut self, space: Space, at: u64, bytes: &[u8]) -> Result<(), MemFault>
-        requires { is_live self.old space ≡ true }
+        requires { is_space_live self.old space ≡ true }
         ensures ok { OnOk result ((s b : ℕ) → byte_in self.new s b ≡ memory_after_put (byte_in self.old) space at bytes.now s b) }
         ensures spaces { KeepsSpaces self.old self.new }
 
@@ -177,7 +177,7 @@ impl Spaces {
 
     /// `count` bytes of a space from offset `at` on.
     pub fn bytes(&self, alloc: Global, space: Space, at: u64, count: u64) -> Result<Text, MemFault>
-        requires { is_live self.now space ≡ true }
+        requires { is_space_live self.now space ≡ true }
         ensures ok { IfOk result (λ text. text ≡ bytes_from (byte_in self.now space) at count) }
         ensures outside { IsErrOf result MemFault.Outside ↔ IsOutside at count }
     {

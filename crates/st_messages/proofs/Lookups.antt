@@ -11,7 +11,7 @@ use Rattle.std.specs.Prelude.{nat_lt, slice_get}
 use Rattle.st_messages.specs.declared.message.MsgState.{MsgState}
 use Rattle.st_messages.specs.declared.message.Message.{Message}
 use Rattle.st_messages.proofs.Ordered.{numbers_go_up}
-use Rattle.st_messages.specs.Messages.{AreBetween, has_number, message_in, waiting_message, with_state_in, without_number}
+use Rattle.st_messages.specs.Messages.{AreBetween, is_message_of, message_in, waiting_message, with_state_in, without_number}
 
 cond_none : (b : Bool) → cond {A = Option Message} b None None ≡ None
 cond_none true = refl
@@ -27,7 +27,7 @@ abbrev pub moved : MsgState → Message → Message
 moved state message = record message { state = state }
 
 -- the state of the message at an index is changed
-pub set-at : (live : List Message) (seq : ℕ) (state : MsgState) (i : ℕ) (d : Message) → i < length live → has_number seq (get_or live i d) ≡ true → ((k : ℕ) → k < i → has_number seq (get_or live k d) ≡ false)
+pub set-at : (live : List Message) (seq : ℕ) (state : MsgState) (i : ℕ) (d : Message) → i < length live → is_message_of seq (get_or live i d) ≡ true → ((k : ℕ) → k < i → is_message_of seq (get_or live k d) ≡ false)
     → set live i (record (get_or live i d) { state = state }) ≡ with_state_in live seq state
 set-at [] seq state i d inside here before = absurd (omega arith)
 set-at (m ∷ live) seq state zero d inside here before = rw here refl
@@ -73,10 +73,10 @@ found_first test live i d is =
     find_at test live ∙ ap (slice_get live) at ∙ slice_get-get_or live i d first.0
 
 module _ (live : List Message) (from to i : ℕ) (m : Message) (are : AreBetween from live to) (inside : i < length live) (m_is : m ≡ get_or live i m) where
-  here : has_number m.seq (get_or live i m) ≡ true
+  here : is_message_of m.seq (get_or live i m) ≡ true
   here = eq-eqb (get_or live i m).seq m.seq (ap (λ (x : Message). x.seq) (sym m_is))
 
-  before : (k : ℕ) → k < i → has_number m.seq (get_or live k m) ≡ false
+  before : (k : ℕ) → k < i → is_message_of m.seq (get_or live k m) ≡ false
   before k below =
       let less : (get_or live k m).seq < m.seq = subst (λ (x : Message). (get_or live k m).seq < x.seq) (sym m_is) (numbers_go_up live from to i k m are inside below) in
       ne_eqb (get_or live k m).seq m.seq (λ e. omega (arith, e, less))
@@ -84,8 +84,8 @@ module _ (live : List Message) (from to i : ℕ) (m : Message) (are : AreBetween
   -- a message is found at its index
   pub found_there : message_in live m.seq ≡ Some m
   found_there =
-      find_at (has_number m.seq) live
-      ∙ ap (slice_get live) (position_or_len_is (has_number m.seq) live i m (omega (arith, inside)) before (λ _. here))
+      find_at (is_message_of m.seq) live
+      ∙ ap (slice_get live) (position_or_len_is (is_message_of m.seq) live i m (omega (arith, inside)) before (λ _. here))
       ∙ slice_get-get_or live i m inside
       ∙ ap Some (sym m_is)
 
@@ -133,13 +133,13 @@ found_without (m ∷ live) seq other = found_without-by m live seq other (m.seq 
 -- each other number is unchanged
 pub found_other : (live : List Message) (seq tid other : ℕ) → other ≢ seq → message_in (live ++ waiting_message seq tid ∷ []) other ≡ message_in live other
 found_other live seq tid other apart =
-    find-append (has_number other) live (waiting_message seq tid ∷ []) ∙ rw (ne_eqb seq other (λ e. apart (sym e))) (option_or_none (message_in live other))
+    find-append (is_message_of other) live (waiting_message seq tid ∷ []) ∙ rw (ne_eqb seq other (λ e. apart (sym e))) (option_or_none (message_in live other))
 
 -- the message is found under its number, and each other is unchanged
 pub found_posted : (live : List Message) (seq tid other : ℕ) → message_in live seq ≡ None → message_in (live ++ waiting_message seq tid ∷ []) other ≡ cond (other == seq) (Some (waiting_message seq tid)) (message_in live other)
 found_posted live seq tid other none = elim (cases_eq other seq) [
   | inl e ↦
       let none_there : message_in live other ≡ None = ap (message_in live) e ∙ none in
-      find-append (has_number other) live (waiting_message seq tid ∷ []) ∙ rw (none_there, eq-eqb seq other (sym e), eq-eqb other seq e) refl
+      find-append (is_message_of other) live (waiting_message seq tid ∷ []) ∙ rw (none_there, eq-eqb seq other (sym e), eq-eqb other seq e) refl
   | inr ne ↦ found_other live seq tid other ne ∙ rw (ne_eqb other seq ne) refl
 ]

@@ -7,7 +7,7 @@ use Rattle.std.specs.Option.{option_map}
 use Rattle.st_messages.specs.declared.message.MsgState.{MsgState}
 use Rattle.st_messages.specs.declared.message.MsgState.TheVariants.{Waiting, Claimed, Answered, Faulted}
 use Rattle.st_messages.specs.declared.message.Message.{Message}
-use Rattle.st_messages.specs.Messages.{AreBetween, is_waiting, is_waiting_state, message_in, waiting_message, with_state_in, without_number}
+use Rattle.st_messages.specs.Messages.{AreBetween, is_unclaimed, is_waiting_state, message_in, waiting_message, with_state_in, without_number}
 
 -- ---- the order stays
 
@@ -45,11 +45,11 @@ pub upper : (live : List Message) (from to : ℕ) → AreBetween from live to �
 upper [] from to are = are
 upper (m ∷ live) from to are = omega (arith, are.0, upper live (suc m.seq) to are.1)
 
-pub none_behind : (live : List Message) (from to seq : ℕ) → AreBetween from live to → to ≤ seq → message_in live seq ≡ None
-none_behind [] from to seq are above = refl
-none_behind (m ∷ live) from to seq are above =
+pub none_later : (live : List Message) (from to seq : ℕ) → AreBetween from live to → to ≤ seq → message_in live seq ≡ None
+none_later [] from to seq are above = refl
+none_later (m ∷ live) from to seq are above =
     let apart : (m.seq == seq) ≡ false = ne_eqb m.seq seq (λ e. omega (arith, e, upper live (suc m.seq) to are.1)) in
-    rw apart (none_behind live (suc m.seq) to seq are.1 above)
+    rw apart (none_later live (suc m.seq) to seq are.1 above)
 
 -- a number that is found is below the next one
 pub found_below : (live : List Message) (from to seq : ℕ) (m : Message) → AreBetween from live to → message_in live seq ≡ Some m → seq < to
@@ -93,17 +93,17 @@ found_above (m ∷ live) from to seq state are is = elim (cases_eq m.seq seq) [
   | inr ne ↦ omega (arith, are.0, found_above live (suc m.seq) to seq state are.1 (rw (ne_eqb m.seq seq ne) at is))
 ]
 
-none_waits-by : (m : Message) (live : List Message) (seq : ℕ) (w b : Bool) → is_waiting m ≡ w → (m.seq == seq) ≡ b → find is_waiting (m ∷ live) ≡ None → state_in (m ∷ live) seq ≡ Some Waiting
-    → (find is_waiting live ≡ None → state_in live seq ≡ Some Waiting → ⊥) → ⊥
+none_waits-by : (m : Message) (live : List Message) (seq : ℕ) (w b : Bool) → is_unclaimed m ≡ w → (m.seq == seq) ≡ b → find is_unclaimed (m ∷ live) ≡ None → state_in (m ∷ live) seq ≡ Some Waiting
+    → (find is_unclaimed live ≡ None → state_in live seq ≡ Some Waiting → ⊥) → ⊥
 none_waits-by m live seq true b w_is b_is none is more = none-some m (sym none ∙ rw w_is refl)
 none_waits-by m live seq false true w_is b_is none is more =
     let state : m.state ≡ Waiting = same_Some m.state Waiting (rw b_is at is) in
     true≢false (sym (ap is_waiting_state state) ∙ w_is)
 none_waits-by m live seq false false w_is b_is none is more = more (rw w_is at none) (rw b_is at is)
 
-pub none_waits : (live : List Message) (seq : ℕ) → find is_waiting live ≡ None → state_in live seq ≢ Some Waiting
+pub none_waits : (live : List Message) (seq : ℕ) → find is_unclaimed live ≡ None → state_in live seq ≢ Some Waiting
 none_waits [] seq none is = none-some Waiting is
-none_waits (m ∷ live) seq none is = none_waits-by m live seq (is_waiting m) (m.seq == seq) refl refl none is (none_waits live seq)
+none_waits (m ∷ live) seq none is = none_waits-by m live seq (is_unclaimed m) (m.seq == seq) refl refl none is (none_waits live seq)
 
 -- a message is waiting under its number, and no smaller number is
 pub record IsFirst (live : List Message) (first : Message) : Type 0 where
@@ -111,8 +111,8 @@ pub record IsFirst (live : List Message) (first : Message) : Type 0 where
   pub waits : first.state ≡ Waiting
   pub least : (other : ℕ) → state_in live other ≡ Some Waiting → first.seq ≤ other
 
-first_waits-by : (m : Message) (live : List Message) (from to : ℕ) (first : Message) (w : Bool) → is_waiting m ≡ w → AreBetween from (m ∷ live) to → find is_waiting (m ∷ live) ≡ Some first
-    → (find is_waiting live ≡ Some first → (suc m.seq ≤ first.seq) × IsFirst live first) → (from ≤ first.seq) × IsFirst (m ∷ live) first
+first_waits-by : (m : Message) (live : List Message) (from to : ℕ) (first : Message) (w : Bool) → is_unclaimed m ≡ w → AreBetween from (m ∷ live) to → find is_unclaimed (m ∷ live) ≡ Some first
+    → (find is_unclaimed live ≡ Some first → (suc m.seq ≤ first.seq) × IsFirst live first) → (from ≤ first.seq) × IsFirst (m ∷ live) first
 first_waits-by m live from to first true w_is are is more =
     let same : m ≡ first = same_Some m first (rw w_is at is) in
     subst (λ (f : Message). (from ≤ f.seq) × IsFirst (m ∷ live) f) same (
@@ -127,19 +127,19 @@ first_waits-by m live from to first true w_is are is more =
       },
     )
 first_waits-by m live from to first false w_is are is more =
-    let behind = more (rw w_is at is) in (
-      omega (arith, are.0, behind.0),
+    let following = more (rw w_is at is) in (
+      omega (arith, are.0, following.0),
       record {
-        found = rw (ne_eqb m.seq first.seq (λ e. omega (arith, e, behind.0))) behind.1.found;
-        waits = behind.1.waits;
+        found = rw (ne_eqb m.seq first.seq (λ e. omega (arith, e, following.0))) following.1.found;
+        waits = following.1.waits;
         least = λ other other_waits. elim (cases_eq m.seq other) [
           | inl e ↦ absurd (true≢false (sym (ap is_waiting_state (same_Some m.state Waiting (rw (eq-eqb m.seq other e) at other_waits))) ∙ w_is))
-          | inr ne ↦ behind.1.least other (rw (ne_eqb m.seq other ne) at other_waits)
+          | inr ne ↦ following.1.least other (rw (ne_eqb m.seq other ne) at other_waits)
         ];
       },
     )
 
 -- the first waiting message has the least waiting number
-pub first_waits : (live : List Message) (from to : ℕ) (first : Message) → AreBetween from live to → find is_waiting live ≡ Some first → (from ≤ first.seq) × IsFirst live first
+pub first_waits : (live : List Message) (from to : ℕ) (first : Message) → AreBetween from live to → find is_unclaimed live ≡ Some first → (from ≤ first.seq) × IsFirst live first
 first_waits [] from to first are is = absurd (none-some first is)
-first_waits (m ∷ live) from to first are is = first_waits-by m live from to first (is_waiting m) refl are is (first_waits live (suc m.seq) to first are.1)
+first_waits (m ∷ live) from to first are is = first_waits-by m live from to first (is_unclaimed m) refl are is (first_waits live (suc m.seq) to first are.1)

@@ -7,13 +7,13 @@ use Rattle.st_messages.specs.declared.message.MsgState.{MsgState}
 use Rattle.st_messages.specs.declared.message.MsgState.TheVariants.{Waiting, Claimed}
 use Rattle.st_messages.specs.declared.message.Message.{Message}
 use Rattle.st_messages.specs.Laws.{ClaimsGoUp, DeadNumbersStay, LeadsTo, Stays, Posts, Moves, Renews, Cancels, RenewedAreStale}
-use Rattle.st_messages.specs.Messages.{HeldCalls, is_claimed_state, message_at, message_in, with_state, calls_after_cancel, calls_after_post, calls_after_renew_of}
+use Rattle.st_messages.specs.Messages.{HeldCalls, is_claimed_state, message_of_number, message_in, with_state, calls_after_cancel, calls_after_post, calls_after_renew_of}
 use Rattle.st_messages.proofs.Lookups.{found_moved, found_other, found_without, moved}
 use Rattle.st_messages.proofs.Whole.{states_moved, waiting_live}
 
 -- no message is found under a number that was given
 abbrev IsDead : ℕ → HeldCalls → Type 0
-IsDead seq calls = (seq < calls.next) × (message_at calls seq ≡ None)
+IsDead seq calls = (seq < calls.next) × (message_of_number calls seq ≡ None)
 
 both_none : {X : Type 0} (b : Bool) (o : Option X) → o ≡ None → cond b None o ≡ None
 both_none true o is = refl
@@ -29,7 +29,7 @@ dead-moved seq other state calls dead = (
 )
 
 dead-cancelled : (seq other : ℕ) (calls : HeldCalls) → IsDead seq calls → IsDead seq (calls_after_cancel calls other)
-dead-cancelled seq other calls dead = (dead.0, found_without calls.live other seq ∙ both_none (seq == other) (message_at calls seq) dead.1)
+dead-cancelled seq other calls dead = (dead.0, found_without calls.live other seq ∙ both_none (seq == other) (message_of_number calls seq) dead.1)
 
 dead-posted : (seq tid : ℕ) (calls : HeldCalls) → IsDead seq calls → IsDead seq (calls_after_post calls tid)
 dead-posted seq tid calls dead = (omega (arith, dead.0), found_other calls.live calls.next tid seq (λ e. omega (arith, e, dead.0)) ∙ dead.1)
@@ -42,7 +42,7 @@ stays_dead : (seq : ℕ) (old new : HeldCalls) → IsDead seq old → LeadsTo ol
 stays_dead seq old new dead Stays = dead
 stays_dead seq old new dead (Posts {calls = calls} tid before) = dead-posted seq tid calls (stays_dead seq old calls dead before)
 stays_dead seq old new dead (Moves {calls = calls} other state before) = dead-moved seq other state calls (stays_dead seq old calls dead before)
-stays_dead seq old new dead (Renews {calls = calls} other before) = dead-renewed seq other calls (message_at calls other) (stays_dead seq old calls dead before)
+stays_dead seq old new dead (Renews {calls = calls} other before) = dead-renewed seq other calls (message_of_number calls other) (stays_dead seq old calls dead before)
 stays_dead seq old new dead (Cancels {calls = calls} other before) = dead-cancelled seq other calls (stays_dead seq old calls dead before)
 
 no_message : (o : Option Message) → option_map (λ (message : Message). message.state) o ≡ None → o ≡ None
@@ -51,16 +51,16 @@ no_message (Some m) is = cc
 
 pub dead_numbers_stay : DeadNumbersStay
 dead_numbers_stay old new seq given none leads =
-    ap (option_map (λ (message : Message). message.state)) (stays_dead seq old new (given, no_message (message_at old seq) none) leads).1
+    ap (option_map (λ (message : Message). message.state)) (stays_dead seq old new (given, no_message (message_of_number old seq) none) leads).1
 
-renewed_stale : (calls : HeldCalls) (seq : ℕ) (o : Option Message) → message_at calls seq ≡ o → seq < calls.next → message_at (calls_after_renew_of calls seq o) seq ≡ None
+renewed_stale : (calls : HeldCalls) (seq : ℕ) (o : Option Message) → message_of_number calls seq ≡ o → seq < calls.next → message_of_number (calls_after_renew_of calls seq o) seq ≡ None
 renewed_stale calls seq None is given = is
 renewed_stale calls seq (Some message) is given =
-    let out : message_at (calls_after_cancel calls seq) seq ≡ None = found_without calls.live seq seq ∙ rw (eq-eqb seq seq refl) refl in
+    let out : message_of_number (calls_after_cancel calls seq) seq ≡ None = found_without calls.live seq seq ∙ rw (eq-eqb seq seq refl) refl in
     (dead-posted seq message.tid (calls_after_cancel calls seq) (given, out)).1
 
 pub renewed_are_stale : RenewedAreStale
-renewed_are_stale calls seq given = ap (λ (o : Option Message). is_claimed_state (option_map (λ (message : Message). message.state) o)) (renewed_stale calls seq (message_at calls seq) refl given)
+renewed_are_stale calls seq given = ap (λ (o : Option Message). is_claimed_state (option_map (λ (message : Message). message.state) o)) (renewed_stale calls seq (message_of_number calls seq) refl given)
 
 apart : (worker : ℕ) → Claimed worker ≢ Waiting
 apart worker is = cc

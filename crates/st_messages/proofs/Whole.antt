@@ -8,9 +8,9 @@ use Rattle.std.specs.Prelude.{is_some}
 use Rattle.st_messages.specs.declared.message.MsgState.{MsgState}
 use Rattle.st_messages.specs.declared.message.MsgState.TheVariants.{Waiting, Claimed}
 use Rattle.st_messages.specs.declared.message.Message.{Message}
-use Rattle.st_messages.specs.Messages.{HeldCalls, is_live, message_at, state_at, thread_at, waiting_message, with_state, calls_after_cancel, calls_after_post, calls_after_renew, calls_after_renew_of, is_waiting, ChangesState, HasNoNumber, IsLeastWaiting, IsWaiting, IsWhole, IsWorker, RenewsState}
+use Rattle.st_messages.specs.Messages.{HeldCalls, is_live_number, message_of_number, message_state, thread_of_number, waiting_message, with_state, calls_after_cancel, calls_after_post, calls_after_renew, calls_after_renew_of, is_unclaimed, ChangesState, HasNoNumber, IsLeastWaiting, IsWaiting, AreValidCalls, HasWorker, RenewsState}
 use Rattle.st_messages.proofs.Lookups.{found_moved, found_posted, found_without, moved}
-use Rattle.st_messages.proofs.Ordered.{between-moved, between-posted, between-without, first_waits, none_behind}
+use Rattle.st_messages.proofs.Ordered.{between-moved, between-posted, between-without, first_waits, none_later}
 
 under_cond : {A B : Type 0} (f : A → B) (b : Bool) (x y : A) → f (cond b x y) ≡ cond b (f x) (f y)
 under_cond f true x y = refl
@@ -33,18 +33,18 @@ thread_moved (Some m) state = refl
 -- ---- a message has another state
 
 module _ (calls : HeldCalls) (seq : ℕ) (state : MsgState) where
-  pub states_moved : is_live calls seq ≡ true → ChangesState calls seq (Some state) (with_state calls seq state)
+  pub states_moved : is_live_number calls seq ≡ true → ChangesState calls seq (Some state) (with_state calls seq state)
   states_moved live other =
-      ap state_of (found_moved calls.live seq other state) ∙ under_cond state_of (other == seq) _ _ ∙ ap (λ (s : Option MsgState). cond (other == seq) s (state_at calls other)) (state_moved (message_at calls seq) state live)
+      ap state_of (found_moved calls.live seq other state) ∙ under_cond state_of (other == seq) _ _ ∙ ap (λ (s : Option MsgState). cond (other == seq) s (message_state calls other)) (state_moved (message_of_number calls seq) state live)
 
-  pub threads_moved : (other : ℕ) → thread_at (with_state calls seq state) other ≡ thread_at calls other
+  pub threads_moved : (other : ℕ) → thread_of_number (with_state calls seq state) other ≡ thread_of_number calls other
   threads_moved other =
       ap thread_of (found_moved calls.live seq other state) ∙ under_cond thread_of (other == seq) _ _ ∙ elim (cases_eq other seq) [
-        | inl e ↦ rw (eq-eqb other seq e) (thread_moved (message_at calls seq) state ∙ ap (thread_at calls) (sym e))
+        | inl e ↦ rw (eq-eqb other seq e) (thread_moved (message_of_number calls seq) state ∙ ap (thread_of_number calls) (sym e))
         | inr ne ↦ rw (ne_eqb other seq ne) refl
       ]
 
-  pub whole-moved : IsWhole calls → is_live calls seq ≡ true → ((worker : ℕ) → state ≡ Claimed worker → IsWorker calls worker) → IsWhole (with_state calls seq state)
+  pub whole-moved : AreValidCalls calls → is_live_number calls seq ≡ true → ((worker : ℕ) → state ≡ Claimed worker → HasWorker calls worker) → AreValidCalls (with_state calls seq state)
   whole-moved whole live worker_is = record {
     ordered = between-moved calls.live seq state 1 calls.next whole.ordered;
     threads = λ a b tid a_is b_is. whole.threads a b tid (sym (threads_moved a) ∙ a_is) (sym (threads_moved b) ∙ b_is);
@@ -58,10 +58,10 @@ module _ (calls : HeldCalls) (seq : ℕ) (state : MsgState) where
 
 module _ (calls : HeldCalls) (seq : ℕ) where
   pub states_cancelled : ChangesState calls seq None (calls_after_cancel calls seq)
-  states_cancelled other = ap state_of (found_without calls.live seq other) ∙ under_cond state_of (other == seq) None (message_at calls other)
+  states_cancelled other = ap state_of (found_without calls.live seq other) ∙ under_cond state_of (other == seq) None (message_of_number calls other)
 
-  pub threads_cancelled : (other : ℕ) → thread_at (calls_after_cancel calls seq) other ≡ cond (other == seq) None (thread_at calls other)
-  threads_cancelled other = ap thread_of (found_without calls.live seq other) ∙ under_cond thread_of (other == seq) None (message_at calls other)
+  pub threads_cancelled : (other : ℕ) → thread_of_number (calls_after_cancel calls seq) other ≡ cond (other == seq) None (thread_of_number calls other)
+  threads_cancelled other = ap thread_of (found_without calls.live seq other) ∙ under_cond thread_of (other == seq) None (message_of_number calls other)
 
   -- what a number that is still live has, it had before
   cancelled_had : {X : Type 0} (other : ℕ) (x : X) (new old : Option X) → new ≡ cond (other == seq) None old → new ≡ Some x → (other ≢ seq) × (old ≡ Some x)
@@ -70,7 +70,7 @@ module _ (calls : HeldCalls) (seq : ℕ) where
     | inr ne ↦ (ne, sym (is ∙ rw (ne_eqb other seq ne) refl) ∙ has)
   ]
 
-  pub whole-cancelled : IsWhole calls → IsWhole (calls_after_cancel calls seq)
+  pub whole-cancelled : AreValidCalls calls → AreValidCalls (calls_after_cancel calls seq)
   whole-cancelled whole = record {
     ordered = between-without calls.live seq 1 calls.next whole.ordered;
     threads = λ a b tid a_is b_is. whole.threads a b tid (cancelled_had a tid _ _ (threads_cancelled a) a_is).1 (cancelled_had b tid _ _ (threads_cancelled b) b_is).1;
@@ -78,31 +78,31 @@ module _ (calls : HeldCalls) (seq : ℕ) where
   }
 
   -- the thread has no number left
-  pub cancelled_none : (tid : ℕ) → IsWhole calls → thread_at calls seq ≡ Some tid → HasNoNumber (calls_after_cancel calls seq) tid
+  pub cancelled_none : (tid : ℕ) → AreValidCalls calls → thread_of_number calls seq ≡ Some tid → HasNoNumber (calls_after_cancel calls seq) tid
   cancelled_none tid whole is other other_is =
       let had = cancelled_had other tid _ _ (threads_cancelled other) other_is in
       had.0 (whole.threads other seq tid had.1 is)
 
 -- ---- a message is appended
 
-pub next_none : (calls : HeldCalls) → IsWhole calls → message_at calls calls.next ≡ None
-next_none calls whole = none_behind calls.live 1 calls.next calls.next whole.ordered (omega arith)
+pub next_none : (calls : HeldCalls) → AreValidCalls calls → message_of_number calls calls.next ≡ None
+next_none calls whole = none_later calls.live 1 calls.next calls.next whole.ordered (omega arith)
 
-module _ (calls : HeldCalls) (tid : ℕ) (whole : IsWhole calls) where
+module _ (calls : HeldCalls) (tid : ℕ) (whole : AreValidCalls calls) where
   pub states_posted : ChangesState calls calls.next (Some Waiting) (calls_after_post calls tid)
-  states_posted other = ap state_of (found_posted calls.live calls.next tid other (next_none calls whole)) ∙ under_cond state_of (other == calls.next) (Some (waiting_message calls.next tid)) (message_at calls other)
+  states_posted other = ap state_of (found_posted calls.live calls.next tid other (next_none calls whole)) ∙ under_cond state_of (other == calls.next) (Some (waiting_message calls.next tid)) (message_of_number calls other)
 
-  pub threads_posted : (other : ℕ) → thread_at (calls_after_post calls tid) other ≡ cond (other == calls.next) (Some tid) (thread_at calls other)
-  threads_posted other = ap thread_of (found_posted calls.live calls.next tid other (next_none calls whole)) ∙ under_cond thread_of (other == calls.next) (Some (waiting_message calls.next tid)) (message_at calls other)
+  pub threads_posted : (other : ℕ) → thread_of_number (calls_after_post calls tid) other ≡ cond (other == calls.next) (Some tid) (thread_of_number calls other)
+  threads_posted other = ap thread_of (found_posted calls.live calls.next tid other (next_none calls whole)) ∙ under_cond thread_of (other == calls.next) (Some (waiting_message calls.next tid)) (message_of_number calls other)
 
   -- the thread of a number now
-  own : (other owner : ℕ) → thread_at (calls_after_post calls tid) other ≡ Some owner → ((other ≡ calls.next) × (tid ≡ owner)) ⊎ (thread_at calls other ≡ Some owner)
+  own : (other owner : ℕ) → thread_of_number (calls_after_post calls tid) other ≡ Some owner → ((other ≡ calls.next) × (tid ≡ owner)) ⊎ (thread_of_number calls other ≡ Some owner)
   own other owner is = elim (cases_eq other calls.next) [
     | inl e ↦ inl (e, same_Some tid owner (sym (threads_posted other ∙ rw (eq-eqb other calls.next e) refl) ∙ is))
     | inr ne ↦ inr (sym (threads_posted other ∙ rw (ne_eqb other calls.next ne) refl) ∙ is)
   ]
 
-  pub whole-posted : HasNoNumber calls tid → IsWhole (calls_after_post calls tid)
+  pub whole-posted : HasNoNumber calls tid → AreValidCalls (calls_after_post calls tid)
   whole-posted none = record {
     ordered = between-posted calls.live tid 1 calls.next whole.ordered;
     threads = λ a b owner a_is b_is. elim (own a owner a_is) [
@@ -125,34 +125,34 @@ module _ (calls : HeldCalls) (tid : ℕ) (whole : IsWhole calls) where
 
 -- ---- a message is removed, and its call is posted again
 
-module _ (calls : HeldCalls) (seq : ℕ) (whole : IsWhole calls) (message : Message) (is : message_at calls seq ≡ Some message) where
+module _ (calls : HeldCalls) (seq : ℕ) (whole : AreValidCalls calls) (message : Message) (is : message_of_number calls seq ≡ Some message) where
   renewed : calls_after_renew calls seq ≡ calls_after_post (calls_after_cancel calls seq) message.tid
   renewed = ap (calls_after_renew_of calls seq) is
 
-  pub whole-renewed : IsWhole (calls_after_renew calls seq)
-  whole-renewed = subst IsWhole (sym renewed) (whole-posted (calls_after_cancel calls seq) message.tid (whole-cancelled calls seq whole) (cancelled_none calls seq message.tid whole (ap thread_of is)))
+  pub whole-renewed : AreValidCalls (calls_after_renew calls seq)
+  whole-renewed = subst AreValidCalls (sym renewed) (whole-posted (calls_after_cancel calls seq) message.tid (whole-cancelled calls seq whole) (cancelled_none calls seq message.tid whole (ap thread_of is)))
 
   pub states_renewed : RenewsState calls seq calls.next (calls_after_renew calls seq)
   states_renewed other =
-      ap (λ (new : HeldCalls). state_at new other) renewed
+      ap (λ (new : HeldCalls). message_state new other) renewed
       ∙ states_posted (calls_after_cancel calls seq) message.tid (whole-cancelled calls seq whole) other
       ∙ ap (λ (s : Option MsgState). cond (other == calls.next) (Some Waiting) s) (states_cancelled calls seq other)
 
-  pub thread_renewed : thread_at (calls_after_renew calls seq) calls.next ≡ thread_at calls seq
+  pub thread_renewed : thread_of_number (calls_after_renew calls seq) calls.next ≡ thread_of_number calls seq
   thread_renewed =
-      ap (λ (new : HeldCalls). thread_at new calls.next) renewed
+      ap (λ (new : HeldCalls). thread_of_number new calls.next) renewed
       ∙ threads_posted (calls_after_cancel calls seq) message.tid (whole-cancelled calls seq whole) calls.next
       ∙ rw (eq-eqb calls.next calls.next refl) (sym (ap thread_of is))
 
 -- ---- the message that is claimed
 
-pub least_waiting : (calls : HeldCalls) (first : Message) → IsWhole calls → find is_waiting calls.live ≡ Some first → IsLeastWaiting calls first.seq
+pub least_waiting : (calls : HeldCalls) (first : Message) → AreValidCalls calls → find is_unclaimed calls.live ≡ Some first → IsLeastWaiting calls first.seq
 least_waiting calls first whole is =
     let least = (first_waits calls.live 1 calls.next first whole.ordered is).1 in
     record { waiting = ap state_of least.found ∙ ap Some least.waits; least = least.least }
 
-pub waiting_live : (calls : HeldCalls) (seq : ℕ) → IsWaiting calls seq → is_live calls seq ≡ true
-waiting_live calls seq is = by (message_at calls seq) is where
+pub waiting_live : (calls : HeldCalls) (seq : ℕ) → IsWaiting calls seq → is_live_number calls seq ≡ true
+waiting_live calls seq is = by (message_of_number calls seq) is where
   by : (o : Option Message) → state_of o ≡ Some Waiting → is_some o ≡ true
   by None is = absurd (none-some Waiting is)
   by (Some m) is = refl

@@ -2,7 +2,7 @@
 use Rattle.std.specs.Prelude.{◌≡◌, ℕ, ◌<◌, false, None}
 use Rattle.st_messages.specs.declared.message.MsgState.{MsgState}
 use Rattle.st_messages.specs.declared.message.MsgState.TheVariants.{Claimed}
-use Rattle.st_messages.specs.Messages.{HeldCalls, is_claimed, state_at, with_state, calls_after_post, calls_after_cancel, calls_after_renew, IsLeastWaiting}
+use Rattle.st_messages.specs.Messages.{HeldCalls, is_claimed, message_state, with_state, calls_after_post, calls_after_cancel, calls_after_renew, IsLeastWaiting}
 
 -- a run of calls leads from the first held calls to the second
 pub data LeadsTo : HeldCalls → HeldCalls → Type 0 where
@@ -14,7 +14,7 @@ pub data LeadsTo : HeldCalls → HeldCalls → Type 0 where
 
 -- a number that was given and isn't live is never live again
 abbrev pub DeadNumbersStay : Type 0
-DeadNumbersStay = (old new : HeldCalls) (seq : ℕ) → seq < old.next → state_at old seq ≡ None → LeadsTo old new → state_at new seq ≡ None
+DeadNumbersStay = (old new : HeldCalls) (seq : ℕ) → seq < old.next → message_state old seq ≡ None → LeadsTo old new → message_state new seq ≡ None
 
 -- an answer to a number that was renewed is stale
 abbrev pub RenewedAreStale : Type 0

@@ -16,28 +16,28 @@ pub record HeldCalls : Type 0 where
 -- ---- looking up
 
 -- whether a message has this number
-abbrev pub has_number : ℕ → Message → Bool
-has_number seq message = message.seq == seq
+abbrev pub is_message_of : ℕ → Message → Bool
+is_message_of seq message = message.seq == seq
 
 -- the message of this number
 abbrev pub message_in : List Message → ℕ → Option Message
-message_in live seq = find (has_number seq) live
+message_in live seq = find (is_message_of seq) live
 
 -- the message of a live number; none if the number isn't live
-abbrev pub message_at : HeldCalls → ℕ → Option Message
-message_at calls seq = message_in calls.live seq
+abbrev pub message_of_number : HeldCalls → ℕ → Option Message
+message_of_number calls seq = message_in calls.live seq
 
 -- whether a number is live
-abbrev pub is_live : HeldCalls → ℕ → Bool
-is_live calls seq = is_some (message_at calls seq)
+abbrev pub is_live_number : HeldCalls → ℕ → Bool
+is_live_number calls seq = is_some (message_of_number calls seq)
 
 -- how far a live number has come
-abbrev pub state_at : HeldCalls → ℕ → Option MsgState
-state_at calls seq = option_map (λ (message : Message). message.state) (message_at calls seq)
+abbrev pub message_state : HeldCalls → ℕ → Option MsgState
+message_state calls seq = option_map (λ (message : Message). message.state) (message_of_number calls seq)
 
 -- the thread of a live number
-abbrev pub thread_at : HeldCalls → ℕ → Option ℕ
-thread_at calls seq = option_map (λ (message : Message). message.tid) (message_at calls seq)
+abbrev pub thread_of_number : HeldCalls → ℕ → Option ℕ
+thread_of_number calls seq = option_map (λ (message : Message). message.tid) (message_of_number calls seq)
 
 -- whether a state is that of a message that no worker has claimed
 abbrev pub is_waiting_state : MsgState → Bool
@@ -47,12 +47,12 @@ is_waiting_state (Answered verdict) = false
 is_waiting_state (Faulted errno) = false
 
 -- whether no worker has claimed a message
-abbrev pub is_waiting : Message → Bool
-is_waiting message = is_waiting_state message.state
+abbrev pub is_unclaimed : Message → Bool
+is_unclaimed message = is_waiting_state message.state
 
 -- the number of the first waiting message
 abbrev pub first_waiting : HeldCalls → Option ℕ
-first_waiting calls = option_map (λ (message : Message). message.seq) (find is_waiting calls.live)
+first_waiting calls = option_map (λ (message : Message). message.seq) (find is_unclaimed calls.live)
 
 -- whether a state is that of a claimed message that is neither answered nor faulted
 abbrev pub is_claimed_state : Option MsgState → Bool
@@ -64,11 +64,11 @@ is_claimed_state (Some (Faulted errno)) = false
 
 -- whether a number is live and claimed, and neither answered nor faulted
 abbrev pub is_claimed : HeldCalls → ℕ → Bool
-is_claimed calls seq = is_claimed_state (state_at calls seq)
+is_claimed calls seq = is_claimed_state (message_state calls seq)
 
 -- a number is live, and no worker has claimed it
 abbrev pub IsWaiting : HeldCalls → ℕ → Type 0
-IsWaiting calls seq = state_at calls seq ≡ Some Waiting
+IsWaiting calls seq = message_state calls seq ≡ Some Waiting
 
 -- this number is waiting, and no smaller number is
 pub record IsLeastWaiting (calls : HeldCalls) (seq : ℕ) : Type 0 where
@@ -77,11 +77,11 @@ pub record IsLeastWaiting (calls : HeldCalls) (seq : ℕ) : Type 0 where
 
 -- no live number is this thread's
 abbrev pub HasNoNumber : HeldCalls → ℕ → Type 0
-HasNoNumber calls tid = (seq : ℕ) → thread_at calls seq ≢ Some tid
+HasNoNumber calls tid = (seq : ℕ) → thread_of_number calls seq ≢ Some tid
 
 -- a worker of this number exists
-abbrev pub IsWorker : HeldCalls → ℕ → Type 0
-IsWorker calls worker = (1 ≤ worker) × (worker ≤ calls.workers)
+abbrev pub HasWorker : HeldCalls → ℕ → Type 0
+HasWorker calls worker = (1 ≤ worker) × (worker ≤ calls.workers)
 
 -- ---- how calls change them
 
@@ -89,7 +89,7 @@ IsWorker calls worker = (1 ≤ worker) × (worker ≤ calls.workers)
 abbrev pub with_state_in : List Message → ℕ → MsgState → List Message
 with_state_in [] seq state = []
 with_state_in (message ∷ live) seq state =
-    if has_number seq message then record message { state = state } ∷ live else message ∷ with_state_in live seq state
+    if is_message_of seq message then record message { state = state } ∷ live else message ∷ with_state_in live seq state
 
 -- held calls, with another state for a number
 abbrev pub with_state : HeldCalls → ℕ → MsgState → HeldCalls
@@ -105,7 +105,7 @@ calls_after_post calls tid = record calls { next = suc calls.next; live = calls.
 
 -- messages, without that of this number
 abbrev pub without_number : List Message → ℕ → List Message
-without_number live seq = filter (λ message. not (has_number seq message)) live
+without_number live seq = filter (λ message. not (is_message_of seq message)) live
 
 -- the held calls after a number has ended
 abbrev pub calls_after_cancel : HeldCalls → ℕ → HeldCalls
@@ -118,16 +118,16 @@ calls_after_renew_of calls seq (Some message) = calls_after_post (calls_after_ca
 
 -- the held calls after a number was renewed: it is no longer live, and its thread has the next number, which is waiting
 abbrev pub calls_after_renew : HeldCalls → ℕ → HeldCalls
-calls_after_renew calls seq = calls_after_renew_of calls seq (message_at calls seq)
+calls_after_renew calls seq = calls_after_renew_of calls seq (message_of_number calls seq)
 
 -- a number has this state now, and each other number is unchanged
 abbrev pub ChangesState : HeldCalls → ℕ → Option MsgState → HeldCalls → Type 0
-ChangesState old seq state new = (other : ℕ) → state_at new other ≡ (if other == seq then state else state_at old other)
+ChangesState old seq state new = (other : ℕ) → message_state new other ≡ (if other == seq then state else message_state old other)
 
 -- a number is no longer live, this new number is waiting, and each other number is unchanged
 abbrev pub RenewsState : HeldCalls → ℕ → ℕ → HeldCalls → Type 0
 RenewsState old seq fresh new =
-    (other : ℕ) → state_at new other ≡ (if other == fresh then Some Waiting else if other == seq then None else state_at old other)
+    (other : ℕ) → message_state new other ≡ (if other == fresh then Some Waiting else if other == seq then None else message_state old other)
 
 -- ---- the invariants of held calls
 
@@ -138,10 +138,10 @@ AreBetween from (message ∷ live) to = (from ≤ message.seq) × AreBetween (su
 
 -- each thread has at most one live number
 abbrev pub AreOfOwnThreads : HeldCalls → Type 0
-AreOfOwnThreads calls = (a b tid : ℕ) → thread_at calls a ≡ Some tid → thread_at calls b ≡ Some tid → a ≡ b
+AreOfOwnThreads calls = (a b tid : ℕ) → thread_of_number calls a ≡ Some tid → thread_of_number calls b ≡ Some tid → a ≡ b
 
 -- the invariants of held calls
-pub record IsWhole (calls : HeldCalls) : Type 0 where
+pub record AreValidCalls (calls : HeldCalls) : Type 0 where
   pub ordered : AreBetween 1 calls.live calls.next
   pub threads : AreOfOwnThreads calls
-  pub workers : (seq worker : ℕ) → state_at calls seq ≡ Some (Claimed worker) → IsWorker calls worker
+  pub workers : (seq worker : ℕ) → message_state calls seq ≡ Some (Claimed worker) → HasWorker calls worker

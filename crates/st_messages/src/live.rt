@@ -1,13 +1,13 @@
 ghost use Rattle.std.specs.Prelude.{◌≡◌, ◌<◌, ℕ, IfSome, Some, true, is_some, find, vec_len, vec_capacity};
 ghost use Rattle.std.specs.List.{position};
-ghost use Rattle.st_messages.specs.Messages.{has_number, is_waiting, message_in, without_number, AreBetween};
+ghost use Rattle.st_messages.specs.Messages.{is_message_of, is_unclaimed, message_in, without_number, AreBetween};
 
 use crate::message::{Message, MsgState};
 use st_base::Seq;
 
 /// The index of the message of this number.
 pub fn place_of(live: &[Message], seq: Seq) -> Option<usize>
-    ensures { result ≡ position (has_number seq) live.now }
+    ensures { result ≡ position (is_message_of seq) live.now }
 {
     live.iter().position(|message| message.seq == seq)
 }
@@ -41,21 +41,21 @@ pub fn message_of(live: &[Message], seq: Seq) -> Option<Message>
 
 // Whether no worker has claimed a message.
 fn is_waiting(message: &Message) -> bool
-    ensures { result ≡ is_waiting message.now }
+    ensures { result ≡ is_unclaimed message.now }
 {
     matches!(message.state, MsgState::Waiting)
 }
 
 /// The index of the first waiting message.
 pub fn waiting_place(live: &[Message]) -> Option<usize>
-    ensures { result ≡ position is_waiting live.now }
+    ensures { result ≡ position is_unclaimed live.now }
 {
     live.iter().position(is_waiting)
 }
 
 /// The first waiting message.
 pub fn first_waiting(live: &[Message]) -> Option<Message>
-    ensures { result ≡ find is_waiting live.now }
+    ensures { result ≡ find is_unclaimed live.now }
 {
     live.iter().copied().find(|message| is_waiting(message))
 }

@@ -2,7 +2,7 @@ ghost use Rattle.std.specs.Prelude.{◌≡◌, ◌≢◌, ℕ, ◌-◌, ◌^◌,
 ghost use Rattle.st_messages.specs.declared.message.Delivered.TheVariants.{Applied, Stale};
 ghost use Rattle.st_messages.specs.declared.message.Message.{Message};
 ghost use Rattle.st_messages.specs.declared.message.MsgState.TheVariants.{Waiting, Claimed, Answered, Faulted};
-ghost use Rattle.st_messages.specs.Messages.{first_waiting, is_claimed, is_live, state_at, thread_at, with_state, calls_after_post, calls_after_cancel, calls_after_renew, ChangesState, HasNoNumber, IsLeastWaiting, IsWorker, RenewsState};
+ghost use Rattle.st_messages.specs.Messages.{first_waiting, is_claimed, is_live_number, message_state, thread_of_number, with_state, calls_after_post, calls_after_cancel, calls_after_renew, ChangesState, HasNoNumber, IsLeastWaiting, HasWorker, RenewsState};
 
 use crate::live;
 use crate::message::{Delivered, Message, MsgState};
@@ -28,9 +28,9 @@ impl Model for Messages {
 
     ghost view = { λ m. record { workers = m.workers; next = m.next; live = m.live.items } };
 
-    ghost use Rattle.st_messages.specs.Messages.{IsWhole};
+    ghost use Rattle.st_messages.specs.Messages.{AreValidCalls};
 
-    ghost invariant = { λ m. IsWhole (record { workers = m.workers; next = m.next; live = m.live.items }) };
+    ghost invariant = { λ m. AreValidCalls (record { workers = m.workers; next = m.next; live = m.live.items }) };
 }
 
 impl Messages {
@@ -63,16 +63,16 @@ impl Messages {
 
     /// How far a message has come; none iff the number isn't live.
     pub fn state(&self, seq: Seq) -> Option<MsgState>
-        ensures state { result ≡ state_at self.now seq }
+        ensures state { result ≡ message_state self.now seq }
         ensures given { IfSome result (λ _. seq < self.now.next) }
-        ensures worker { IfSome result (λ state. (worker : ℕ) → state ≡ Claimed worker → IsWorker self.now worker) }
+        ensures worker { IfSome result (λ state. (worker : ℕ) → state ≡ Claimed worker → HasWorker self.now worker) }
     {
         Some(live::message_of(&self.live, seq)?.state)
     }
 
     /// The thread of a live number; none if the number isn't live.
     pub fn thread(&self, seq: Seq) -> Option<Tid>
-        ensures { result ≡ thread_at self.now seq }
+        ensures { result ≡ thread_of_number self.now seq }
     {
         Some(live::message_of(&self.live, seq)?.tid)
     }
@@ -80,7 +80,7 @@ impl Messages {
     // Changes the state of the message at an index, and returns its number.
     fn set_state_at(&mut self, place: usize, state: MsgState) -> Seq
         requires place { place < length self.old.live }
-        requires worker { (worker : ℕ) → state ≡ Claimed worker → IsWorker self.old worker }
+        requires worker { (worker : ℕ) → state ≡ Claimed worker → HasWorker self.old worker }
         ensures seq { (default : Message) → result ≡ (get_or self.old.live place default).seq }
         ensures calls { self.new ≡ with_state self.old result state }
         ensures states { ChangesState self.old result (Some state) self.new }
@@ -92,8 +92,8 @@ impl Messages {
 
     // Changes the state of a live message.
     fn set_state(&mut self, seq: Seq, state: MsgState)
-        requires live { is_live self.old seq ≡ true }
-        requires worker { (worker : ℕ) → state ≡ Claimed worker → IsWorker self.old worker }
+        requires live { is_live_number self.old seq ≡ true }
+        requires worker { (worker : ℕ) → state ≡ Claimed worker → HasWorker self.old worker }
         ensures calls { self.new ≡ with_state self.old seq state }
         ensures states { ChangesState self.old seq (Some state) self.new }
     {
@@ -107,9 +107,9 @@ impl Messages {
         requires thread { HasNoNumber self.old tid }
         requires room { self.old.next < 2 ^ 64 - 1 }
         ensures seq { IfOk result (λ seq. seq ≡ self.old.next) }
-        ensures fresh { state_at self.old self.old.next ≡ None }
+        ensures fresh { message_state self.old self.old.next ≡ None }
         ensures ok { OnOk result (self.new ≡ calls_after_post self.old tid) }
-        ensures thread { OnOk result (thread_at self.new self.old.next ≡ Some tid) }
+        ensures thread { OnOk result (thread_of_number self.new self.old.next ≡ Some tid) }
         ensures states { OnOk result (ChangesState self.old self.old.next (Some Waiting) self.new) }
         ensures err { OnErr result (self.new ≡ self.old) }
     {
@@ -125,8 +125,8 @@ impl Messages {
 
     /// Lets a worker claim the least waiting number, and returns it; none iff no number is waiting. It takes no memory.
     pub fn claim(&mut self, worker: Worker) -> Option<Seq>
-        requires { IsWorker self.old worker }
-        ensures none { IsNone result ↔ ((seq : ℕ) → state_at self.old seq ≢ Some Waiting) }
+        requires { HasWorker self.old worker }
+        ensures none { IsNone result ↔ ((seq : ℕ) → message_state self.old seq ≢ Some Waiting) }
         ensures least { IfSome result (λ seq. IsLeastWaiting self.old seq) }
         ensures first { result ≡ first_waiting self.old }
         ensures ok { IfSome result (λ seq. self.new ≡ with_state self.old seq (Claimed worker)) }
@@ -140,9 +140,9 @@ impl Messages {
     /// The least waiting number, which is claimed next; none iff no number is waiting.
     pub fn least_waiting(&self) -> Option<Seq>
         ensures first { result ≡ first_waiting self.now }
-        ensures none { IsNone result ↔ ((seq : ℕ) → state_at self.now seq ≢ Some Waiting) }
+        ensures none { IsNone result ↔ ((seq : ℕ) → message_state self.now seq ≢ Some Waiting) }
         ensures least { IfSome result (λ seq. IsLeastWaiting self.now seq) }
-        ensures live { IfSome result (λ seq. is_live self.now seq ≡ true) }
+        ensures live { IfSome result (λ seq. is_live_number self.now seq ≡ true) }
     {
         Some(live::first_waiting(&self.live)?.seq)
     }
@@ -173,12 +173,12 @@ impl Messages {
 
     /// Ends a live number, and posts its call again under the next number, which it returns. It takes no memory.
     pub fn renew(&mut self, seq: Seq) -> Seq
-        requires live { is_live self.old seq ≡ true }
+        requires live { is_live_number self.old seq ≡ true }
         requires room { self.old.next < 2 ^ 64 - 1 }
         ensures seq { result ≡ self.old.next }
         ensures calls { self.new ≡ calls_after_renew self.old seq }
-        ensures thread { thread_at self.new result ≡ thread_at self.old seq }
-        ensures fresh { state_at self.old self.old.next ≡ None }
+        ensures thread { thread_of_number self.new result ≡ thread_of_number self.old seq }
+        ensures fresh { message_state self.old self.old.next ≡ None }
         ensures states { RenewsState self.old seq self.old.next self.new }
     {
         let message = live::take(&mut self.live, seq);
@@ -194,7 +194,7 @@ impl Messages {
 
     /// Ends a live number, because its call is made or denied, or its thread is dying. It takes no memory.
     pub fn cancel(&mut self, seq: Seq)
-        requires { is_live self.old seq ≡ true }
+        requires { is_live_number self.old seq ≡ true }
         ensures calls { self.new ≡ calls_after_cancel self.old seq }
         ensures states { ChangesState self.old seq None self.new }
     {

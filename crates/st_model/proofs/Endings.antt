@@ -8,7 +8,7 @@ use Rattle.st_names.specs.Name.{Components, components_of, has_long_part, is_com
 use Rattle.st_model.specs.Tree.{Tree, Node, is_directory, seen_of, seen_of_kind, seen_through, look, look_along, node_of, node_at, object_of}
 use Rattle.st_model.specs.declared.object.Kind.{Kind}
 use Rattle.st_model.specs.declared.object.Kind.TheVariants as object_kind
-use Rattle.st_model.specs.Walk.{WalkState, Name, Next, Fault, needs_lookup, walk_on, start_walk, name_after_ups, rest_after_ups, walk_end, start_of_name, is_last, is_up, most_lookups, longest_content_of, longest_content, walk_through, resolve, resolve_within}
+use Rattle.st_model.specs.Walk.{WalkState, Name, Next, Fault, needs_lookup, walk_components, start_walk, name_after_parents, rest_after_ups, walk_end, start_of_name, is_last, is_up, most_lookups, longest_content_of, longest_content, walk_through, resolve, resolve_within}
 use Rattle.st_names.specs.declared.seen.SeenText.{SeenText}
 use Rattle.st_names.specs.declared.seen.SeenText.TheVariants.{Missing, NotDir, Dir, File, Link}
 use Rattle.st_names.specs.declared.limits.TheConstants.{LONGEST_NAME}
@@ -139,11 +139,11 @@ stops true done errno h = let quiet = asks-finished done in cc
 stops false done errno h = cc
 
 -- a walk that still needs a look has taken fewer looks than the bound
-asks_early : (done rest : Components) (n : ℕ) (lookups : List SeenText) (follow : Bool) (most left : ℕ) → n + left ≡ 32 → AreWithin most lookups → needs_lookup (walk_on done rest n lookups follow) ≡ true → length lookups < length rest + left * most
+asks_early : (done rest : Components) (n : ℕ) (lookups : List SeenText) (follow : Bool) (most left : ℕ) → n + left ≡ 32 → AreWithin most lookups → needs_lookup (walk_components done rest n lookups follow) ≡ true → length lookups < length rest + left * most
 asks_early done [] n lookups follow most left e all h = let quiet = asks-finished done in cc
 asks_early done (part ∷ rest) n [] follow most left e all h = omega arith
 asks_early done (part ∷ rest) n (Dir ∷ lookups) follow most left e all h =
-    let i = asks_early (name_after_ups (done ++ part ∷ []) rest) (rest_after_ups rest) n lookups follow most left e all.1 h in
+    let i = asks_early (name_after_parents (done ++ part ∷ []) rest) (rest_after_ups rest) n lookups follow most left e all.1 h in
     omega (arith, i, length-onward rest)
 asks_early done (part ∷ rest) n (File ∷ lookups) follow most left e all h = absurd (stops (is_last rest) (done ++ part ∷ []) ENOTDIR h)
 asks_early done (part ∷ rest) n (Missing ∷ lookups) follow most left e all h = absurd (stops (is_last rest) (done ++ part ∷ []) ENOENT h)
@@ -156,7 +156,7 @@ asks_early done (part ∷ rest) n (Link text ∷ lookups) follow most (suc left)
     let a = asks_if (is_last rest && not follow) _ _ (asks-finished (done ++ part ∷ [])) h in
     let b = asks_if (nat_eq n MOST_LINKS) _ _ refl a.1 in
     let next : n + 1 + left ≡ 32 = omega arith in
-    let i = asks_early (name_after_ups (start_of_name text done) (components_of text ++ rest)) (rest_after_ups (components_of text ++ rest)) (n + 1) lookups follow most left next all.1 b.1 in
+    let i = asks_early (name_after_parents (start_of_name text done) (components_of text ++ rest)) (rest_after_ups (components_of text ++ rest)) (n + 1) lookups follow most left next all.1 b.1 in
     let o = length-onward (components_of text ++ rest) in
     let j = length-append (components_of text) rest in
     let m = all.0 in
@@ -169,7 +169,7 @@ pub start_early : (most : ℕ) (cwd : Components) (text : List ℕ) (follow : Bo
 start_early most cwd text follow lookups all h =
     let a = asks_if (nat_eq (length text) 0) _ _ refl h in
     let b = asks_if (has_long_part text) _ _ refl a.1 in
-    let i = asks_early (name_after_ups (start_of_name text cwd) (components_of text)) (rest_after_ups (components_of text)) 0 lookups follow most 32 refl all b.1 in
+    let i = asks_early (name_after_parents (start_of_name text cwd) (components_of text)) (rest_after_ups (components_of text)) 0 lookups follow most 32 refl all b.1 in
     omega (arith, i, length-onward (components_of text))
 
 asks_no_more : (w : WalkState) → (needs_lookup w ≡ true → ⊥) → needs_lookup w ≡ false

@@ -49,16 +49,16 @@ seen-no_link : (o : Option Node) → IsNoLink o → link_parts (seen_of o) ≤ 0
 seen-no_link None h = omega arith
 seen-no_link (Some node) h = kind-no_link node.kind node.content h
 
-behind-no_link : (o : Option Node) (rest : SeenText) → link_parts rest ≤ 0 → link_parts (seen_through o rest) ≤ 0
-behind-no_link None rest h = omega arith
-behind-no_link (Some node) rest h = by_kind (is_directory node.kind) rest h where
+following-no_link : (o : Option Node) (rest : SeenText) → link_parts rest ≤ 0 → link_parts (seen_through o rest) ≤ 0
+following-no_link None rest h = omega arith
+following-no_link (Some node) rest h = by_kind (is_directory node.kind) rest h where
   by_kind : (b : Bool) (rest : SeenText) → link_parts rest ≤ 0 → link_parts (cond b rest NotDir) ≤ 0
   by_kind true rest h = h
   by_kind false rest h = omega arith
 
 look_along-no_link : (tree : Tree) (done rest : Components) → AreNoLinks tree.objects → link_parts (look_along tree done rest) ≤ 0
 look_along-no_link tree done [] all = seen-no_link (node_of tree done) (at-no_link tree (object_of tree done) all)
-look_along-no_link tree done (part ∷ rest) all = behind-no_link (node_of tree done) (look_along tree (done ++ part ∷ []) rest) (look_along-no_link tree (done ++ part ∷ []) rest all)
+look_along-no_link tree done (part ∷ rest) all = following-no_link (node_of tree done) (look_along tree (done ++ part ∷ []) rest) (look_along-no_link tree (done ++ part ∷ []) rest all)
 
 -- no look sees a link
 pub look-no_link : (tree : Tree) (name : Components) → AreNoLinks tree.objects → link_parts (look tree name) ≤ 0

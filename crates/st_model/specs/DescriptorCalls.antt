@@ -43,8 +43,8 @@ abbrev pub table_after_copy : Table → ℕ → ℕ → Table
 table_after_copy t from to = with_places t to (places_in t.processes from)
 
 -- the table after a process's entry is removed
-abbrev pub table_after_uncopy : Table → ℕ → Table
-table_after_uncopy t to = record { processes = remove_entry (is_at (nat_cmp to)) t.processes; files = t.files }
+abbrev pub table_after_entry_removed : Table → ℕ → Table
+table_after_entry_removed t to = record { processes = remove_entry (is_at (nat_cmp to)) t.processes; files = t.files }
 
 -- the table after all descriptors of a process are closed
 abbrev pub table_after_close_all : Table → ℕ → Table

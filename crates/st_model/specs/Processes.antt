@@ -68,8 +68,8 @@ abbrev pub is_pid : Processes → ℕ → Bool
 is_pid processes pid = nat_lt 0 pid && nat_lt pid (next_pid processes)
 
 -- whether a process exists and hasn't ended: it never had a thread, or has a thread that hasn't ended
-abbrev pub is_live : Processes → ℕ → Bool
-is_live processes pid =
+abbrev pub is_process_live : Processes → ℕ → Bool
+is_process_live processes pid =
     is_pid processes pid && (not (list_any (is_thread_of pid) (values_of processes.threads)) || list_any (is_running_in pid) (values_of processes.threads))
 
 -- the rows after one more process, without threads, is added

@@ -30,9 +30,9 @@ abbrev pub is_up : List ℕ → Bool
 is_up part = bytes_eq part (codes "..")
 
 -- the name that is reached after each leading `..` of the rest has dropped a component
-abbrev pub name_after_ups : Components → Components → Components
-name_after_ups done [] = done
-name_after_ups done (part ∷ rest) = if is_up part then name_after_ups (parent done) rest else done
+abbrev pub name_after_parents : Components → Components → Components
+name_after_parents done [] = done
+name_after_parents done (part ∷ rest) = if is_up part then name_after_parents (parent done) rest else done
 
 -- the rest without its leading `..`
 abbrev pub rest_after_ups : Components → Components
@@ -54,24 +54,24 @@ is_last rest = nat_eq (length rest) 0
 -- A walk whose rest doesn't begin with `..`: `done` is the name that was reached, `n` is the number of links that were followed,
 -- and the first of `lookups` is the result of a look at `done` with the next component. A link that is the last component is
 -- followed only if `follow` is true. A component before a `..` isn't the last one.
-abbrev pub walk_on : Components → Components → ℕ → List SeenText → Bool → WalkState
-walk_on done [] n lookups follow = walk_end done
-walk_on done (part ∷ rest) n [] follow = Next (done ++ part ∷ [])
-walk_on done (part ∷ rest) n (Dir ∷ lookups) follow =
-    walk_on (name_after_ups (done ++ part ∷ []) rest) (rest_after_ups rest) n lookups follow
-walk_on done (part ∷ rest) n (File ∷ lookups) follow =
+abbrev pub walk_components : Components → Components → ℕ → List SeenText → Bool → WalkState
+walk_components done [] n lookups follow = walk_end done
+walk_components done (part ∷ rest) n [] follow = Next (done ++ part ∷ [])
+walk_components done (part ∷ rest) n (Dir ∷ lookups) follow =
+    walk_components (name_after_parents (done ++ part ∷ []) rest) (rest_after_ups rest) n lookups follow
+walk_components done (part ∷ rest) n (File ∷ lookups) follow =
     if is_last rest then walk_end (done ++ part ∷ []) else Fault ENOTDIR
-walk_on done (part ∷ rest) n (Missing ∷ lookups) follow =
+walk_components done (part ∷ rest) n (Missing ∷ lookups) follow =
     if is_last rest then walk_end (done ++ part ∷ []) else Fault ENOENT
-walk_on done (part ∷ rest) n (NotDir ∷ lookups) follow = Fault ENOTDIR
-walk_on done (part ∷ rest) n (Link text ∷ lookups) follow =
+walk_components done (part ∷ rest) n (NotDir ∷ lookups) follow = Fault ENOTDIR
+walk_components done (part ∷ rest) n (Link text ∷ lookups) follow =
     if is_last rest && not follow then walk_end (done ++ part ∷ [])
     else if nat_eq n MOST_LINKS then Fault ELOOP
-    else walk_on (name_after_ups (start_of_name text done) (components_of text ++ rest)) (rest_after_ups (components_of text ++ rest)) (n + 1) lookups follow
+    else walk_components (name_after_parents (start_of_name text done) (components_of text ++ rest)) (rest_after_ups (components_of text ++ rest)) (n + 1) lookups follow
 
 -- the walk from `done` over the rest, with `n` links followed, by the looks so far; `..` takes no look
 abbrev pub walk : Components → Components → ℕ → List SeenText → Bool → WalkState
-walk done rest n lookups follow = walk_on (name_after_ups done rest) (rest_after_ups rest) n lookups follow
+walk done rest n lookups follow = walk_components (name_after_parents done rest) (rest_after_ups rest) n lookups follow
 
 -- the walk of a text; two faults are found before any look
 abbrev pub start_walk : List ℕ → Components → Bool → List SeenText → WalkState

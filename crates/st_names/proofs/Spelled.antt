@@ -14,7 +14,7 @@ use Rattle.std.proofs.lemmas.List.Splits.{length-slice_split}
 use Rattle.std.proofs.Math.Seq.{take-append_seam, take-length}
 use Rattle.memchr.specs.Find.{IsFirstByte, is_byte}
 use Rattle.st_names.specs.declared.limits.TheConstants.{LONGEST_PART}
-use Rattle.st_names.specs.Name.{AreParts, Components, IsLastSlash, IsSpelled, components_of, has_long_part, has_slash, is_component, is_slash, parent, split_at_slashes, parts_behind, slash, with_slash}
+use Rattle.st_names.specs.Name.{AreParts, Components, IsLastSlash, IsNameText, components_of, has_long_part, has_slash, is_component, is_slash, parent, split_at_slashes, parts_after, slash, with_slash}
 
 -- ---- splitting at slashes
 
@@ -51,50 +51,50 @@ pub parts_plain : (text : List ℕ) → has_slash text ≡ false → split_at_sl
 parts_plain [] none = refl
 parts_plain (x ∷ xs) none = plain_front (x == slash) (has_slash xs) x xs (split_at_slashes xs) none (parts_plain xs)
 
-behind_front : (left right : Components) → 0 < length left → drop 1 (left ++ right) ≡ drop 1 left ++ right
-behind_front [] right some = absurd (omega arith)
-behind_front (part ∷ left) right some = refl
+after_front : (left right : Components) → 0 < length left → drop 1 (left ++ right) ≡ drop 1 left ++ right
+after_front [] right some = absurd (omega arith)
+after_front (part ∷ left) right some = refl
 
-pub parts_behind-append : (front back : List ℕ) → parts_behind (front ++ slash ∷ back) ≡ parts_behind front ++ split_at_slashes back
-parts_behind-append front back = ap (drop 1) (parts-append front back) ∙ behind_front (split_at_slashes front) (split_at_slashes back) (parts_some front)
+pub parts_after-append : (front back : List ℕ) → parts_after (front ++ slash ∷ back) ≡ parts_after front ++ split_at_slashes back
+parts_after-append front back = ap (drop 1) (parts-append front back) ∙ after_front (split_at_slashes front) (split_at_slashes back) (parts_some front)
 
 -- one more component
-pub parts_behind_push : (text part : List ℕ) → has_slash part ≡ false → parts_behind (text ++ slash ∷ part) ≡ parts_behind text ++ part ∷ []
-parts_behind_push text part plain = parts_behind-append text part ∙ ap (λ (texts : Components). parts_behind text ++ texts) (parts_plain part plain)
+pub parts_after_push : (text part : List ℕ) → has_slash part ≡ false → parts_after (text ++ slash ∷ part) ≡ parts_after text ++ part ∷ []
+parts_after_push text part plain = parts_after-append text part ∙ ap (λ (texts : Components). parts_after text ++ texts) (parts_plain part plain)
 
 -- ---- texts that spell names
 
-pub spelled_after : (text : List ℕ) → IsSpelled (slash ∷ text)
+pub spelled_after : (text : List ℕ) → IsNameText (slash ∷ text)
 spelled_after text = slashed-parts text
 
 begins_slashed : (texts : Components) (x : ℕ) (xs : List ℕ) → flat_map with_slash texts ≡ x ∷ xs → x ≡ slash
 begins_slashed [] x xs e = cc
 begins_slashed (part ∷ texts) x xs e = cc
 
-pub spelled_begins : (x : ℕ) (xs : List ℕ) → IsSpelled (x ∷ xs) → x ≡ slash
+pub spelled_begins : (x : ℕ) (xs : List ℕ) → IsNameText (x ∷ xs) → x ≡ slash
 spelled_begins x xs spelled = begins_slashed _ x xs spelled
 
-spelled_from : (x : ℕ) (xs : List ℕ) → x ≡ slash → IsSpelled (x ∷ xs)
-spelled_from x xs is = subst (λ (y : ℕ). IsSpelled (y ∷ xs)) (sym is) (spelled_after xs)
+spelled_from : (x : ℕ) (xs : List ℕ) → x ≡ slash → IsNameText (x ∷ xs)
+spelled_from x xs is = subst (λ (y : ℕ). IsNameText (y ∷ xs)) (sym is) (spelled_after xs)
 
 -- a text that spells a name still spells a name with a slash and more text appended
-pub spelled-append : (front back : List ℕ) → IsSpelled front → IsSpelled (front ++ slash ∷ back)
+pub spelled-append : (front back : List ℕ) → IsNameText front → IsNameText (front ++ slash ∷ back)
 spelled-append front back spelled =
-    ap (flat_map with_slash) (parts_behind-append front back) ∙ flat_map-append with_slash (parts_behind front) (split_at_slashes back)
+    ap (flat_map with_slash) (parts_after-append front back) ∙ flat_map-append with_slash (parts_after front) (split_at_slashes back)
     ∙ ap (λ (text : List ℕ). text ++ flat_map with_slash (split_at_slashes back)) spelled ∙ ap (λ (text : List ℕ). front ++ text) (slashed-parts back)
 
 -- a text that spells a name still spells a name if it is cut before one of its slashes
-pub spelled_front : (front back : List ℕ) → IsSpelled (front ++ slash ∷ back) → IsSpelled front
+pub spelled_front : (front back : List ℕ) → IsNameText (front ++ slash ∷ back) → IsNameText front
 spelled_front [] back spelled = refl
 spelled_front (x ∷ xs) back spelled = spelled_from x xs (spelled_begins x (xs ++ slash ∷ back) spelled)
 
 -- only the root's text is empty
-pub spelled_root : (text : List ℕ) → IsSpelled text → parts_behind text ≡ [] → text ≡ []
+pub spelled_root : (text : List ℕ) → IsNameText text → parts_after text ≡ [] → text ≡ []
 spelled_root text spelled root = sym spelled ∙ ap (flat_map with_slash) root
 
 -- ---- the first component
 
-first_by : (b : Bool) (x : ℕ) (xs : List ℕ) (n : ℕ) → (b ≡ (x == slash)) → split_at_slashes xs ≡ take n xs ∷ parts_behind (drop n xs) → split_at_slashes (x ∷ xs) ≡ take (cond (not b) (1 + n) 0) (x ∷ xs) ∷ parts_behind (drop (cond (not b) (1 + n) 0) (x ∷ xs))
+first_by : (b : Bool) (x : ℕ) (xs : List ℕ) (n : ℕ) → (b ≡ (x == slash)) → split_at_slashes xs ≡ take n xs ∷ parts_after (drop n xs) → split_at_slashes (x ∷ xs) ≡ take (cond (not b) (1 + n) 0) (x ∷ xs) ∷ parts_after (drop (cond (not b) (1 + n) 0) (x ∷ xs))
 first_by true x xs n is e = let cut : split_at_slashes (x ∷ xs) ≡ [] ∷ split_at_slashes xs = ap (λ (b : Bool). cond b ([] ∷ split_at_slashes xs) (onto_first x (split_at_slashes xs))) (sym is) in cut ∙ ap (λ (texts : Components). [] ∷ texts) (sym (ap (drop 1) cut))
 first_by false x xs n is e =
     let one : 1 + n ≡ suc n = omega arith in
@@ -102,16 +102,16 @@ first_by false x xs n is e =
     rw one (cut ∙ ap (onto_first x) e)
 
 -- the first part of a text ends at its first slash
-pub parts_first : (text : List ℕ) → split_at_slashes text ≡ take (position_or_len is_slash text) text ∷ parts_behind (drop (position_or_len is_slash text) text)
+pub parts_first : (text : List ℕ) → split_at_slashes text ≡ take (position_or_len is_slash text) text ∷ parts_after (drop (position_or_len is_slash text) text)
 parts_first [] = refl
 parts_first (x ∷ xs) = first_by (x == slash) x xs (position_or_len is_slash xs) refl (parts_first xs)
 
-rest_by : (b : Bool) (x : ℕ) (xs : List ℕ) (n : ℕ) → (b ≡ true → x ≡ slash) → IsSpelled (drop n xs) → IsSpelled (drop (cond (not b) (1 + n) 0) (x ∷ xs))
+rest_by : (b : Bool) (x : ℕ) (xs : List ℕ) (n : ℕ) → (b ≡ true → x ≡ slash) → IsNameText (drop n xs) → IsNameText (drop (cond (not b) (1 + n) 0) (x ∷ xs))
 rest_by true x xs n is spelled = spelled_from x xs (is refl)
 rest_by false x xs n is spelled = let one : 1 + n ≡ suc n = omega arith in rw one spelled
 
 -- the text from its first slash on spells a name
-pub spelled_rest : (text : List ℕ) → IsSpelled (drop (position_or_len is_slash text) text)
+pub spelled_rest : (text : List ℕ) → IsNameText (drop (position_or_len is_slash text) text)
 spelled_rest [] = refl
 spelled_rest (x ∷ xs) = rest_by (x == slash) x xs (position_or_len is_slash xs) (eqb-true x slash) (spelled_rest xs)
 
@@ -133,18 +133,18 @@ last_push name part =
 cut_at : (text : List ℕ) (at : ℕ) → at < length text → get_or text at 0 ≡ slash → text ≡ take at text ++ slash ∷ drop (at + 1) text
 cut_at text at within is = sym (take-append-drop at text) ∙ ap (λ (back : List ℕ). take at text ++ back) (rw (add-one, drop-cons text at 0) (ap (λ (x : ℕ). x ∷ drop (suc at) text) is))
 
-last_of_cut : (text front back : List ℕ) → IsSpelled text → text ≡ front ++ slash ∷ back → has_slash back ≡ false → IsSpelled front × (parts_behind front ≡ parent (parts_behind text)) × (back ≡ get_or (parts_behind text) (length (parts_behind text) - 1) [])
+last_of_cut : (text front back : List ℕ) → IsNameText text → text ≡ front ++ slash ∷ back → has_slash back ≡ false → IsNameText front × (parts_after front ≡ parent (parts_after text)) × (back ≡ get_or (parts_after text) (length (parts_after text) - 1) [])
 last_of_cut text front back spelled cut plain =
-    let pushed : parts_behind text ≡ parts_behind front ++ back ∷ [] = ap parts_behind cut ∙ parts_behind_push front back plain in
-    (spelled_front front back (subst IsSpelled cut spelled), sym (ap parent pushed ∙ parent_push (parts_behind front) back), sym (ap (λ (name : Components). get_or name (length name - 1) []) pushed ∙ last_push (parts_behind front) back))
+    let pushed : parts_after text ≡ parts_after front ++ back ∷ [] = ap parts_after cut ∙ parts_after_push front back plain in
+    (spelled_front front back (subst IsNameText cut spelled), sym (ap parent pushed ∙ parent_push (parts_after front) back), sym (ap (λ (name : Components). get_or name (length name - 1) []) pushed ∙ last_push (parts_after front) back))
 
-pub is_last_slash : (text : List ℕ) (at : ℕ) → IsSpelled text → at < length text → get_or text at 0 ≡ slash → has_slash (drop (at + 1) text) ≡ false → IsLastSlash text at
+pub is_last_slash : (text : List ℕ) (at : ℕ) → IsNameText text → at < length text → get_or text at 0 ≡ slash → has_slash (drop (at + 1) text) ≡ false → IsLastSlash text at
 is_last_slash text at spelled within is plain =
     let cut = last_of_cut text (take at text) (drop (at + 1) text) spelled (cut_at text at within is) plain in
     record { front = cut.1; spelled = cut.0; last = λ _. cut.2 }
 
 -- a text that spells a name and has no slash spells the root
-pub no_last_slash : (text : List ℕ) → IsSpelled text → has_slash text ≡ false → IsLastSlash text 0
+pub no_last_slash : (text : List ℕ) → IsNameText text → has_slash text ≡ false → IsLastSlash text 0
 no_last_slash [] spelled plain = record { front = refl; spelled = refl; last = λ some. absurd (omega arith) }
 no_last_slash (x ∷ xs) spelled plain = absurd (has x xs (spelled_begins x xs spelled) plain) where
   has : (x : ℕ) (xs : List ℕ) → x ≡ slash → has_slash (x ∷ xs) ≡ false → ⊥
@@ -192,46 +192,46 @@ has_slash_drop text at within differs none =
 
 -- ---- names that begin with other names
 
-begun_text : (text other : List ℕ) → IsSpelled text → IsSpelled other → parts_behind text ≡ take (length (parts_behind text)) (parts_behind other) → other ≡ text ++ flat_map with_slash (drop (length (parts_behind text)) (parts_behind other))
+begun_text : (text other : List ℕ) → IsNameText text → IsNameText other → parts_after text ≡ take (length (parts_after text)) (parts_after other) → other ≡ text ++ flat_map with_slash (drop (length (parts_after text)) (parts_after other))
 begun_text text other spelled spelled_other begins =
-    let n = length (parts_behind text) in
-    let more = drop n (parts_behind other) in
-    let whole : parts_behind other ≡ parts_behind text ++ more = sym (take-append-drop n (parts_behind other)) ∙ ap (λ (front : Components). front ++ more) (sym begins) in
-    sym spelled_other ∙ ap (flat_map with_slash) whole ∙ flat_map-append with_slash (parts_behind text) more ∙ ap (λ (front : List ℕ). front ++ flat_map with_slash more) spelled
+    let n = length (parts_after text) in
+    let more = drop n (parts_after other) in
+    let whole : parts_after other ≡ parts_after text ++ more = sym (take-append-drop n (parts_after other)) ∙ ap (λ (front : Components). front ++ more) (sym begins) in
+    sym spelled_other ∙ ap (flat_map with_slash) whole ∙ flat_map-append with_slash (parts_after text) more ∙ ap (λ (front : List ℕ). front ++ flat_map with_slash more) spelled
 
-begun_slashed : (text rest : List ℕ) → parts_behind text ≡ take (length (parts_behind text)) (parts_behind (text ++ slash ∷ rest))
-begun_slashed text rest = sym (ap (take (length (parts_behind text))) (parts_behind-append text rest) ∙ take-append_seam (parts_behind text) (split_at_slashes rest))
+begun_slashed : (text rest : List ℕ) → parts_after text ≡ take (length (parts_after text)) (parts_after (text ++ slash ∷ rest))
+begun_slashed text rest = sym (ap (take (length (parts_after text))) (parts_after-append text rest) ∙ take-append_seam (parts_after text) (split_at_slashes rest))
 
 -- if one name is a prefix of another, the text of the other continues after the first name's text with nothing or with a slash
-pub begun_rest : (text other rest : List ℕ) → IsSpelled text → IsSpelled other → other ≡ text ++ rest → parts_behind text ≡ take (length (parts_behind text)) (parts_behind other) → (rest ≡ []) ⊎ (get_or rest 0 0 ≡ slash)
+pub begun_rest : (text other rest : List ℕ) → IsNameText text → IsNameText other → other ≡ text ++ rest → parts_after text ≡ take (length (parts_after text)) (parts_after other) → (rest ≡ []) ⊎ (get_or rest 0 0 ≡ slash)
 begun_rest text other rest spelled spelled_other is begins =
-    by rest (drop (length (parts_behind text)) (parts_behind other)) (append_cancel_left text _ _ (sym is ∙ begun_text text other spelled spelled_other begins)) where
+    by rest (drop (length (parts_after text)) (parts_after other)) (append_cancel_left text _ _ (sym is ∙ begun_text text other spelled spelled_other begins)) where
       by : (rest : List ℕ) (more : Components) → rest ≡ flat_map with_slash more → (rest ≡ []) ⊎ (get_or rest 0 0 ≡ slash)
       by rest [] e = inl e
       by rest (part ∷ more) e = inr (ap (λ (xs : List ℕ). get_or xs 0 0) e)
 
-pub begins_all : (text other rest : List ℕ) → other ≡ text ++ rest → rest ≡ [] → parts_behind text ≡ take (length (parts_behind text)) (parts_behind other)
+pub begins_all : (text other rest : List ℕ) → other ≡ text ++ rest → rest ≡ [] → parts_after text ≡ take (length (parts_after text)) (parts_after other)
 begins_all text other rest is none =
     let same : other ≡ text = is ∙ ap (λ (xs : List ℕ). text ++ xs) none ∙ append-nil text in
-    sym (ap (λ (xs : List ℕ). take (length (parts_behind text)) (parts_behind xs)) same ∙ take-length (parts_behind text))
+    sym (ap (λ (xs : List ℕ). take (length (parts_after text)) (parts_after xs)) same ∙ take-length (parts_after text))
 
-pub begins_more : (text other rest : List ℕ) → other ≡ text ++ rest → 0 < length rest → get_or rest 0 0 ≡ slash → parts_behind text ≡ take (length (parts_behind text)) (parts_behind other)
+pub begins_more : (text other rest : List ℕ) → other ≡ text ++ rest → 0 < length rest → get_or rest 0 0 ≡ slash → parts_after text ≡ take (length (parts_after text)) (parts_after other)
 begins_more text other [] is some first = absurd (omega arith)
 begins_more text other (x ∷ rest) is some first =
-    begun_slashed text rest ∙ ap (λ (xs : List ℕ). take (length (parts_behind text)) (parts_behind xs)) (sym (is ∙ ap (λ (y : ℕ). text ++ y ∷ rest) first))
+    begun_slashed text rest ∙ ap (λ (xs : List ℕ). take (length (parts_after text)) (parts_after xs)) (sym (is ∙ ap (λ (y : ℕ). text ++ y ∷ rest) first))
 
-pub begins_none : (text other : List ℕ) → IsSpelled text → IsSpelled other → pointwise nat_eq (take (length text) other) text ≡ false → parts_behind text ≡ take (length (parts_behind text)) (parts_behind other) → ⊥
+pub begins_none : (text other : List ℕ) → IsNameText text → IsNameText other → pointwise nat_eq (take (length text) other) text ≡ false → parts_after text ≡ take (length (parts_after text)) (parts_after other) → ⊥
 begins_none text other spelled spelled_other differs begins =
     other_text (take (length text) other) text (sym differs)
-    (ap (take (length text)) (begun_text text other spelled spelled_other begins) ∙ take-append_seam text (flat_map with_slash (drop (length (parts_behind text)) (parts_behind other))))
+    (ap (take (length text)) (begun_text text other spelled spelled_other begins) ∙ take-append_seam text (flat_map with_slash (drop (length (parts_after text)) (parts_after other))))
 
 -- a text is its prefix followed by the rest
 pub prefix_rest : (text other rest : List ℕ) → pointwise nat_eq (take (length text) other) text ≡ true → rest ≡ drop (length text) other → other ≡ text ++ rest
 prefix_rest text other rest same is = sym (take-append-drop (length text) other) ∙ ap (λ (front : List ℕ). front ++ drop (length text) other) (same_text (take (length text) other) text (sym same)) ∙ ap (λ (back : List ℕ). text ++ back) (sym is)
 
 -- the number of components that a text spells is the number of its slashes
-pub length-parts_behind : (text : List ℕ) → length (parts_behind text) ≡ count_by is_slash text
-length-parts_behind text = omega (arith, length-drop 1 (split_at_slashes text), length-slice_split is_slash text)
+pub length-parts_after : (text : List ℕ) → length (parts_after text) ≡ count_by is_slash text
+length-parts_after text = omega (arith, length-drop 1 (split_at_slashes text), length-slice_split is_slash text)
 
 -- ---- parts between slashes are no longer than the text
 
@@ -255,28 +255,28 @@ no_long_part text short = list_any_none (λ part. nat_lt LONGEST_PART (length pa
 
 -- ---- iteration over components
 
-parts_slashed : (text rest : List ℕ) (first : ℕ) → text ≡ first ∷ rest → first ≡ slash → parts_behind text ≡ split_at_slashes rest
-parts_slashed text rest first is slashes = ap parts_behind (is ∙ ap (λ (x : ℕ). x ∷ rest) slashes)
+parts_slashed : (text rest : List ℕ) (first : ℕ) → text ≡ first ∷ rest → first ≡ slash → parts_after text ≡ split_at_slashes rest
+parts_slashed text rest first is slashes = ap parts_after (is ∙ ap (λ (x : ℕ). x ∷ rest) slashes)
 
 -- the first component is the text up to the second slash
-pub part_taken : (text behind part rest : List ℕ) (first n : ℕ) → text ≡ first ∷ behind → IsSpelled text → n ≡ position_or_len is_slash behind → part ≡ take n behind → rest ≡ drop n behind → IsSpelled rest × (parts_behind text ≡ part ∷ parts_behind rest)
-part_taken text behind part rest first n is spelled place taken left = (
-  subst IsSpelled (sym (left ∙ ap (λ (m : ℕ). drop m behind) place)) (spelled_rest behind),
-  parts_slashed text behind first is (spelled_begins first behind (subst IsSpelled is spelled)) ∙ parts_first behind
-      ∙ ap (λ (m : ℕ). take m behind ∷ parts_behind (drop m behind)) (sym place)
-      ∙ ap (λ (p : List ℕ). p ∷ parts_behind (drop n behind)) (sym taken) ∙ ap (λ (r : List ℕ). part ∷ parts_behind r) (sym left),
+pub part_taken : (text following part rest : List ℕ) (first n : ℕ) → text ≡ first ∷ following → IsNameText text → n ≡ position_or_len is_slash following → part ≡ take n following → rest ≡ drop n following → IsNameText rest × (parts_after text ≡ part ∷ parts_after rest)
+part_taken text following part rest first n is spelled place taken left = (
+  subst IsNameText (sym (left ∙ ap (λ (m : ℕ). drop m following) place)) (spelled_rest following),
+  parts_slashed text following first is (spelled_begins first following (subst IsNameText is spelled)) ∙ parts_first following
+      ∙ ap (λ (m : ℕ). take m following ∷ parts_after (drop m following)) (sym place)
+      ∙ ap (λ (p : List ℕ). p ∷ parts_after (drop n following)) (sym taken) ∙ ap (λ (r : List ℕ). part ∷ parts_after r) (sym left),
 )
 
 -- the text after the slash with which a text begins
-pub behind_slash : (text rest : List ℕ) (first : ℕ) → text ≡ first ∷ rest → IsSpelled text → split_at_slashes rest ≡ parts_behind text
-behind_slash text rest first is spelled = sym (parts_slashed text rest first is (spelled_begins first rest (subst IsSpelled is spelled)))
+pub after_slash : (text rest : List ℕ) (first : ℕ) → text ≡ first ∷ rest → IsNameText text → split_at_slashes rest ≡ parts_after text
+after_slash text rest first is spelled = sym (parts_slashed text rest first is (spelled_begins first rest (subst IsNameText is spelled)))
 
 -- the first part is the text before the first slash
-pub first_part_taken : (text part slashed : List ℕ) (n : ℕ) (left : Components) → n ≡ position_or_len is_slash text → part ≡ take n text → slashed ≡ drop n text → (IsSpelled slashed → left ≡ parts_behind slashed) → split_at_slashes text ≡ part ∷ left
-first_part_taken text part slashed n left place taken is behind =
+pub first_part_taken : (text part slashed : List ℕ) (n : ℕ) (left : Components) → n ≡ position_or_len is_slash text → part ≡ take n text → slashed ≡ drop n text → (IsNameText slashed → left ≡ parts_after slashed) → split_at_slashes text ≡ part ∷ left
+first_part_taken text part slashed n left place taken is following =
     let cut : slashed ≡ drop (position_or_len is_slash text) text = is ∙ ap (λ (m : ℕ). drop m text) place in
     parts_first text
-    ∙ ap (λ (m : ℕ). take m text ∷ parts_behind (drop m text)) (sym place)
-    ∙ ap (λ (p : List ℕ). p ∷ parts_behind (drop n text)) (sym taken)
-    ∙ ap (λ (r : List ℕ). part ∷ parts_behind r) (sym is)
-    ∙ ap (λ (l : Components). part ∷ l) (sym (behind (subst IsSpelled (sym cut) (spelled_rest text))))
+    ∙ ap (λ (m : ℕ). take m text ∷ parts_after (drop m text)) (sym place)
+    ∙ ap (λ (p : List ℕ). p ∷ parts_after (drop n text)) (sym taken)
+    ∙ ap (λ (r : List ℕ). part ∷ parts_after r) (sym is)
+    ∙ ap (λ (l : Components). part ∷ l) (sym (following (subst IsNameText (sym cut) (spelled_rest text))))

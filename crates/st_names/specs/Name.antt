@@ -26,8 +26,8 @@ parts_left None = []
 parts_left (Some text) = split_at_slashes text
 
 -- the parts after the slashes
-abbrev pub parts_behind : List ℕ → Components
-parts_behind text = drop 1 (split_at_slashes text)
+abbrev pub parts_after : List ℕ → Components
+parts_after text = drop 1 (split_at_slashes text)
 
 -- whether a text has a slash; no component of a name has one
 abbrev pub has_slash : List ℕ → Bool
@@ -54,8 +54,8 @@ abbrev pub with_slash : List ℕ → List ℕ
 with_slash part = slash ∷ part
 
 -- the text spells a name as each of its components after a slash; for the root it is empty
-abbrev pub IsSpelled : List ℕ → Type 0
-IsSpelled text = flat_map with_slash (parts_behind text) ≡ text
+abbrev pub IsNameText : List ℕ → Type 0
+IsNameText text = flat_map with_slash (parts_after text) ≡ text
 
 -- how an absolute name is printed: `/` for the root, otherwise each component after a slash
 abbrev pub printed_name : Components → List ℕ
@@ -72,9 +72,9 @@ last_part name = slice_index_or name (length name - 1) []
 
 -- the last slash of a name's text separates the text of its parent from the last component
 pub record IsLastSlash (text : List ℕ) (at : ℕ) : Type 0 where
-  pub front : parts_behind (take at text) ≡ parent (parts_behind text)
-  pub spelled : IsSpelled (take at text)
-  pub last : 0 < length (parts_behind text) → drop (at + 1) text ≡ last_part (parts_behind text)
+  pub front : parts_after (take at text) ≡ parent (parts_after text)
+  pub spelled : IsNameText (take at text)
+  pub last : 0 < length (parts_after text) → drop (at + 1) text ≡ last_part (parts_after text)
 
 -- whether a name is the root's
 abbrev pub is_root : Components → Bool

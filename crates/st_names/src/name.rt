@@ -1,6 +1,6 @@
 ghost use Rattle.std.specs.Prelude.{◌≡◌, ◌↔◌, ◌-◌, ◌^◌, ◌<◌, ◌≤◌, false, min, [], ◌∷◌, ◌++◌, length, take, count_by, IsTrue, IfOk, OnOk, OnErr};
 ghost use Rattle.std.specs.List.{position_or_len};
-ghost use Rattle.st_names.specs.Name.{components_of, has_slash, is_slash, last_part, parent, split_at_slashes, printed_name, IsLastSlash, IsSpelled};
+ghost use Rattle.st_names.specs.Name.{components_of, has_slash, is_slash, last_part, parent, split_at_slashes, printed_name, IsLastSlash, IsNameText};
 
 use crate::{is_component, split_at_slashes};
 use memchr::memchr;
@@ -21,13 +21,13 @@ pub struct AbsName {
 
 impl Model for AbsName {
     ghost use Rattle.std.specs.Prelude.{List, ℕ};
-    ghost use Rattle.st_names.specs.Name.{parts_behind, IsSpelled};
+    ghost use Rattle.st_names.specs.Name.{parts_after, IsNameText};
 
     ghost Value = { List (List ℕ) };
 
-    ghost view = { λ n. parts_behind n.text.items };
+    ghost view = { λ n. parts_after n.text.items };
 
-    ghost invariant = { λ n. IsSpelled n.text.items };
+    ghost invariant = { λ n. IsNameText n.text.items };
 }
 
 /// An iterator over the components of a name, with the components that remain.
@@ -39,13 +39,13 @@ pub struct NameParts<'a> {
 
 impl<'a> Model for NameParts<'a> {
     ghost use Rattle.std.specs.Prelude.{List, ℕ};
-    ghost use Rattle.st_names.specs.Name.{parts_behind, IsSpelled};
+    ghost use Rattle.st_names.specs.Name.{parts_after, IsNameText};
 
     ghost Value = { List (List ℕ) };
 
-    ghost view = { λ p. parts_behind p.text.now };
+    ghost view = { λ p. parts_after p.text.now };
 
-    ghost invariant = { λ p. IsSpelled p.text.now };
+    ghost invariant = { λ p. IsNameText p.text.now };
 }
 
 impl<'a> Iterator for NameParts<'a> {
@@ -100,7 +100,7 @@ pub fn first_slash(text: &[u8]) -> usize
 
 // The offset of the last slash of a name's text, or 0 for the root.
 fn last_slash(text: &[u8]) -> usize
-    requires { IsSpelled text.now }
+    requires { IsNameText text.now }
     ensures last { IsLastSlash text.now result }
     ensures within { result ≤ length text.now }
 {

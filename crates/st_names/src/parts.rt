@@ -1,6 +1,6 @@
 ghost use Rattle.std.specs.Prelude.{◌≡◌, ◌↔◌, true, ◌<◌, ◌≤◌, length, IfOk};
 ghost use Rattle.std.specs.Option.{option_map};
-ghost use Rattle.st_names.specs.Name.{AreParts, is_component, components_of, has_long_part, parts_behind, parts_left, split_at_slashes, IsSpelled};
+ghost use Rattle.st_names.specs.Name.{AreParts, is_component, components_of, has_long_part, parts_after, parts_left, split_at_slashes, IsNameText};
 ghost use Rattle.st_names.specs.declared.limits.TheConstants.{LONGEST_NAME};
 
 use crate::first_slash;
@@ -34,8 +34,8 @@ impl From<AllocError> for NameFault {
 }
 
 // The text after the slash with which it begins, or none if the text is empty.
-fn behind_slash(text: &[u8]) -> Option<&[u8]>
-    ensures { IsSpelled text.now → parts_left (option_map (λ rest. rest.now) result) ≡ parts_behind text.now }
+fn after_slash(text: &[u8]) -> Option<&[u8]>
+    ensures { IsNameText text.now → parts_left (option_map (λ rest. rest.now) result) ≡ parts_after text.now }
 {
     let (_, rest) = text.split_first()?;
     Some(rest)
@@ -70,7 +70,7 @@ impl<'a> Iterator for SlashParts<'a> {
     fn next(&mut self) -> Option<&'a [u8]> {
         let text = self.rest?;
         let (part, slashed) = text.split_at(first_slash(text));
-        self.rest = behind_slash(slashed);
+        self.rest = after_slash(slashed);
         Some(part)
     }
 }

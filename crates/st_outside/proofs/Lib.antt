@@ -1,3 +1,3 @@
-pub mod HeldLemmas
+pub mod ContentsLemmas
 pub mod SinkLemmas
 pub mod Walks

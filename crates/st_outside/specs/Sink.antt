@@ -6,5 +6,5 @@ abbrev pub Appends : Option (List ℕ) → Option (List ℕ) → List ℕ → Ty
 Appends old new piece = new ≡ option_map (λ bytes. bytes ++ piece) old
 
 -- a proper prefix of the text was appended to the written bytes, if those are known
-abbrev pub AppendsFront : Option (List ℕ) → Option (List ℕ) → List ℕ → Type 0
-AppendsFront old new text = (n : ℕ) × (n < length text) × Appends old new (take n text)
+abbrev pub AppendsPrefix : Option (List ℕ) → Option (List ℕ) → List ℕ → Type 0
+AppendsPrefix old new text = (n : ℕ) × (n < length text) × Appends old new (take n text)

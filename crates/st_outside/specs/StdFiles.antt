@@ -8,5 +8,5 @@ pub record HostFiles : Type 0 where
   pub faults : ℕ
 
 -- the content of no name is known
-abbrev pub untold : List ℕ → FileView
-untold name = Unknown
+abbrev pub unknown_contents : List ℕ → FileView
+unknown_contents name = Unknown

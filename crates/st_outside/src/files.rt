@@ -29,7 +29,7 @@ pub enum FetchFault {
 /// Files by name. The model has the content of each name as far as it is known, the names that were fetched in order, and a count of
 /// faults that never decreases.
 pub trait Files {
-    ghost held: { Self → List ℕ → FileView };
+    ghost contents: { Self → List ℕ → FileView };
 
     ghost asked: { Self → List (List ℕ) };
 
@@ -37,13 +37,13 @@ pub trait Files {
 
     /// Returns the whole content of the file with this name. The name is recorded as fetched even if the fetch fails.
     fn fetch(&mut self, alloc: Global, name: &Text) -> Result<Text, FetchFault>
-        ensures held { held self.new ≡ held self.old }
+        ensures contents { contents self.new ≡ contents self.old }
         ensures asked { asked self.new ≡ asked self.old ++ name.now ∷ [] }
-        ensures content { IfOk result (λ text. CanHold (held self.old name.now) text) }
+        ensures content { IfOk result (λ text. CanHold (contents self.old name.now) text) }
         ensures within { IfOk result (λ text. length text ≤ FILE_LIMIT) }
-        ensures missing { result ≡ Err FetchFault.Missing → CanLack (held self.old name.now) }
-        ensures too_long { result ≡ Err FetchFault.TooLong → CanExceed (held self.old name.now) }
-        ensures no_memory { result ≡ Err FetchFault.NoMemory → CanFit (held self.old name.now) }
+        ensures missing { result ≡ Err FetchFault.Missing → CanLack (contents self.old name.now) }
+        ensures too_long { result ≡ Err FetchFault.TooLong → CanExceed (contents self.old name.now) }
+        ensures no_memory { result ≡ Err FetchFault.NoMemory → CanFit (contents self.old name.now) }
         ensures failed { result ≡ Err FetchFault.Failed → HasRisen (faults self.old) (faults self.new) }
         ensures quiet { result ≢ Err FetchFault.Failed → faults self.new ≡ faults self.old };
 }

@@ -91,14 +91,14 @@ fn content_of<'a>(files: &'a [HeldFile], name: &Text) -> Option<&'a Text>
 }
 
 impl Files for MemoryFiles {
-    ghost held = { λ m. view_of_name m.files };
+    ghost contents = { λ m. view_of_name m.files };
 
     ghost asked = { λ m. m.asked };
 
     ghost faults = { λ m. m.faults };
 
     fn fetch(&mut self, alloc: Global, name: &Text) -> Result<Text, FetchFault>
-        ensures held { view_of_name self.new.files ≡ view_of_name self.old.files }
+        ensures contents { view_of_name self.new.files ≡ view_of_name self.old.files }
         ensures asked { self.new.asked ≡ self.old.asked ++ name.now ∷ [] }
         ensures content { IfOk result (λ text. CanHold (view_of_name self.old.files name.now) text) }
         ensures within { IfOk result (λ text. length text ≤ FILE_LIMIT) }

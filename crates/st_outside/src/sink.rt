@@ -1,6 +1,6 @@
 ghost use Rattle.std.specs.Prelude.{◌≡◌, ℕ, ◌<◌, ◌≤◌, List, length, take, Option, IfOk, OnOk, OnErr};
 ghost use Rattle.st_outside.specs.Count.{HasRisen};
-ghost use Rattle.st_outside.specs.Sink.{Appends, AppendsFront};
+ghost use Rattle.st_outside.specs.Sink.{Appends, AppendsPrefix};
 
 use thiserror::Error;
 
@@ -31,7 +31,7 @@ pub fn write_all<S: Sink>(out: &mut S, text: &[u8]) -> Result<(), Failed>
     ensures ok { OnOk result (Appends (S.written out.old) (S.written out.new) text.now) }
     ensures quiet { OnOk result (S.faults out.new ≡ S.faults out.old) }
     ensures failed { OnErr result (HasRisen (S.faults out.old) (S.faults out.new)) }
-    ensures front { OnErr result (AppendsFront (S.written out.old) (S.written out.new) text.now) }
+    ensures front { OnErr result (AppendsPrefix (S.written out.old) (S.written out.new) text.now) }
 {
     let mut done = 0;
     while done < text.len() {

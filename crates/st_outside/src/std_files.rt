@@ -2,7 +2,7 @@ ghost use Rattle.std.specs.Prelude.{◌≡◌, ◌≢◌, ℕ, ◌<◌, ◌≤�
 ghost use Rattle.std.specs.IoError.{error_kind};
 ghost use Rattle.st_outside.specs.Count.{HasRisen};
 ghost use Rattle.st_outside.specs.Files.{CanHold, CanLack, CanExceed, CanFit};
-ghost use Rattle.st_outside.specs.StdFiles.{untold};
+ghost use Rattle.st_outside.specs.StdFiles.{unknown_contents};
 
 use crate::count::one_more;
 use crate::files::{FILE_LIMIT, FetchFault, Files};
@@ -50,20 +50,20 @@ impl<'a, R: rt::Files> StdFiles<'a, R> {
 }
 
 impl<'a, R: rt::Files> Files for StdFiles<'a, R> {
-    ghost held = { λ _. untold };
+    ghost contents = { λ _. unknown_contents };
 
     ghost asked = { λ f. f.asked };
 
     ghost faults = { λ f. f.faults };
 
     fn fetch(&mut self, alloc: Global, name: &Text) -> Result<Text, FetchFault>
-        ensures held { untold ≡ untold }
+        ensures contents { unknown_contents ≡ unknown_contents }
         ensures asked { self.new.asked ≡ self.old.asked ++ name.now ∷ [] }
-        ensures content { IfOk result (λ text. CanHold (untold name.now) text) }
+        ensures content { IfOk result (λ text. CanHold (unknown_contents name.now) text) }
         ensures within { IfOk result (λ text. length text ≤ FILE_LIMIT) }
-        ensures missing { result ≡ Err FetchFault.Missing → CanLack (untold name.now) }
-        ensures too_long { result ≡ Err FetchFault.TooLong → CanExceed (untold name.now) }
-        ensures no_memory { result ≡ Err FetchFault.NoMemory → CanFit (untold name.now) }
+        ensures missing { result ≡ Err FetchFault.Missing → CanLack (unknown_contents name.now) }
+        ensures too_long { result ≡ Err FetchFault.TooLong → CanExceed (unknown_contents name.now) }
+        ensures no_memory { result ≡ Err FetchFault.NoMemory → CanFit (unknown_contents name.now) }
         ensures failed { result ≡ Err FetchFault.Failed → HasRisen self.old.faults self.new.faults }
         ensures quiet { result ≢ Err FetchFault.Failed → self.new.faults ≡ self.old.faults }
 

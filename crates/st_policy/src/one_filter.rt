@@ -1,18 +1,18 @@
 ghost use Rattle.std.specs.Prelude.{◌≡◌, ◌≢◌, ◌^◌, ◌<◌, ◌∷◌, false, Ok, Err, length, IfOk, IfErr};
 ghost use Rattle.st_grammar.specs.Symbol.{seen, symbol_of};
 ghost use Rattle.st_grammar.specs.Reading.{is_binary_place};
-ghost use Rattle.st_grammar.specs.OneFilter.{behind_filter, filter_at_end, begin_filter, filter_of_tokens, filter_in};
+ghost use Rattle.st_grammar.specs.OneFilter.{after_filter, filter_at_end, begin_filter, filter_of_tokens, filter_in};
 
 use crate::reader::lexical;
 use st_filter::Filter;
 use st_grammar::{Env, PolicyFault, Symbol};
 use st_lex::{LexFault, Lexer, Token};
-use st_steps::Reader;
+use st_policy_states::Reader;
 use std::alloc::Global;
 
 // Nothing may follow a filter's line.
-fn behind_filter(filter: Filter, lexer: &mut Lexer) -> Result<Filter, PolicyFault>
-    ensures { result ≡ behind_filter lexer.old.fault filter lexer.old.tokens }
+fn after_filter(filter: Filter, lexer: &mut Lexer) -> Result<Filter, PolicyFault>
+    ensures { result ≡ after_filter lexer.old.fault filter lexer.old.tokens }
 {
     match lexer.next_token() {
         Ok(None) => Ok(filter),
@@ -82,7 +82,7 @@ fn rest_of_filter<'a>(
         let symbol = Symbol::of(text, &token);
         reader.step(alloc, env, token.at, &symbol)?;
         if symbol.is_line() {
-            return behind_filter(reader.take_filter(alloc)?, lexer);
+            return after_filter(reader.take_filter(alloc)?, lexer);
         }
     };
     filter_at_end(reader, alloc, env, text.len() as u32, broken)

@@ -10,7 +10,7 @@ use st_base::Text;
 use st_filter::{Filter, PolicySet};
 use st_grammar::{Env, PolicyFault, PolicyRefusal, Symbol};
 use st_lex::{LexFault, Lexer, unquote};
-use st_steps::Reader;
+use st_policy_states::Reader;
 use std::alloc::{AllocError, Global};
 
 fn if_absolute(name: Text) -> Option<Text>

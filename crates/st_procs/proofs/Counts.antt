@@ -15,7 +15,7 @@ use Rattle.std.specs.Option.{option_map, unwrap_or}
 use Rattle.std.specs.Ordering.{nat_cmp}
 use Rattle.st_model.specs.Processes.{StartedThread, is_thread_of, is_running_in}
 use Rattle.st_base.specs.Numbered.{item_at_number_or, with_item_at_number}
-use Rattle.st_procs.specs.Rows.{AreCounted, count_in, no_threads}
+use Rattle.st_procs.specs.Rows.{AreCounted, thread_counts, no_threads}
 use Rattle.st_procs.specs.declared.rows.ThreadCounts.{ThreadCounts}
 use Rattle.st_procs.proofs.Numbered.{at_number-push, at_number-put}
 
@@ -82,7 +82,7 @@ module _ (counts : List ThreadCounts) (es : List (ℕ × StartedThread)) (are : 
   -- ---- processes that start
 
   -- a process starts
-  started-by : (pid : ℕ) → item_at_number_or no_threads (counts ++ no_threads ∷ []) pid ≡ count_in es pid
+  started-by : (pid : ℕ) → item_at_number_or no_threads (counts ++ no_threads ∷ []) pid ≡ thread_counts es pid
   started-by pid = elim (cases_eq pid (suc (length counts))) [
     | inl e ↦ let nothing : item_at_number_or no_threads counts pid ≡ no_threads = rw e beyond in at_number-push no_threads counts no_threads pid ∙ rw (eq-eqb pid (suc (length counts)) e) (sym nothing ∙ are.counted pid)
     | inr ne ↦ at_number-push no_threads counts no_threads pid ∙ rw (ne_eqb pid (suc (length counts)) ne) (are.counted pid)
@@ -98,7 +98,7 @@ module _ (counts : List ThreadCounts) (es : List (ℕ × StartedThread)) (are : 
     fresh = record { pid = pid; ended = false }
 
     -- the counts of a thread's process after the thread starts
-    own : pair ((item_at_number_or no_threads counts pid).begun + 1) ((item_at_number_or no_threads counts pid).running + 1) ≡ count_in new pid
+    own : pair ((item_at_number_or no_threads counts pid).begun + 1) ((item_at_number_or no_threads counts pid).running + 1) ≡ thread_counts new pid
     own =
         let was = are.counted pid in
         let same = eq-eqb pid pid refl in
@@ -106,7 +106,7 @@ module _ (counts : List ThreadCounts) (es : List (ℕ × StartedThread)) (are : 
         let live = put_in es tid fresh are.ordered (is_running_in pid) none in
         rw is_new (pair-same _ _ _ _ (ap (λ (c : ThreadCounts). c.begun + 1) was ∙ sym (rw same at all)) (ap (λ (c : ThreadCounts). c.running + 1) was ∙ sym (rw same at live)))
 
-    others : (q : ℕ) → q ≢ pid → count_in es q ≡ count_in new q
+    others : (q : ℕ) → q ≢ pid → thread_counts es q ≡ thread_counts new q
     others q ne =
         let differ = ne_eqb pid q (λ e. ne (sym e)) in
         let all = put_in es tid fresh are.ordered (is_thread_of q) none in
@@ -131,7 +131,7 @@ module _ (counts : List ThreadCounts) (es : List (ℕ × StartedThread)) (are : 
     pub forked : (counts_new : List ThreadCounts) → counts_new ≡ counts ++ pair 1 1 ∷ [] → pid ≡ suc (length counts) → suc (length counts) < 2 ^ 32 - 1 → AreCounted counts_new new
     forked counts_new is_counts is room =
         let nothing : item_at_number_or no_threads counts pid ≡ no_threads = rw is beyond in
-        let first : pair 1 1 ≡ count_in new pid = rw nothing at own in
+        let first : pair 1 1 ≡ thread_counts new pid = rw nothing at own in
         rw is_counts record {
           counted = λ q. elim (cases_eq q pid) [
             | inl e ↦ at_number-push no_threads counts (pair 1 1) q ∙ rw (eq-eqb q (suc (length counts)) (e ∙ is), e) first
@@ -160,7 +160,7 @@ module _ (counts : List ThreadCounts) (es : List (ℕ × StartedThread)) (are : 
       fewer = pair (item_at_number_or no_threads counts pid).begun ((item_at_number_or no_threads counts pid).running - 1)
 
       -- the counts of its process after the thread ends
-      ended-own : fewer ≡ count_in new pid
+      ended-own : fewer ≡ thread_counts new pid
       ended-own =
           let was = are.counted pid in
           let same = eq-eqb pid pid refl in
@@ -170,7 +170,7 @@ module _ (counts : List ThreadCounts) (es : List (ℕ × StartedThread)) (are : 
           let live_now = rw same at live in
           rw is_new (pair-same _ _ _ _ (ap (λ (c : ThreadCounts). c.begun) was ∙ omega (arith, all_now)) (ap (λ (c : ThreadCounts). c.running - 1) was ∙ omega (arith, live_now)))
 
-      ended-others : (q : ℕ) → q ≢ pid → count_in es q ≡ count_in new q
+      ended-others : (q : ℕ) → q ≢ pid → thread_counts es q ≡ thread_counts new q
       ended-others q ne =
           let differ = ne_eqb pid q (λ e. ne (sym e)) in
           let all = put_over es tid over are.ordered (is_thread_of q) (record { pid = pid; ended = false }) is in

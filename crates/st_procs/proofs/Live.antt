@@ -6,9 +6,9 @@ use Rattle.std.specs.List.{count_by, list_any}
 use Rattle.std.specs.Map.{values_of}
 use Rattle.std.specs.Option.{option_map}
 use Rattle.std.specs.Prelude.{nat_lt, ◌↔◌}
-use Rattle.st_model.specs.Processes.{Processes, StartedThread, IsPid, processes_after_end_at, is_live, is_thread_of, is_running, is_pid, pid_of, has_not_ended, is_running_in, thread_at, processes_after_end, with_thread}
-use Rattle.st_procs.specs.Laws.{AreOrdered, HasEnded, HasNoThread, IsLast, LastOnesEnd, NewOnesLive, ThreadEnds}
-use Rattle.st_procs.specs.Rows.{count_in}
+use Rattle.st_model.specs.Processes.{Processes, StartedThread, IsPid, processes_after_end_at, is_process_live, is_thread_of, is_running, is_pid, pid_of, has_not_ended, is_running_in, thread_at, processes_after_end, with_thread}
+use Rattle.st_procs.specs.Laws.{AreOrdered, HasEnded, HasNoThread, IsLast, ProcessesEndWithLastThread, NewProcessesAreLive, ThreadEnds}
+use Rattle.st_procs.specs.Rows.{thread_counts}
 use Rattle.st_procs.specs.declared.rows.ThreadCounts.{ThreadCounts}
 use Rattle.st_procs.proofs.Counts.{found}
 use Rattle.st_base.proofs.Insertions.{lookup-insert_number}
@@ -39,7 +39,7 @@ there : (p : Processes) (pid : ℕ) → IsPid p pid → is_pid p pid ≡ true
 there p pid is = and_from _ _ (lt-ltb 0 pid is.0) (lt-ltb pid _ is.1)
 
 -- whether a process that exists is live
-pub live-is_pid : (p : Processes) (pid : ℕ) → IsPid p pid → is_live p pid ≡ (not (list_any (is_thread_of pid) (values_of p.threads)) || list_any (is_running_in pid) (values_of p.threads))
+pub live-is_pid : (p : Processes) (pid : ℕ) → IsPid p pid → is_process_live p pid ≡ (not (list_any (is_thread_of pid) (values_of p.threads)) || list_any (is_running_in pid) (values_of p.threads))
 live-is_pid p pid is = rw (there p pid is) refl
 
 module _ (p : Processes) (pid : ℕ) where
@@ -71,7 +71,7 @@ module _ (p : Processes) (pid : ℕ) where
       let t = of_found (thread_at p tid) pid is in
       true≢false (sym (has_running tid t.0 t.1 (and_from _ _ (eq-eqb t.0.pid pid t.2) (sym (ap has_not_ended t.1) ∙ running))) ∙ none))
 
-pub new_ones_live : NewOnesLive
+pub new_ones_live : NewProcessesAreLive
 new_ones_live p pid ordered is none = live-is_pid p pid is ∙ rw (none_is p pid ordered none) refl
 
 -- ---- processes that have ended
@@ -83,7 +83,7 @@ ended_of p pid ordered true r h_is r_is dead =
     let one = present-any (is_thread_of pid) p.threads ordered (sym h_is) in
     ((one.0, ap (option_map (λ (t : StartedThread). t.pid)) one.2 ∙ ap Some (eqb-true one.1.pid pid one.3)), ended p pid (sym r_is ∙ dead))
 
-pub ended_iff : (p : Processes) (pid : ℕ) → AreOrdered p → IsPid p pid → (b : Bool) → b ≡ is_live p pid → (b ≡ false) ↔ HasEnded p pid
+pub ended_iff : (p : Processes) (pid : ℕ) → AreOrdered p → IsPid p pid → (b : Bool) → b ≡ is_process_live p pid → (b ≡ false) ↔ HasEnded p pid
 ended_iff p pid ordered is b b_is = (
   λ dead. ended_of p pid ordered _ _ refl refl (sym (live-is_pid p pid is) ∙ sym b_is ∙ dead),
   λ has_ended. b_is ∙ live-is_pid p pid is ∙ rw (has p pid has_ended.0.0 has_ended.0.1, none_runs p pid ordered has_ended.1) refl,
@@ -124,16 +124,16 @@ module _ (p : Processes) (tid : ℕ) (t : StartedThread) (is : thread_at p tid �
   pub none_of : IsLast p tid → list_any (is_running_in t.pid) (values_of new.threads) ≡ false
   none_of last = none_runs new t.pid ordered_now (not_running last)
 
-ends : (p : Processes) (tid : ℕ) (t : StartedThread) → thread_at p tid ≡ Some t → AreOrdered p → IsLast p tid → is_live (processes_after_end p tid) t.pid ≡ false
+ends : (p : Processes) (tid : ℕ) (t : StartedThread) → thread_at p tid ≡ Some t → AreOrdered p → IsLast p tid → is_process_live (processes_after_end p tid) t.pid ≡ false
 ends p tid t is ordered last =
-    let dead : is_live (with_thread p tid (record { pid = t.pid; ended = true })) t.pid ≡ false =
+    let dead : is_process_live (with_thread p tid (record { pid = t.pid; ended = true })) t.pid ≡ false =
     and_right (is_pid (with_thread p tid (record { pid = t.pid; ended = true })) t.pid) _ (ap (λ h. not h || list_any (is_running_in t.pid) (values_of (with_thread p tid (record { pid = t.pid; ended = true })).threads)) (own_has p tid t is ordered) ∙ none_of p tid t is ordered last) in
-    ap (λ o. is_live (processes_after_end_at p tid o) t.pid) is ∙ dead
+    ap (λ o. is_process_live (processes_after_end_at p tid o) t.pid) is ∙ dead
 
-pub last_ones_end : LastOnesEnd
+pub last_ones_end : ProcessesEndWithLastThread
 last_ones_end p tid pid ordered is last =
     let t = of_found (thread_at p tid) pid is in
-    subst (λ n. is_live (processes_after_end p tid) n ≡ false) t.2 (ends p tid t.0 t.1 ordered last)
+    subst (λ n. is_process_live (processes_after_end p tid) n ≡ false) t.2 (ends p tid t.0 t.1 ordered last)
 
 -- ---- threads that are the last
 
@@ -142,29 +142,29 @@ dead-runs : (h r : Bool) → h ≡ true → (not h || r) ≡ false → r ≡ fal
 dead-runs true r is dead = dead
 dead-runs false r is dead = absurd (true≢false dead)
 
-last_dead : (p : Processes) (tid : ℕ) (t : StartedThread) → thread_at p tid ≡ Some t → AreOrdered p → IsPid p t.pid → is_live (processes_after_end p tid) t.pid ≡ false → IsLast p tid
+last_dead : (p : Processes) (tid : ℕ) (t : StartedThread) → thread_at p tid ≡ Some t → AreOrdered p → IsPid p t.pid → is_process_live (processes_after_end p tid) t.pid ≡ false → IsLast p tid
 last_dead p tid t is ordered there dead =
     let now : processes_after_end p tid ≡ with_thread p tid (record { pid = t.pid; ended = true }) = ap (processes_after_end_at p tid) is in
     let there_now : IsPid (with_thread p tid (record { pid = t.pid; ended = true })) t.pid = there in
-    last_of p tid t is ordered (dead-runs _ _ (own_has p tid t is ordered) (sym (live-is_pid _ t.pid there_now) ∙ sym (ap (λ (p : Processes). is_live p t.pid) now) ∙ dead))
+    last_of p tid t is ordered (dead-runs _ _ (own_has p tid t is ordered) (sym (live-is_pid _ t.pid there_now) ∙ sym (ap (λ (p : Processes). is_process_live p t.pid) now) ∙ dead))
 
-pub last_iff : (p : Processes) (tid pid : ℕ) → AreOrdered p → pid_of p tid ≡ Some pid → IsPid p pid → (b : Bool) → b ≡ is_live (processes_after_end p tid) pid → (not b ≡ true) ↔ IsLast p tid
+pub last_iff : (p : Processes) (tid pid : ℕ) → AreOrdered p → pid_of p tid ≡ Some pid → IsPid p pid → (b : Bool) → b ≡ is_process_live (processes_after_end p tid) pid → (not b ≡ true) ↔ IsLast p tid
 last_iff p tid pid ordered is there b b_is =
     let t = of_found (thread_at p tid) pid is in (
-      λ dead. last_dead p tid t.0 t.1 ordered (subst (IsPid p) (sym t.2) there) (ap (λ n. is_live (processes_after_end p tid) n) t.2 ∙ sym b_is ∙ not-true b dead),
+      λ dead. last_dead p tid t.0 t.1 ordered (subst (IsPid p) (sym t.2) there) (ap (λ n. is_process_live (processes_after_end p tid) n) t.2 ∙ sym b_is ∙ not-true b dead),
       λ last. ap not (b_is ∙ last_ones_end p tid pid ordered is last),
     )
 
 -- ---- by the counts of threads
 
 -- whether a process is live, by its counts
-pub live_new : (p : Processes) (pid : ℕ) (n : ThreadCounts) → IsPid p pid → n ≡ count_in p.threads pid → n.begun ≡ 0 → is_live p pid ≡ true
+pub live_new : (p : Processes) (pid : ℕ) (n : ThreadCounts) → IsPid p pid → n ≡ thread_counts p.threads pid → n.begun ≡ 0 → is_process_live p pid ≡ true
 live_new p pid n is n_is none =
     let count : count_by (is_thread_of pid) (values_of p.threads) ≡ 0 = sym (ap (λ (n : ThreadCounts). n.begun) n_is) ∙ none in
     let no : list_any (is_thread_of pid) (values_of p.threads) ≡ false = any_counted (is_thread_of pid) (values_of p.threads) ∙ le-ltb 0 (count_by (is_thread_of pid) (values_of p.threads)) (omega (arith, count)) in
     live-is_pid p pid is ∙ ap (λ h. not h || list_any (is_running_in pid) (values_of p.threads)) no
 
-pub live_begun : (p : Processes) (pid : ℕ) (n : ThreadCounts) → IsPid p pid → n ≡ count_in p.threads pid → n.begun ≢ 0 → nat_lt 0 n.running ≡ is_live p pid
+pub live_begun : (p : Processes) (pid : ℕ) (n : ThreadCounts) → IsPid p pid → n ≡ thread_counts p.threads pid → n.begun ≢ 0 → nat_lt 0 n.running ≡ is_process_live p pid
 live_begun p pid n is n_is some =
     let count : n.begun ≡ count_by (is_thread_of pid) (values_of p.threads) = ap (λ (n : ThreadCounts). n.begun) n_is in
     let yes : list_any (is_thread_of pid) (values_of p.threads) ≡ true = any_counted (is_thread_of pid) (values_of p.threads) ∙ lt-ltb 0 (count_by (is_thread_of pid) (values_of p.threads)) (omega (arith, count, some)) in

@@ -7,7 +7,7 @@ use Rattle.std.specs.Ordering.{nat_cmp}
 use Rattle.st_base.specs.declared.ids.Ids.{Ids}
 use Rattle.st_names.specs.Name.{Components}
 use Rattle.st_model.specs.Process.{Process}
-use Rattle.st_model.specs.Processes.{Processes, StartedThread, IsPid, process_at, next_pid, pid_of, is_running, is_live, thread_at, processes_after_start, processes_after_fork, process_after_exec, processes_after_exec, with_ids, with_cwd, processes_after_end}
+use Rattle.st_model.specs.Processes.{Processes, StartedThread, IsPid, process_at, next_pid, pid_of, is_running, is_process_live, thread_at, processes_after_start, processes_after_fork, process_after_exec, processes_after_exec, with_ids, with_cwd, processes_after_end}
 
 -- each thread has one entry, in the order of the numbers
 abbrev pub AreOrdered : Processes → Type 0
@@ -60,9 +60,9 @@ abbrev pub DirectoriesAreOwn : Type 0
 DirectoriesAreOwn = (p : Processes) (pid : ℕ) (cwd : Components) → IsPid p pid → ChangesRow p pid (record (process_at p pid) { cwd = cwd }) (with_cwd p pid cwd)
 
 -- a process that never had a thread hasn't ended
-abbrev pub NewOnesLive : Type 0
-NewOnesLive = (p : Processes) (pid : ℕ) → AreOrdered p → IsPid p pid → HasNoThread p pid → is_live p pid ≡ true
+abbrev pub NewProcessesAreLive : Type 0
+NewProcessesAreLive = (p : Processes) (pid : ℕ) → AreOrdered p → IsPid p pid → HasNoThread p pid → is_process_live p pid ≡ true
 
 -- a process ends with its last thread
-abbrev pub LastOnesEnd : Type 0
-LastOnesEnd = (p : Processes) (tid pid : ℕ) → AreOrdered p → pid_of p tid ≡ Some pid → IsLast p tid → is_live (processes_after_end p tid) pid ≡ false
+abbrev pub ProcessesEndWithLastThread : Type 0
+ProcessesEndWithLastThread = (p : Processes) (tid pid : ℕ) → AreOrdered p → pid_of p tid ≡ Some pid → IsLast p tid → is_process_live (processes_after_end p tid) pid ≡ false

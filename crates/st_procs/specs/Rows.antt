@@ -28,12 +28,12 @@ abbrev pub no_threads : ThreadCounts
 no_threads = record { begun = 0; running = 0 }
 
 -- how many threads of a process have started, and how many of them haven't ended
-abbrev pub count_in : List (ℕ × StartedThread) → ℕ → ThreadCounts
-count_in threads pid = record { begun = count_by (is_thread_of pid) (values_of threads); running = count_by (is_running_in pid) (values_of threads) }
+abbrev pub thread_counts : List (ℕ × StartedThread) → ℕ → ThreadCounts
+thread_counts threads pid = record { begun = count_by (is_thread_of pid) (values_of threads); running = count_by (is_running_in pid) (values_of threads) }
 
 -- each number has the counts of its threads, so a number without a process has no threads
 pub record AreCounted (counts : List ThreadCounts) (threads : List (ℕ × StartedThread)) : Type 0 where
-  pub counted : (pid : ℕ) → item_at_number_or no_threads counts pid ≡ count_in threads pid
+  pub counted : (pid : ℕ) → item_at_number_or no_threads counts pid ≡ thread_counts threads pid
   pub ordered : IsStrictlySortedBy nat_cmp (keys_of threads)
   pub tids : All (λ tid. tid < 2 ^ 32) (keys_of threads)
   pub few : length counts < 2 ^ 32 - 1

@@ -1,4 +1,4 @@
-ghost use Rattle.st_procs.specs.Laws.{BinariesAreOwn, ChildrenAreLikeParents, DirectoriesAreOwn, IdsAreOwn, LastOnesEnd, NewOnesLive, StartsAdd};
+ghost use Rattle.st_procs.specs.Laws.{BinariesAreOwn, ChildrenAreLikeParents, DirectoriesAreOwn, IdsAreOwn, ProcessesEndWithLastThread, NewProcessesAreLive, StartsAdd};
 
 /// A call changes the row of one process alone, a child starts as its parent is, and a process ends with its last thread.
 pub fn rows_stay_apart()
@@ -7,6 +7,6 @@ pub fn rows_stay_apart()
     ensures binaries { BinariesAreOwn }
     ensures ids { IdsAreOwn }
     ensures directories { DirectoriesAreOwn }
-    ensures live { NewOnesLive }
-    ensures ended { LastOnesEnd }
+    ensures live { NewProcessesAreLive }
+    ensures ended { ProcessesEndWithLastThread }
 {}

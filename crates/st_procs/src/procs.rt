@@ -1,6 +1,6 @@
 ghost use Rattle.std.specs.Prelude.{◌≡◌, suc, ◌^◌, ◌-◌, ◌<◌, ◌↔◌, Some, None, true, false, [], not, IsTrue, IfSome, IfOk, OnOk, OnErr};
 ghost use Rattle.st_model.specs.Identity.{ids_after_set, set_refused};
-ghost use Rattle.st_model.specs.Processes.{IsPid, processes_after_begin, processes_after_exec, processes_after_fork, is_live, is_running, next_pid, pid_of, process_at, processes_after_start, processes_after_end, with_cwd, with_ids};
+ghost use Rattle.st_model.specs.Processes.{IsPid, processes_after_begin, processes_after_exec, processes_after_fork, is_process_live, is_running, next_pid, pid_of, process_at, processes_after_start, processes_after_end, with_cwd, with_ids};
 ghost use Rattle.st_procs.specs.Calls.{SetsIds, set_ids_result};
 ghost use Rattle.st_procs.specs.Laws.{AreOrdered, HasEnded, IsLast, ThreadEnds, ThreadStarts};
 ghost use Rattle.st_procs.specs.Rows.{process_of};
@@ -128,7 +128,7 @@ impl Procs {
     /// Whether a process hasn't ended: it never had a thread, or has one that hasn't ended.
     pub fn alive(&self, pid: Pid) -> bool
         requires { IsPid self.now pid }
-        ensures live { result ≡ is_live self.now pid }
+        ensures live { result ≡ is_process_live self.now pid }
         ensures ended { (result ≡ false) ↔ HasEnded self.now pid }
     {
         let counts = rows::counts(&self.rows, pid);
@@ -220,7 +220,7 @@ impl Procs {
         ensures threads { ThreadEnds self.old tid self.new }
         ensures pids { next_pid self.new ≡ next_pid self.old }
         ensures last { IsTrue result ↔ IsLast self.old tid }
-        ensures live { IfSome (pid_of self.old tid) (λ pid. result ≡ not (is_live self.new pid)) }
+        ensures live { IfSome (pid_of self.old tid) (λ pid. result ≡ not (is_process_live self.new pid)) }
     {
         let pid = self.finish(tid);
         !self.alive(pid)

@@ -41,13 +41,13 @@ seq_kept n before (_ ∷ changes) e = seq_kept n before changes e
 -- ---- held calls have different numbers
 
 -- the thread of a held call is t or a later one
-abbrev IsBehind : ℕ → HeldCall → Type 0
-IsBehind t held = t ≤ held.tid
+abbrev IsAfter : ℕ → HeldCall → Type 0
+IsAfter t held = t ≤ held.tid
 
 -- held calls in the order of their threads
 abbrev Rising : List HeldCall → Type 0
 Rising [] = Unit {0}
-Rising (held ∷ more) = EachHeld (IsBehind (suc held.tid)) more × Rising more
+Rising (held ∷ more) = EachHeld (IsAfter (suc held.tid)) more × Rising more
 
 -- held calls with different numbers
 abbrev pub Apart : List HeldCall → Type 0
@@ -55,42 +55,42 @@ Apart [] = Unit {0}
 Apart (held ∷ more) = EachHeld (λ other. held.number ≢ other.number) more × Apart more
 
 module _ (st : State) where
-  behind_by : (a : ℕ) (b : Bool) → EachHeld (IsBehind a) (cond b [] (held_of st a ∷ []))
-  behind_by a true = tt
-  behind_by a false = (omega arith, tt)
+  after_by : (a : ℕ) (b : Bool) → EachHeld (IsAfter a) (cond b [] (held_of st a ∷ []))
+  after_by a true = tt
+  after_by a false = (omega arith, tt)
 
-  behind_way : (a : ℕ) (way : Way) → EachHeld (IsBehind a) (held_by_way st a way)
-  behind_way a Fast = tt
-  behind_way a (Barred n) = tt
-  behind_way a Untraced = tt
-  behind_way a (Held first) = behind_by a (st.threads a).dying
+  after_way : (a : ℕ) (way : Way) → EachHeld (IsAfter a) (held_by_way st a way)
+  after_way a Fast = tt
+  after_way a (Barred n) = tt
+  after_way a Untraced = tt
+  after_way a (Held first) = after_by a (st.threads a).dying
 
-  behind_pending : (a : ℕ) (o : Option PendingCall) → EachHeld (IsBehind a) (held_by_pending st a o)
-  behind_pending a None = tt
-  behind_pending a (Some entered) = behind_way a entered.way
+  after_pending : (a : ℕ) (o : Option PendingCall) → EachHeld (IsAfter a) (held_by_pending st a o)
+  after_pending a None = tt
+  after_pending a (Some entered) = after_way a entered.way
 
-  behind : (a count : ℕ) → EachHeld (IsBehind a) (held_from st a count)
-  behind a zero = tt
-  behind a (suc count) = each_append (IsBehind a) (held_by_pending st a (st.threads a).pending) (held_from st (suc a) count)
-      (behind_pending a (st.threads a).pending) (each_held (IsBehind (suc a)) (IsBehind a) (λ held low. omega (arith, low)) (held_from st (suc a) count) (behind (suc a) count))
+  following : (a count : ℕ) → EachHeld (IsAfter a) (held_from st a count)
+  following a zero = tt
+  following a (suc count) = each_append (IsAfter a) (held_by_pending st a (st.threads a).pending) (held_from st (suc a) count)
+      (after_pending a (st.threads a).pending) (each_held (IsAfter (suc a)) (IsAfter a) (λ held low. omega (arith, low)) (held_from st (suc a) count) (following (suc a) count))
 
-  rising_by : (a : ℕ) (later : List HeldCall) → EachHeld (IsBehind (suc a)) later → Rising later → (b : Bool) → Rising (cond b [] (held_of st a ∷ []) ++ later)
+  rising_by : (a : ℕ) (later : List HeldCall) → EachHeld (IsAfter (suc a)) later → Rising later → (b : Bool) → Rising (cond b [] (held_of st a ∷ []) ++ later)
   rising_by a later x rising true = rising
   rising_by a later x rising false = (x, rising)
 
-  rising_way : (a : ℕ) (later : List HeldCall) → EachHeld (IsBehind (suc a)) later → Rising later → (way : Way) → Rising (held_by_way st a way ++ later)
+  rising_way : (a : ℕ) (later : List HeldCall) → EachHeld (IsAfter (suc a)) later → Rising later → (way : Way) → Rising (held_by_way st a way ++ later)
   rising_way a later x rising Fast = rising
   rising_way a later x rising (Barred n) = rising
   rising_way a later x rising Untraced = rising
   rising_way a later x rising (Held first) = rising_by a later x rising (st.threads a).dying
 
-  rising_pending : (a : ℕ) (later : List HeldCall) → EachHeld (IsBehind (suc a)) later → Rising later → (o : Option PendingCall) → Rising (held_by_pending st a o ++ later)
+  rising_pending : (a : ℕ) (later : List HeldCall) → EachHeld (IsAfter (suc a)) later → Rising later → (o : Option PendingCall) → Rising (held_by_pending st a o ++ later)
   rising_pending a later x rising None = rising
   rising_pending a later x rising (Some entered) = rising_way a later x rising entered.way
 
   rising : (a count : ℕ) → Rising (held_from st a count)
   rising a zero = tt
-  rising a (suc count) = rising_pending a (held_from st (suc a) count) (behind (suc a) count) (rising (suc a) count) (st.threads a).pending
+  rising a (suc count) = rising_pending a (held_from st (suc a) count) (following (suc a) count) (rising (suc a) count) (st.threads a).pending
 
 abbrev number_of : HeldCall → ℕ
 number_of held = held.number
@@ -101,7 +101,7 @@ module _ (i : Input) (st : State) (inv : Invariant i st) where
       numbers_differ st held.tid other.tid x.holder.entered.call y.holder.entered.call x.holder.entered.regs y.holder.entered.regs
       (open_of i st inv held.tid x.holder) (open_of i st inv other.tid y.holder) apart (sym (ap number_of x.is) ∙ same ∙ ap number_of y.is)
 
-  others : (held : HeldCall) (more : List HeldCall) → IsItem st held → EachHeld (IsItem st) more → EachHeld (IsBehind (suc held.tid)) more → EachHeld (λ other. held.number ≢ other.number) more
+  others : (held : HeldCall) (more : List HeldCall) → IsItem st held → EachHeld (IsItem st) more → EachHeld (IsAfter (suc held.tid)) more → EachHeld (λ other. held.number ≢ other.number) more
   others held [] x all later = tt
   others held (other ∷ more) x all later =
       (differ held other x all.0 (λ same. let low = later.0 in omega (arith, low, same)), others held more x all.1 later.1)

@@ -31,7 +31,7 @@ use Rattle.st_law.proofs.Renewals.{EachHeld, each_held, IsLow, lower, one_more, 
 use Rattle.st_law.proofs.Shapes.{AreQuiet, Each, Shape, quiet, forked, execed, renewed}
 use Rattle.st_law.proofs.UsedKept.{not_closed_above}
 use Rattle.st_law.proofs.UsedShapes.{used_shape}
-use Rattle.st_reached.specs.Reached.{IsHolding, Owned, is_head_of, is_number_of, life_after, life_after_change, life_after_changes, life_without}
+use Rattle.st_reached.specs.Reached.{IsHolding, LiveNumbersAreOwn, is_head_of, is_number_of, life_after, life_after_change, life_after_changes, life_without}
 use Rattle.st_reached.proofs.Owning.{lives_by, not_so, used_number}
 
 pub eqb-sym : (m n : ℕ) → (m == n) ≡ (n == m)
@@ -152,7 +152,7 @@ exec_calm : (binary : List ℕ) (space : ℕ) (inherit : Bool) → Each IsNoRene
 exec_calm binary space true = (tt, tt)
 exec_calm binary space false = (tt, (tt, tt))
 
-module _ (i : Input) (st : State) (inv : Invariant i st) (owned : Owned st) (other : ℕ) where
+module _ (i : Input) (st : State) (inv : Invariant i st) (owned : LiveNumbersAreOwn st) (other : ℕ) where
   abbrev heads : ℕ → Option Head
   heads q = (st.messages q).head
 
@@ -249,11 +249,11 @@ module _ (i : Input) (st : State) (inv : Invariant i st) (owned : Owned st) (oth
     used_life = used_by (used_shape i st u call regs args ids result changes seq y)
 
   -- which numbers are live after a lawful entry
-  pub life_behind : (e : Entry) → IsLawful i st e → is_live (state_after i st e) other ≡ life_after st e other
-  life_behind (Entered u call regs Fast) y = refl
-  life_behind (Entered u call regs Untraced) y = refl
-  life_behind (Entered u call regs (Barred n)) y = refl
-  life_behind (Entered u call regs (Held p)) y = entered_life u p call regs y
-  life_behind (Used u seq call regs args ids result changes) y = used_life u seq call regs args ids result changes y
-  life_behind (Denied u seq errno cause) y = closed_life (is_number other seq) closed (heads other) dying
-  life_behind _ y = refl
+  pub life_later : (e : Entry) → IsLawful i st e → is_live (state_after i st e) other ≡ life_after st e other
+  life_later (Entered u call regs Fast) y = refl
+  life_later (Entered u call regs Untraced) y = refl
+  life_later (Entered u call regs (Barred n)) y = refl
+  life_later (Entered u call regs (Held p)) y = entered_life u p call regs y
+  life_later (Used u seq call regs args ids result changes) y = used_life u seq call regs args ids result changes y
+  life_later (Denied u seq errno cause) y = closed_life (is_number other seq) closed (heads other) dying
+  life_later _ y = refl

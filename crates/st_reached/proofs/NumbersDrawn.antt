@@ -27,7 +27,7 @@ use Rattle.st_law.specs.Inputs.{IsStartable, IsThread}
 use Rattle.st_law.specs.Lawful.{IsEntered, IsLawful, IsLawfulBack, IsPending, IsUsed}
 use Rattle.st_law.specs.Machine.{first_state, history, state_after, state_of_run}
 use Rattle.st_law.specs.Messages.{posted_after, posted_after_change}
-use Rattle.st_law.specs.Schedules.{is_set_id, sets_ids}
+use Rattle.st_law.specs.Schedules.{is_set_id_instruction, sets_ids}
 use Rattle.st_law.specs.State.{State, ThreadState, thread_count}
 use Rattle.st_law.specs.Threads.{History, PendingCall, body_of, body_of_row, child_of_next}
 use Rattle.st_law.proofs.Invariant.{Invariant}
@@ -45,7 +45,7 @@ abbrev renewed_most : Bool → ℕ
 renewed_most sets = 64 * cond sets 1 0
 
 abbrev numbers_of_body : List Instr → ℕ
-numbers_of_body body = length body + 64 * count_by is_set_id body
+numbers_of_body body = length body + 64 * count_by is_set_id_instruction body
 
 -- the number of a pending call is already drawn
 abbrev numbers_of_pending : Option PendingCall → ℕ
@@ -59,25 +59,25 @@ numbers_of thread = numbers_of_body thread.left + numbers_of_pending thread.pend
 abbrev numbers_left : Input → State → ℕ
 numbers_left i st = total (λ t. numbers_of (st.threads t)) 1 (thread_count i)
 
-one_taken : (x : Instr) (later : List Instr) → numbers_of_body (x ∷ later) ≡ 1 + renewed_most (is_set_id x) + numbers_of_body later
-one_taken x later = let more = sum_by-cons (λ y. cond (is_set_id y) 1 0) x later in omega (arith, more)
+one_taken : (x : Instr) (later : List Instr) → numbers_of_body (x ∷ later) ≡ 1 + renewed_most (is_set_id_instruction x) + numbers_of_body later
+one_taken x later = let more = sum_by-cons (λ y. cond (is_set_id_instruction y) 1 0) x later in omega (arith, more)
 
 -- an instruction sets ids if its call does
-sets_by : (x : Instr) (call : SysCall) (regs : List ℕ) → IsCallOf x call regs → sets_ids call ≡ is_set_id x
+sets_by : (x : Instr) (call : SysCall) (regs : List ℕ) → IsCallOf x call regs → sets_ids call ≡ is_set_id_instruction x
 sets_by (Store place word) call regs makes = absurd makes
 sets_by (Call own own_regs) call regs makes = ap sets_ids makes.0
 sets_by (Fork child) call regs makes = ap sets_ids makes.0
 
 -- ---- at first
 
-first_left : (rows : List ThreadRow) (f : ℕ → ℕ) (a : ℕ) → ((k : ℕ) → f (a + k) ≡ numbers_of_body (body_of_row (slice_get rows k))) → total f a (length rows) ≡ sum_by (λ row. length row.body) rows + 64 * sum_by (λ row. count_by is_set_id row.body) rows
+first_left : (rows : List ThreadRow) (f : ℕ → ℕ) (a : ℕ) → ((k : ℕ) → f (a + k) ≡ numbers_of_body (body_of_row (slice_get rows k))) → total f a (length rows) ≡ sum_by (λ row. length row.body) rows + 64 * sum_by (λ row. count_by is_set_id_instruction row.body) rows
 first_left [] f a is = omega arith
 first_left (row ∷ rows) f a is =
     let here : f (a + 0) ≡ numbers_of_body row.body = is 0 in
     let same : f (a + 0) ≡ f a = ap f (let e : a + 0 ≡ a = omega arith in e) in
     let rest = first_left rows f (suc a) (λ k. ap f (let e : suc a + k ≡ a + suc k = omega arith in e) ∙ is (suc k)) in
     let lengths = sum_by-cons (λ each. length each.body) row rows in
-    let counts = sum_by-cons (λ each. count_by is_set_id each.body) row rows in
+    let counts = sum_by-cons (λ each. count_by is_set_id_instruction each.body) row rows in
     omega (arith, here, same, rest, lengths, counts)
 
 left_at_first : (i : Input) → numbers_left i (first_state i) ≡ most_numbers i
@@ -128,7 +128,7 @@ module _ (i : Input) (st : State) (inv : Invariant i st) (few : thread_count i �
     own_less : numbers_of_body (drop 1 (st.threads u).left) + renewed_most (sets_ids call) + 1 ≤ numbers_of_body (st.threads u).left
     own_less =
         let more = one_taken y.instruction y.later in
-        let same : renewed_most (sets_ids call) ≡ renewed_most (is_set_id y.instruction) = ap renewed_most (sets_by y.instruction call regs y.makes) in
+        let same : renewed_most (sets_ids call) ≡ renewed_most (is_set_id_instruction y.instruction) = ap renewed_most (sets_by y.instruction call regs y.makes) in
         subst (λ left. numbers_of_body (drop 1 left) + renewed_most (sets_ids call) + 1 ≤ numbers_of_body left) (sym y.next) (omega (arith, more, same))
 
     entered_less : (t : ℕ) (b : Bool) → (u == t) ≡ b → numbers_of_body (cond b (drop 1 (st.threads t).left) (st.threads t).left) + numbers_of_pending (cond b (Some (record { call = call; regs = regs; way = way; child = child_of_next (st.threads t).left })) (st.threads t).pending) + cond b 1 0 ≤ numbers_of (st.threads t)
@@ -159,21 +159,21 @@ module _ (i : Input) (st : State) (inv : Invariant i st) (few : thread_count i �
         (used_most (used_posts i st few u call regs args ids result changes seq y))
         (λ t. let less = used_less way pending t (u == t) refl in omega (arith, less))
 
-  draws_behind : (e : Entry) → IsLawful i st e → Draws e
-  draws_behind (Stored u place word) y = draws (Stored u place word) u 0 y.running.started (omega arith) (λ t. let less = stored_less (u == t) (st.threads t).left in omega (arith, less))
-  draws_behind (Entered u call regs way) y = entered_draws u call regs way y
-  draws_behind (Used u None call regs args ids result changes) y = used_by u None call regs args ids result changes y.way y.running.started y.entered y
-  draws_behind (Used u (Some q) call regs args ids result changes) y = used_by u (Some q) call regs args ids result changes (Held y.held.first) y.running.started y.held.entered y
-  draws_behind (Denied u None errno cause) y = denied_draws u None errno cause y.running.started
-  draws_behind (Denied u (Some q) errno cause) y = denied_draws u (Some q) errno cause y.running.started
-  draws_behind (Claimed w q) y = omega arith
-  draws_behind (Copied q part place word) y = omega arith
-  draws_behind (Looked q part name seen) y = omega arith
-  draws_behind (Faulted q errno) y = omega arith
-  draws_behind (Answered w s v applied) y = omega arith
-  draws_behind (Ended u) y = omega arith
-  draws_behind (Learned q n) y = omega arith
-  draws_behind (Replied q reply n) y = omega arith
+  draws_after : (e : Entry) → IsLawful i st e → Draws e
+  draws_after (Stored u place word) y = draws (Stored u place word) u 0 y.running.started (omega arith) (λ t. let less = stored_less (u == t) (st.threads t).left in omega (arith, less))
+  draws_after (Entered u call regs way) y = entered_draws u call regs way y
+  draws_after (Used u None call regs args ids result changes) y = used_by u None call regs args ids result changes y.way y.running.started y.entered y
+  draws_after (Used u (Some q) call regs args ids result changes) y = used_by u (Some q) call regs args ids result changes (Held y.held.first) y.running.started y.held.entered y
+  draws_after (Denied u None errno cause) y = denied_draws u None errno cause y.running.started
+  draws_after (Denied u (Some q) errno cause) y = denied_draws u (Some q) errno cause y.running.started
+  draws_after (Claimed w q) y = omega arith
+  draws_after (Copied q part place word) y = omega arith
+  draws_after (Looked q part name seen) y = omega arith
+  draws_after (Faulted q errno) y = omega arith
+  draws_after (Answered w s v applied) y = omega arith
+  draws_after (Ended u) y = omega arith
+  draws_after (Learned q n) y = omega arith
+  draws_after (Replied q reply n) y = omega arith
 
 -- ---- every run
 
@@ -182,8 +182,8 @@ module _ (i : Input) (startable : IsStartable i) where
   drawn_back [] lawful = let first = left_at_first i in omega (arith, first)
   drawn_back (e ∷ h) lawful =
       let before = drawn_back h lawful.1 in
-      let behind = draws_behind i (looking_back i h) (whole_of i startable h lawful.1).calls startable.few_threads e lawful.0 in
-      omega (arith, before, behind)
+      let following = draws_after i (looking_back i h) (whole_of i startable h lawful.1).calls startable.few_threads e lawful.0 in
+      omega (arith, before, following)
 
   -- no run draws more numbers than its script allows
   pub few_drawn : (choices : List Choice) → (state_of_run i choices).posted ≤ most_numbers i

@@ -148,15 +148,15 @@ module _ (i : Input) (ungranted : RepliesUngranted i.replies) where
       let is : is_for rule r.filter.name ≡ true = (and_parts (bytes_eq r.binary policy) (is_for rule r.filter.name) (and_parts (bytes_eq r.binary policy && is_for rule r.filter.name) left for).0).1 in
       (λ sets. all_at (λ each. IsUngrantedForSetting each.filter) i.replies k r ungranted e (for_setting rule r.filter.name (sym (ap sets_ids_by (same s refl)) ∙ sets) is), tt)
 
-  own_behind : (st : State) (e : Entry) → IsLawful i st e → AreOwnFor st.session → AreOwnFor (state_after i st e).session
-  own_behind st (Learned q n) y own = own_append st.session (learnt_by (snapshot_in st q)) own (learnt_own (snapshot_in st q))
-  own_behind st (Replied q reply n) y own = own_append st.session (replied_by (item_at_number i.replies reply) (snapshot_in st q)) own
+  own_after : (st : State) (e : Entry) → IsLawful i st e → AreOwnFor st.session → AreOwnFor (state_after i st e).session
+  own_after st (Learned q n) y own = own_append st.session (learnt_by (snapshot_in st q)) own (learnt_own (snapshot_in st q))
+  own_after st (Replied q reply n) y own = own_append st.session (replied_by (item_at_number i.replies reply) (snapshot_in st q)) own
       (replied_own reply (item_at_number i.replies reply) refl y.copies.policy y.copies.rule (not (st.replied reply)) y.there (snapshot_in st q) (λ s e. ap (λ (copies : Snapshot). copies.rule) (same_Some s y.copies (sym e ∙ y.asked.copies))))
-  own_behind st _ y own = own
+  own_after st _ y own = own
 
   session_own : (h : History) → IsLawfulBack i h → AreOwnFor (looking_back i h).session
   session_own [] lawful = tt
-  session_own (e ∷ h) lawful = own_behind (looking_back i h) e lawful.0 (session_own h lawful.1)
+  session_own (e ∷ h) lawful = own_after (looking_back i h) e lawful.0 (session_own h lawful.1)
 
 module _ (s : Snapshot) (policy : List ℕ) (rule : Rule) (sets : sets_ids_by rule ≡ true) where
   kept_by : (kept : SessionFilter) (more : List SessionFilter) → IsOwnFor kept → ((n k : ℕ) (ids : Ids) → verdict_from n (session_filters more policy rule) s ≡ Permit k ids → ids ≡ s.ids) → (b : Bool) → is_kept_for policy rule kept ≡ b

@@ -36,7 +36,7 @@ use Rattle.st_law.proofs.RenewalKept.{open_of}
 use Rattle.st_law.proofs.Renewals.{EachHeld, each_held, IsLow}
 use Rattle.st_law.proofs.Shapes.{Shape, quiet, forked, execed, renewed}
 use Rattle.st_law.proofs.UsedShapes.{used_shape}
-use Rattle.st_reached.specs.Reached.{IsHolding, Owned}
+use Rattle.st_reached.specs.Reached.{IsHolding, LiveNumbersAreOwn}
 use Rattle.st_reached.proofs.Drawn.{SameOrDrawn, apart, drawn, seq_kept}
 use Rattle.st_reached.proofs.Owning.{denied_number, held_lives, live_parts, lives_by, used_number}
 
@@ -53,15 +53,15 @@ holding_kept st new t p q pending number owner ended x = record {
 }
 
 -- before the first entry no number is live
-pub owned_first : (i : Input) → Owned (first_state i)
+pub owned_first : (i : Input) → LiveNumbersAreOwn (first_state i)
 owned_first i = record { own = λ q head live posted. cc }
 
-module _ (i : Input) (st : State) (inv : Invariant i st) (owned : Owned st) where
+module _ (i : Input) (st : State) (inv : Invariant i st) (owned : LiveNumbersAreOwn st) where
   -- ---- entries that leave messages, and what threads hold
 
   kept_by : (e : Entry) → ((t : ℕ) → ((state_after i st e).threads t).pending ≡ (st.threads t).pending) → ((t : ℕ) → ((state_after i st e).threads t).number ≡ (st.threads t).number)
       → ((t : ℕ) → ((state_after i st e).threads t).owner ≡ (st.threads t).owner) → ((t : ℕ) → ((state_after i st e).threads t).ended ≡ (st.threads t).ended)
-      → ((q : ℕ) → ((state_after i st e).messages q).head ≡ (st.messages q).head) → ((q : ℕ) → is_live (state_after i st e) q ≡ true → is_live st q ≡ true) → Owned (state_after i st e)
+      → ((q : ℕ) → ((state_after i st e).messages q).head ≡ (st.messages q).head) → ((q : ℕ) → is_live (state_after i st e) q ≡ true → is_live st q ≡ true) → LiveNumbersAreOwn (state_after i st e)
   kept_by e pending numbers owner ended heads lived = record {
     own = λ q head live posted. let x : IsHolding st head.tid q = owned.own q head (lived q live) (sym (heads q) ∙ posted) in
         holding_kept st (state_after i st e) head.tid q q (pending head.tid) (numbers head.tid ∙ x.number) (owner head.tid) (ended head.tid) x;
@@ -69,7 +69,7 @@ module _ (i : Input) (st : State) (inv : Invariant i st) (owned : Owned st) wher
 
   -- ---- the end of a thread, which is dying or has no pending call
 
-  ended_kept : (u : ℕ) → IsEnded st u → Owned (state_after i st (Ended u))
+  ended_kept : (u : ℕ) → IsEnded st u → LiveNumbersAreOwn (state_after i st (Ended u))
   ended_kept u y = record {
     own = λ q head live posted. let x : IsHolding st head.tid q = owned.own q head live posted in
         holding_kept st (state_after i st (Ended u)) head.tid q q refl x.number refl (ap (λ b. b || (st.threads head.tid).ended) (ne_eqb u head.tid (not_it q head live posted x y.over))) x;
@@ -120,12 +120,12 @@ module _ (i : Input) (st : State) (inv : Invariant i st) (owned : Owned st) wher
         subst (λ n. IsHolding held_state head.tid n) (eqb-true p q same) (subst (λ t. IsHolding held_state t p) (ap (λ (h : Head). h.tid) (same_Some own_head head posted)) own_holding)
     held_by q head false same live posted = entered_other u call regs (Held p) y q head live posted (λ differ. ap (λ b. cond b p (st.threads head.tid).number) differ)
 
-    held_kept : Owned held_state
+    held_kept : LiveNumbersAreOwn held_state
     held_kept = record {
       own = λ q head live posted. held_by q head (p == q) refl live posted;
     }
 
-  entered_kept : (u : ℕ) (call : SysCall) (regs : List ℕ) (way : Way) → IsEntered i st u call regs way → Owned (state_after i st (Entered u call regs way))
+  entered_kept : (u : ℕ) (call : SysCall) (regs : List ℕ) (way : Way) → IsEntered i st u call regs way → LiveNumbersAreOwn (state_after i st (Entered u call regs way))
   entered_kept u call regs Fast y = record { own = λ q head live posted. entered_other u call regs Fast y q head live posted (λ differ. refl) }
   entered_kept u call regs Untraced y = record { own = λ q head live posted. entered_other u call regs Untraced y q head live posted (λ differ. refl) }
   entered_kept u call regs (Barred n) y = record { own = λ q head live posted. entered_other u call regs (Barred n) y q head live posted (λ differ. refl) }
@@ -145,7 +145,7 @@ module _ (i : Input) (st : State) (inv : Invariant i st) (owned : Owned st) wher
         let differ : (u == head.tid) ≡ false = ne_eqb u head.tid (λ same. true≢false (sym (denied_number i st u q (subst (λ t. IsHolding st t q) (sym same) x) seq errno cause y) ∙ open_parts.0)) in
         holding_kept st denied head.tid q q (ap (λ b. cond b None (st.threads head.tid).pending) differ) x.number refl refl x
 
-    denied_kept : Owned denied
+    denied_kept : LiveNumbersAreOwn denied
     denied_kept = record { own = denied_at }
 
   -- ---- a call that is made
@@ -233,23 +233,23 @@ module _ (i : Input) (st : State) (inv : Invariant i st) (owned : Owned st) wher
     used_high q head high posted (renewed set sets e) =
         renewed_high set e q head high posted (drawn m u heads process q (IsItem st) (heads q) (suc st.posted) helds (items st 1 (thread_count i)) (apart i st inv 1 (thread_count i)) all_low)
 
-    used_kept : Owned made
+    used_kept : LiveNumbersAreOwn made
     used_kept = record { own = λ q head live posted. by q head live posted (cases_lt st.posted q) } where
       by : (q : ℕ) (head : Head) → is_live made q ≡ true → (made.messages q).head ≡ Some head → (st.posted < q) ⊎ (q ≤ st.posted) → IsHolding made head.tid q
       by q head live posted (inl high) = used_high q head high posted (used_shape i st u call regs args ids result changes seq y)
       by q head live posted (inr low) = used_low u seq call regs args ids result changes y q head low live posted
 
   -- after each lawful entry each live number is its thread's own
-  pub owned_behind : (e : Entry) → IsLawful i st e → Owned (state_after i st e)
-  owned_behind (Entered u call regs way) y = entered_kept u call regs way y
-  owned_behind (Used u seq call regs args ids result changes) y = used_kept u seq call regs args ids result changes y
-  owned_behind (Denied u seq errno cause) y = denied_kept u seq errno cause y
-  owned_behind (Ended u) y = ended_kept u y
-  owned_behind (Stored u place word) y = kept_by (Stored u place word) (λ t. refl) (λ t. refl) (λ t. refl) (λ t. refl) (λ q. refl) (λ q live. live)
-  owned_behind (Claimed w q) y = kept_by (Claimed w q) (λ t. refl) (λ t. refl) (λ t. refl) (λ t. refl) (λ q. refl) (λ q live. live)
-  owned_behind (Copied q part place word) y = kept_by (Copied q part place word) (λ t. refl) (λ t. refl) (λ t. refl) (λ t. refl) (λ q. refl) (λ q live. live)
-  owned_behind (Looked q part name seen) y = kept_by (Looked q part name seen) (λ t. refl) (λ t. refl) (λ t. refl) (λ t. refl) (λ q. refl) (λ q live. live)
-  owned_behind (Faulted q errno) y = kept_by (Faulted q errno) (λ t. refl) (λ t. refl) (λ t. refl) (λ t. refl) (λ q. refl) (λ q live. live)
-  owned_behind (Answered w s v applied) y = kept_by (Answered w s v applied) (λ t. refl) (λ t. refl) (λ t. refl) (λ t. refl) (λ q. refl) (λ q live. live)
-  owned_behind (Learned q n) y = kept_by (Learned q n) (λ t. refl) (λ t. refl) (λ t. refl) (λ t. refl) (λ q. refl) (λ q live. live)
-  owned_behind (Replied q reply n) y = kept_by (Replied q reply n) (λ t. refl) (λ t. refl) (λ t. refl) (λ t. refl) (λ q. refl) (λ q live. live)
+  pub owned_after : (e : Entry) → IsLawful i st e → LiveNumbersAreOwn (state_after i st e)
+  owned_after (Entered u call regs way) y = entered_kept u call regs way y
+  owned_after (Used u seq call regs args ids result changes) y = used_kept u seq call regs args ids result changes y
+  owned_after (Denied u seq errno cause) y = denied_kept u seq errno cause y
+  owned_after (Ended u) y = ended_kept u y
+  owned_after (Stored u place word) y = kept_by (Stored u place word) (λ t. refl) (λ t. refl) (λ t. refl) (λ t. refl) (λ q. refl) (λ q live. live)
+  owned_after (Claimed w q) y = kept_by (Claimed w q) (λ t. refl) (λ t. refl) (λ t. refl) (λ t. refl) (λ q. refl) (λ q live. live)
+  owned_after (Copied q part place word) y = kept_by (Copied q part place word) (λ t. refl) (λ t. refl) (λ t. refl) (λ t. refl) (λ q. refl) (λ q live. live)
+  owned_after (Looked q part name seen) y = kept_by (Looked q part name seen) (λ t. refl) (λ t. refl) (λ t. refl) (λ t. refl) (λ q. refl) (λ q live. live)
+  owned_after (Faulted q errno) y = kept_by (Faulted q errno) (λ t. refl) (λ t. refl) (λ t. refl) (λ t. refl) (λ q. refl) (λ q live. live)
+  owned_after (Answered w s v applied) y = kept_by (Answered w s v applied) (λ t. refl) (λ t. refl) (λ t. refl) (λ t. refl) (λ q. refl) (λ q live. live)
+  owned_after (Learned q n) y = kept_by (Learned q n) (λ t. refl) (λ t. refl) (λ t. refl) (λ t. refl) (λ q. refl) (λ q live. live)
+  owned_after (Replied q reply n) y = kept_by (Replied q reply n) (λ t. refl) (λ t. refl) (λ t. refl) (λ t. refl) (λ q. refl) (λ q live. live)

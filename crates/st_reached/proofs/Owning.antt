@@ -20,7 +20,7 @@ use Rattle.st_law.specs.Threads.{PendingCall}
 use Rattle.st_law.proofs.HeldCalls.{IsHolder}
 use Rattle.st_law.proofs.Invariant.{IsOwn, IsOpen, Invariant}
 use Rattle.st_law.proofs.RenewalKept.{open_of}
-use Rattle.st_reached.specs.Reached.{IsHolding, Owned}
+use Rattle.st_reached.specs.Reached.{IsHolding, LiveNumbersAreOwn}
 
 pub not_so : (b : Bool) → not b ≡ true → b ≡ false
 not_so true e = cc
@@ -43,7 +43,7 @@ pub held_lives : (i : Input) (st : State) → Invariant i st → (t : ℕ) → I
 held_lives i st inv t x = let y : IsOpen st t x.entered.call x.entered.regs = open_of i st inv t x in
     lives_by st (st.threads t).number y.head y.posted y.unclosed (ap (λ n. (st.threads n).dying) y.own.tid_is ∙ x.undying)
 
-module _ (st : State) (owned : Owned st) where
+module _ (st : State) (owned : LiveNumbersAreOwn st) where
   -- the thread of a live number holds a call, and isn't dying
   pub holder_of : (q : ℕ) (head : Head) → is_live st q ≡ true → (st.messages q).head ≡ Some head → IsHolder st head.tid
   holder_of q head live posted = let x : IsHolding st head.tid q = owned.own q head live posted in

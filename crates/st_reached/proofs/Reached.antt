@@ -17,17 +17,17 @@ use Rattle.st_law.proofs.RenewalKept.{open_of}
 use Rattle.st_law.proofs.Steps.{Says}
 use Rattle.st_law.proofs.ThreadSteps.{thread_step}
 use Rattle.st_law.proofs.Ties.{state-is}
-use Rattle.st_law.proofs.Whole.{Whole, whole_behind, whole_of}
+use Rattle.st_law.proofs.Whole.{Whole, whole_after, whole_of}
 use Rattle.st_law.proofs.WorkerSteps.{worker_step, operator_step}
-use Rattle.st_reached.specs.Reached.{AllHeldLive, Owned, life_after}
-use Rattle.st_reached.proofs.Life.{life_behind}
-use Rattle.st_reached.proofs.OwnedKept.{owned_first, owned_behind}
+use Rattle.st_reached.specs.Reached.{AllHeldLive, LiveNumbersAreOwn, life_after}
+use Rattle.st_reached.proofs.Life.{life_later}
+use Rattle.st_reached.proofs.OwnedKept.{owned_first, owned_after}
 use Rattle.st_reached.proofs.Owning.{held_lives}
 
 -- all invariants of the state after a lawful history, and that each live number is its thread's own
 pub record Reached (i : Input) (st : State) : Type 0 where
   pub whole : Whole i st
-  pub owned : Owned st
+  pub owned : LiveNumbersAreOwn st
 
 -- ---- from entry to entry
 
@@ -35,8 +35,8 @@ pub reached_first : (i : Input) → IsStartable i → Reached i (first_state i)
 reached_first i startable = record { whole = whole_of i startable [] tt; owned = owned_first i }
 
 module _ (i : Input) (st : State) (reached : Reached i st) where
-  pub reached_behind : (e : Entry) → IsLawful i st e → Reached i (state_after i st e)
-  reached_behind e lawful = record { whole = whole_behind i st reached.whole e lawful; owned = owned_behind i st reached.whole.calls reached.owned e lawful }
+  pub reached_after : (e : Entry) → IsLawful i st e → Reached i (state_after i st e)
+  reached_after e lawful = record { whole = whole_after i st reached.whole e lawful; owned = owned_after i st reached.whole.calls reached.owned e lawful }
 
   step_by : (c : Choice) → Says (IsLawful i st) (entry_of i st c)
   step_by (choice.Thread t) = thread_step i st t reached.whole.calls
@@ -48,11 +48,11 @@ module _ (i : Input) (st : State) (reached : Reached i st) where
   lawful_entry c e is = subst (Says (IsLawful i st)) is (step_by c)
 
   pub reached_more : (c : Choice) (e : Entry) → entry_of i st c ≡ Some e → Reached i (state_after i st e)
-  reached_more c e is = reached_behind e (lawful_entry c e is)
+  reached_more c e is = reached_after e (lawful_entry c e is)
 
   -- which numbers are live after the entry that a choice adds
   pub life_more : (c : Choice) (e : Entry) → entry_of i st c ≡ Some e → (other : ℕ) → is_live (state_after i st e) other ≡ life_after st e other
-  life_more c e is other = life_behind i st reached.whole.calls reached.owned other e (lawful_entry c e is)
+  life_more c e is other = life_later i st reached.whole.calls reached.owned other e (lawful_entry c e is)
 
   -- the number of a held call is live, and its message is that of the thread
   pub held_live : AllHeldLive st
@@ -68,7 +68,7 @@ module _ (i : Input) (st : State) (reached : Reached i st) where
 module _ (i : Input) (startable : IsStartable i) where
   pub reached_back : (h : History) → IsLawfulBack i h → Reached i (looking_back i h)
   reached_back [] lawful = reached_first i startable
-  reached_back (e ∷ h) lawful = reached_behind i (looking_back i h) (reached_back h lawful.1) e lawful.0
+  reached_back (e ∷ h) lawful = reached_after i (looking_back i h) (reached_back h lawful.1) e lawful.0
 
   pub reached_at : (choices : List Choice) → Reached i (state_at i (history i choices))
   reached_at choices = subst (Reached i) (sym (state-is i (history i choices))) (reached_back (history i choices) (lawful_history i startable choices))

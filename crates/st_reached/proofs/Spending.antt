@@ -148,21 +148,21 @@ module _ (worth : Instr → ℕ) (call_worth : PendingCall → ℕ) where
 
     -- ---- every entry
 
-    bounded_behind : (e : Entry) → IsLawful i st e → Bounded e
-    bounded_behind (Stored u place word) y = stored_bounded u place word y.running.started
-    bounded_behind (Entered u call regs way) y = entered_bounded u call regs way y
-    bounded_behind (Used u None call regs args ids result changes) y = used_bounded u None call regs args ids result changes y.way y.running.started y.entered y
-    bounded_behind (Used u (Some q) call regs args ids result changes) y = used_bounded u (Some q) call regs args ids result changes (Held y.held.first) y.running.started y.held.entered y
-    bounded_behind (Denied u None errno cause) y = denied_bounded u None errno cause y.running.started
-    bounded_behind (Denied u (Some q) errno cause) y = denied_bounded u (Some q) errno cause y.running.started
-    bounded_behind (Claimed w q) y = let same = spends.still st (Claimed w q) refl in omega (arith, same)
-    bounded_behind (Copied q part place word) y = let same = spends.still st (Copied q part place word) refl in omega (arith, same)
-    bounded_behind (Looked q part name seen) y = let same = spends.still st (Looked q part name seen) refl in omega (arith, same)
-    bounded_behind (Faulted q errno) y = let same = spends.still st (Faulted q errno) refl in omega (arith, same)
-    bounded_behind (Answered w s v applied) y = let same = spends.still st (Answered w s v applied) refl in omega (arith, same)
-    bounded_behind (Ended u) y = let same = spends.still st (Ended u) refl in omega (arith, same)
-    bounded_behind (Learned q n) y = let same = spends.still st (Learned q n) refl in omega (arith, same)
-    bounded_behind (Replied q reply n) y = let same = spends.still st (Replied q reply n) refl in omega (arith, same)
+    bounded_after : (e : Entry) → IsLawful i st e → Bounded e
+    bounded_after (Stored u place word) y = stored_bounded u place word y.running.started
+    bounded_after (Entered u call regs way) y = entered_bounded u call regs way y
+    bounded_after (Used u None call regs args ids result changes) y = used_bounded u None call regs args ids result changes y.way y.running.started y.entered y
+    bounded_after (Used u (Some q) call regs args ids result changes) y = used_bounded u (Some q) call regs args ids result changes (Held y.held.first) y.running.started y.held.entered y
+    bounded_after (Denied u None errno cause) y = denied_bounded u None errno cause y.running.started
+    bounded_after (Denied u (Some q) errno cause) y = denied_bounded u (Some q) errno cause y.running.started
+    bounded_after (Claimed w q) y = let same = spends.still st (Claimed w q) refl in omega (arith, same)
+    bounded_after (Copied q part place word) y = let same = spends.still st (Copied q part place word) refl in omega (arith, same)
+    bounded_after (Looked q part name seen) y = let same = spends.still st (Looked q part name seen) refl in omega (arith, same)
+    bounded_after (Faulted q errno) y = let same = spends.still st (Faulted q errno) refl in omega (arith, same)
+    bounded_after (Answered w s v applied) y = let same = spends.still st (Answered w s v applied) refl in omega (arith, same)
+    bounded_after (Ended u) y = let same = spends.still st (Ended u) refl in omega (arith, same)
+    bounded_after (Learned q n) y = let same = spends.still st (Learned q n) refl in omega (arith, same)
+    bounded_after (Replied q reply n) y = let same = spends.still st (Replied q reply n) refl in omega (arith, same)
 
   -- ---- every run
 
@@ -171,8 +171,8 @@ module _ (worth : Instr → ℕ) (call_worth : PendingCall → ℕ) where
     spent_back [] lawful = let first = left_at_first i in omega (arith, first)
     spent_back (e ∷ h) lawful =
         let before = spent_back h lawful.1 in
-        let behind = bounded_behind i spent spends (looking_back i h) (whole_of i startable h lawful.1).calls e lawful.0 in
-        omega (arith, before, behind)
+        let following = bounded_after i spent spends (looking_back i h) (whole_of i startable h lawful.1).calls e lawful.0 in
+        omega (arith, before, following)
 
     -- in every state that a run reaches, what is spent and what is left are together no more than at first
     pub spent_most : (choices : List Choice) → spent (state_of_run i choices) + left_of i (state_of_run i choices) ≤ spent (first_state i) + all_of i.start.threads

@@ -25,7 +25,7 @@ use Rattle.st_law.proofs.Invariant.{Fine, IfPending, IsFine}
 use Rattle.st_law.proofs.Learning.{question_undecided}
 use Rattle.st_law.proofs.Progressing.{Is, arguments_end}
 use Rattle.st_law.proofs.Whole.{Whole}
-use Rattle.st_reached.specs.Waiting.{IsAsking, IsAwaiting, IsStill, asking, awaiting, ended, unstarted}
+use Rattle.st_reached.specs.Waiting.{WaitsForOperator, IsAwaiting, IsStill, asking, awaiting, ended, unstarted}
 
 -- a question was answered by a worker
 pub question_answered : (i : Input) (st : State) (q : ℕ) → is_question i st q ≡ true → (st.messages q).answered ≡ true
@@ -55,7 +55,7 @@ module _ (i : Input) (st : State) (t : ℕ) where
   question_none q question None copies = refl
   question_none q question (Some s) copies = ap (decided_entry i st t q s) (question_undecided i st q s question copies) ∙ ap (λ b. cond b None (Some (Denied t (Some q) EPERM NoFilter))) question
 
-  asking_none : IsAsking i st t → thread_entry i st t ≡ None
+  asking_none : WaitsForOperator i st t → thread_entry i st t ≡ None
   asking_none x = by ((st.threads t).owner == 0 || (st.threads t).ended) where
     answered : (st.messages (st.threads t).number).answered ≡ true
     answered = question_answered i st (st.threads t).number x.question

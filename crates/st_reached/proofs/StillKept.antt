@@ -27,7 +27,7 @@ use Rattle.st_law.specs.declared.input.Mode.TheVariants.{Enforce, Learn, AskText
 use Rattle.st_law.specs.Lawful.{IsLawful, IsLearned, IsReplied, IsUsed}
 use Rattle.st_law.specs.Machine.{entry_of, state_after, thread_entry}
 use Rattle.st_law.specs.Sessions.{decision, is_reply_for, learnt_by, learnt_filter, least_from, replied_by, session_filters}
-use Rattle.st_law.specs.State.{State, held_from, is_asked, is_live, is_open_question, is_undecided, read_for, request_of, snapshot_in, system_of, thread_count}
+use Rattle.st_law.specs.State.{State, held_from, operator_decides, is_live, is_open_question, is_undecided, read_for, request_of, snapshot_in, system_of, thread_count}
 use Rattle.st_law.specs.Threads.{child_of_next, thread_of}
 use Rattle.st_law.proofs.HeldCalls.{IsHolder, own_of}
 use Rattle.st_law.proofs.Invariant.{IsOpen}
@@ -38,9 +38,9 @@ use Rattle.st_law.proofs.Shapes.{Each, Shape, quiet, forked, execed, renewed}
 use Rattle.st_law.proofs.Turns.{IsFresh}
 use Rattle.st_law.proofs.UsedShapes.{used_shape}
 use Rattle.st_law.proofs.Standing.{answered_after_entry, copies_after}
-use Rattle.st_reached.specs.Waiting.{IsAsking, IsAwaiting, IsStill, are_alike, asking, awaiting, ended, holds_alike, is_head_by, is_message_by, unstarted, wakes, wakes_all}
+use Rattle.st_reached.specs.Waiting.{WaitsForOperator, IsAwaiting, IsStill, are_alike, asking, awaiting, ended, holds_alike, is_head_by, is_message_by, unstarted, wakes, wakes_all}
 use Rattle.st_reached.proofs.Movers.{others_add}
-use Rattle.st_reached.proofs.Reached.{Reached, held_live, lawful_entry, reached_behind}
+use Rattle.st_reached.proofs.Reached.{Reached, held_live, lawful_entry, reached_after}
 use Rattle.st_reached.proofs.Still.{none_still, question_answered, still_none}
 use Rattle.st_reached.proofs.Unlike.{are_of_one, asked_on, copies_alike, open_on, reply_there}
 
@@ -93,7 +93,7 @@ abbrev IsUnmetIn : State → ℕ → Type 0
 IsUnmetIn st q = ((st.messages q).fault ≡ None) × ((st.messages q).answered ≡ false)
 
 -- whether copies are asked about depends on the replies that were given
-asked_by : (i : Input) (st new : State) → new.replied ≡ st.replied → (s : Snapshot) (mode : Mode) → is_asked i new s mode ≡ is_asked i st s mode
+asked_by : (i : Input) (st new : State) → new.replied ≡ st.replied → (s : Snapshot) (mode : Mode) → operator_decides i new s mode ≡ operator_decides i st s mode
 asked_by i st new replied s Enforce = refl
 asked_by i st new replied s Learn = refl
 asked_by i st new replied s AskText = λ k. is_some (least_from (λ n. is_reply_for s.policy s.rule (item_at_number i.replies n) && not (replied k n)) 1 (length i.replies))
@@ -125,15 +125,15 @@ module _ (i : Input) (st : State) (reached : Reached i st) (t : ℕ) where
     pub unfaulted : IsAwaiting st t → ((state_after i st e).messages ((state_after i st e).threads t).number).fault ≡ None
     pub unanswered : IsAwaiting st t → ((state_after i st e).messages ((state_after i st e).threads t).number).answered ≡ false
     pub renewed : (((state_after i st e).threads t).number ≡ number) ⊎ IsUnmetIn (state_after i st e) ((state_after i st e).threads t).number
-    pub question : (s : Snapshot) → snapshot_in st number ≡ Some s → IsAsking i st t → is_open_question i (state_after i st e) (Some s) ≡ is_open_question i st (Some s)
+    pub question : (s : Snapshot) → snapshot_in st number ≡ Some s → WaitsForOperator i st t → is_open_question i (state_after i st e) (Some s) ≡ is_open_question i st (Some s)
 
   -- a question stays one if its number is the same, and the operator still has to answer for its copies
-  asks_on : (e : Entry) → IsLawful i st e → (leaves : Leaves e) → IsAsking i st t → ((state_after i st e).threads t).number ≡ number → IsAsking i (state_after i st e) t
+  asks_on : (e : Entry) → IsLawful i st e → (leaves : Leaves e) → WaitsForOperator i st t → ((state_after i st e).threads t).number ≡ number → WaitsForOperator i (state_after i st e) t
   asks_on e lawful leaves x same =
       let new : State = state_after i st e in
       let pending : (new.threads t).pending ≡ Some x.entered = leaves.pending ∙ x.pending in
       let undying : (new.threads t).dying ≡ false = leaves.dying ∙ x.undying in
-      let then : Reached i new = reached_behind i st reached e lawful in
+      let then : Reached i new = reached_after i st reached e lawful in
       let was : (st.messages number).answered ≡ true = question_answered i st number x.question in
       let answered : (new.messages (new.threads t).number).answered ≡ true = subst (λ q. (new.messages q).answered ≡ true) (sym same) (answered_after_entry i st reached.whole number was e) in
       let copies : snapshot_in new (new.threads t).number ≡ snapshot_in st number = ap (snapshot_in new) same ∙ copies_after i st reached.whole number was e lawful in
@@ -153,7 +153,7 @@ module _ (i : Input) (st : State) (reached : Reached i st) (t : ℕ) where
       }
 
   -- a question that is renewed waits for its answer again
-  asks_then : (e : Entry) → IsLawful i st e → (leaves : Leaves e) → IsAsking i st t → (((state_after i st e).threads t).number ≡ number) ⊎ IsUnmetIn (state_after i st e) ((state_after i st e).threads t).number → IsStill i (state_after i st e) t
+  asks_then : (e : Entry) → IsLawful i st e → (leaves : Leaves e) → WaitsForOperator i st t → (((state_after i st e).threads t).number ≡ number) ⊎ IsUnmetIn (state_after i st e) ((state_after i st e).threads t).number → IsStill i (state_after i st e) t
   asks_then e lawful leaves x (inl same) = asking (asks_on e lawful leaves x same)
   asks_then e lawful leaves x (inr unmet) = awaiting (record {
     undying = leaves.dying ∙ x.undying;
@@ -250,22 +250,22 @@ module _ (i : Input) (st : State) (reached : Reached i st) (t : ℕ) where
   -- ---- the operator answers a question of another policy or rule
 
   -- a thread that waits for the operator holds its call
-  holder : IsAsking i st t → IsHolder st t
+  holder : WaitsForOperator i st t → IsHolder st t
   holder x = record { entered = x.entered; pending = x.pending; first = x.first; way = x.way; undying = x.undying }
 
-  apart : (q : ℕ) → holds_alike st q t ≡ false → IsAsking i st t → (copies s : Snapshot) → snapshot_in st q ≡ Some copies → snapshot_in st number ≡ Some s → are_of_one copies s ≡ false
+  apart : (q : ℕ) → holds_alike st q t ≡ false → WaitsForOperator i st t → (copies s : Snapshot) → snapshot_in st q ≡ Some copies → snapshot_in st number ≡ Some s → are_of_one copies s ≡ false
   apart q calm x copies s posted there =
       let alike : ℕ → Bool = λ p. are_alike (st.messages q).head (st.messages p).head in
       sym (copies_alike st q number copies s posted there)
       ∙ (or_parts (alike number) false (sym (ap (list_any (λ (held : HeldCall). alike held.number)) (own_of st t (holder x))) ∙ calm)).0
 
-  learned_leaves : (q n : ℕ) → IsLearned i st q n → holds_alike st q t ≡ false → IsAsking i st t → (s : Snapshot) → snapshot_in st number ≡ Some s → is_open_question i (state_after i st (Learned q n)) (Some s) ≡ is_open_question i st (Some s)
+  learned_leaves : (q n : ℕ) → IsLearned i st q n → holds_alike st q t ≡ false → WaitsForOperator i st t → (s : Snapshot) → snapshot_in st number ≡ Some s → is_open_question i (state_after i st (Learned q n)) (Some s) ≡ is_open_question i st (Some s)
   learned_leaves q n y calm x s there =
       let new : State = state_after i st (Learned q n) in
       open_on i st y.copies s (apart q calm x y.copies s y.asked.copies there) new (learnt_filter y.copies)
       (ap (λ o. st.session ++ learnt_by o) y.asked.copies) (asked_by i st new refl s i.options.mode)
 
-  replied_leaves : (q reply n : ℕ) → IsReplied i st q reply n → holds_alike st q t ≡ false → IsAsking i st t → (s : Snapshot) → snapshot_in st number ≡ Some s → is_open_question i (state_after i st (Replied q reply n)) (Some s) ≡ is_open_question i st (Some s)
+  replied_leaves : (q reply n : ℕ) → IsReplied i st q reply n → holds_alike st q t ≡ false → WaitsForOperator i st t → (s : Snapshot) → snapshot_in st number ≡ Some s → is_open_question i (state_after i st (Replied q reply n)) (Some s) ≡ is_open_question i st (Some s)
   replied_leaves q reply n y calm x s there =
       let new : State = state_after i st (Replied q reply n) in
       let differs : are_of_one y.copies s ≡ false = apart q calm x y.copies s y.asked.copies there in
@@ -381,12 +381,12 @@ module _ (i : Input) (st : State) (reached : Reached i st) (t : ℕ) where
   }
 
   -- a still thread stays still after a lawful entry
-  pub still_behind : IsStill i st t → (e : Entry) → IsLawful i st e → thread_of e ≢ t → wakes st e t ≡ false → IsStill i (state_after i st e) t
-  still_behind still e lawful other calm = stays e lawful (leaves e lawful other calm) still
+  pub still_after : IsStill i st t → (e : Entry) → IsLawful i st e → thread_of e ≢ t → wakes st e t ≡ false → IsStill i (state_after i st e) t
+  still_after still e lawful other calm = stays e lawful (leaves e lawful other calm) still
 
   -- a still thread stays still after the entry that a choice adds
   pub still_more : IsStill i st t → (c : Choice) (e : Entry) → entry_of i st c ≡ Some e → thread_of e ≢ t → wakes st e t ≡ false → IsStill i (state_after i st e) t
-  still_more still c e is other calm = still_behind still e (lawful_entry i st reached c e is) other calm
+  still_more still c e is other calm = still_after still e (lawful_entry i st reached c e is) other calm
 
   -- a thread that adds no entry adds none after the entry either, unless the entry wakes it
   pub none_more : 1 ≤ t → thread_entry i st t ≡ None → (c : Choice) (e : Entry) → entry_of i st c ≡ Some e → wakes st e t ≡ false → thread_entry i (state_after i st e) t ≡ None

@@ -21,7 +21,7 @@ use Rattle.st_law.specs.declared.input.Mode.{Mode}
 use Rattle.st_law.specs.declared.input.Mode.TheVariants.{Enforce, Learn, AskText}
 use Rattle.st_law.specs.Messages.{Head}
 use Rattle.st_law.specs.Sessions.{SessionFilter, decision, is_kept_for, is_reply_for, kept_for, least_from, replied_by, session_filters}
-use Rattle.st_law.specs.State.{State, is_asked, is_open_question, is_reply_left, is_undecided, progress_in, read_for, snapshot_in, snapshot_of_progress}
+use Rattle.st_law.specs.State.{State, operator_decides, is_open_question, is_reply_left, is_undecided, progress_in, read_for, snapshot_in, snapshot_of_progress}
 use Rattle.st_law.proofs.Growth.{session_append}
 use Rattle.st_reached.specs.Waiting.{are_alike}
 
@@ -104,7 +104,7 @@ module _ (i : Input) (st : State) (r : ℕ) (other : List ℕ) (its : Rule) (not
   left_same : (n : ℕ) → (is_reply_for other its (item_at_number i.replies n) && not (r == n || st.replied n)) ≡ is_reply_left i st other its n
   left_same n = left_by n (r == n) refl
 
-  asked_same : (s : Snapshot) → s.policy ≡ other → s.rule ≡ its → (new : State) → new.replied ≡ (λ n. r == n || st.replied n) → (mode : Mode) → is_asked i new s mode ≡ is_asked i st s mode
+  asked_same : (s : Snapshot) → s.policy ≡ other → s.rule ≡ its → (new : State) → new.replied ≡ (λ n. r == n || st.replied n) → (mode : Mode) → operator_decides i new s mode ≡ operator_decides i st s mode
   asked_same s policy rule new replied Enforce = refl
   asked_same s policy rule new replied Learn = refl
   asked_same s policy rule new replied AskText =
@@ -116,12 +116,12 @@ module _ (i : Input) (st : State) (r : ℕ) (other : List ℕ) (its : Rule) (not
 
 module _ (i : Input) (st : State) (s other : Snapshot) (apart : are_of_one s other ≡ false) where
   -- a call of another policy or rule is a question by the same filters, if the same replies are left for it
-  pub open_on : (new : State) (given : FilterValue) → new.session ≡ st.session ++ kept_for given s ∷ [] → is_asked i new other i.options.mode ≡ is_asked i st other i.options.mode → is_open_question i new (Some other) ≡ is_open_question i st (Some other)
+  pub open_on : (new : State) (given : FilterValue) → new.session ≡ st.session ++ kept_for given s ∷ [] → operator_decides i new other i.options.mode ≡ operator_decides i st other i.options.mode → is_open_question i new (Some other) ≡ is_open_question i st (Some other)
   open_on new given session asked =
       let filters : session_filters new.session other.policy other.rule ≡ session_filters st.session other.policy other.rule =
       ap (λ kept. session_filters kept other.policy other.rule) session ∙ others_kept st.session (kept_for given s) other.policy other.rule apart in
       λ k. is_undecided (decision (read_for i other.policy other.rule) (filters k) other) && asked k
 
   -- the replies left for it are the same as before the reply was given
-  pub asked_on : (new : State) (r : ℕ) → new.replied ≡ (λ n. r == n || st.replied n) → is_reply_for s.policy s.rule (item_at_number i.replies r) ≡ true → (mode : Mode) → is_asked i new other mode ≡ is_asked i st other mode
+  pub asked_on : (new : State) (r : ℕ) → new.replied ≡ (λ n. r == n || st.replied n) → is_reply_for s.policy s.rule (item_at_number i.replies r) ≡ true → (mode : Mode) → operator_decides i new other mode ≡ operator_decides i st other mode
   asked_on new r replied is = asked_same i st r other.policy other.rule (other_reply s.policy other.policy s.rule other.rule (item_at_number i.replies r) apart is) other refl refl new replied

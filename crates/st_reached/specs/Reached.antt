@@ -33,7 +33,7 @@ pub record IsHolding (st : State) (t q : ℕ) : Type 0 where
   pub unended : (st.threads t).ended ≡ false
 
 -- each live number is that of its thread's held call
-pub record Owned (st : State) : Type 0 where
+pub record LiveNumbersAreOwn (st : State) : Type 0 where
   pub own : (q : ℕ) (head : Head) → is_live st q ≡ true → (st.messages q).head ≡ Some head → IsHolding st head.tid q
 
 -- ---- the number of a held call

@@ -27,7 +27,7 @@ pub record IsAwaiting (st : State) (t : ℕ) : Type 0 where
   pub unanswered : (st.messages (st.threads t).number).answered ≡ false
 
 -- a thread that isn't dying holds a call that was answered, and that is a question for the operator
-pub record IsAsking (i : Input) (st : State) (t : ℕ) : Type 0 where
+pub record WaitsForOperator (i : Input) (st : State) (t : ℕ) : Type 0 where
   pub undying : (st.threads t).dying ≡ false
   pub entered : PendingCall
   pub pending : (st.threads t).pending ≡ Some entered
@@ -41,7 +41,7 @@ pub data IsStill (i : Input) (st : State) (t : ℕ) : Type 0 where
   unstarted : (st.threads t).owner ≡ 0 → IsStill i st t
   ended : (st.threads t).ended ≡ true → IsStill i st t
   awaiting : IsAwaiting st t → IsStill i st t
-  asking : IsAsking i st t → IsStill i st t
+  asking : WaitsForOperator i st t → IsStill i st t
 
 -- ---- which threads an entry wakes
 

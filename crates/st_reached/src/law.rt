@@ -9,14 +9,14 @@ ghost use Rattle.st_law.specs.Schedules.{instruction_count};
 ghost use Rattle.st_law.specs.State.{is_live};
 ghost use Rattle.st_law.specs.Threads.{thread_of};
 ghost use Rattle.st_reached.specs.Grants.{RepliesUngranted, SetIdsUngranted};
-ghost use Rattle.st_reached.specs.Reached.{AllHeldLive, ForksStartNew, Owned, SetsOwnIds, life_after, most_numbers};
+ghost use Rattle.st_reached.specs.Reached.{AllHeldLive, ForksStartNew, LiveNumbersAreOwn, SetsOwnIds, life_after, most_numbers};
 ghost use Rattle.st_reached.specs.Scripts.{StartOnce};
 ghost use Rattle.st_reached.specs.Waiting.{IsStill, IsStillWorker, wakes};
 
 /// In every state that a run reaches, a live number is that of its thread's held call. Which numbers are live after one more entry is a
 /// function of the entry.
 pub fn live_numbers_are_their_threads_own()
-    ensures own { (input : Input) → IsStartable input → (choices : List Choice) → Owned (state_of_run input choices) }
+    ensures own { (input : Input) → IsStartable input → (choices : List Choice) → LiveNumbersAreOwn (state_of_run input choices) }
     ensures life { (input : Input) → IsStartable input → (choices : List Choice) (c : Choice) (e : Entry) → entry_of input (state_of_run input choices) c ≡ Some e → (other : ℕ) → is_live (state_after input (state_of_run input choices) e) other ≡ life_after (state_of_run input choices) e other }
 {}
 

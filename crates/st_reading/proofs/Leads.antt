@@ -11,45 +11,45 @@ use Rattle.st_law.specs.declared.input.Options.{Options}
 use Rattle.st_script.specs.Reading.{script_in}
 use Rattle.st_script.specs.declared.reading.ReadScript.{ReadScript}
 use Rattle.st_command.specs.Words.{Word}
-use Rattle.st_reading.specs.Meaning.{Held, Meaning, SaysScript, SaysPolicy, Fetches, MeansPolicies}
-use Rattle.st_reading.specs.Files.{Has, IsScript, IsPolicy, ArePolicies, ComesTo}
+use Rattle.st_reading.specs.Meaning.{Contents, Meaning, SaysScript, SaysPolicy, Fetches, MeansPolicies}
+use Rattle.st_reading.specs.Files.{Has, IsScript, IsPolicy, ArePolicies, ReachesFile}
 use Rattle.st_reading.specs.declared.refusal.Which.{Which}
 use Rattle.st_reading.specs.declared.refusal.Which.TheVariants as which
 
 -- a property of a text that a name has is a property of what is read at that name
-pub leads_has : (held : FileView) (w : Which) (P : List ℕ → Type 0) (R : List ℕ → Type 0) (o : Meaning) → (has : Has held P) → R has.text → Fetches held w R o
-leads_has held w P R o has r = inr (inr (inr (has.text, has.content, has.within, r)))
+pub leads_has : (contents : FileView) (w : Which) (P : List ℕ → Type 0) (R : List ℕ → Type 0) (o : Meaning) → (has : Has contents P) → R has.text → Fetches contents w R o
+leads_has contents w P R o has r = inr (inr (inr (has.text, has.content, has.within, r)))
 
 -- a file that was read can be fetched
-pub held_fits : (held : FileView) (text : List ℕ) → CanHold held text → length text ≤ FILE_LIMIT → CanFit held
+pub held_fits : (contents : FileView) (text : List ℕ) → CanHold contents text → length text ≤ FILE_LIMIT → CanFit contents
 held_fits Unknown text content within = tt
 held_fits Absent text content within = absurd content
 held_fits (FileBytes bytes) text content within = let e : length text ≡ length bytes = ap length content in omega arith
 
-pub has_fits : (held : FileView) (P : List ℕ → Type 0) → Has held P → CanFit held
-has_fits held P has = held_fits held has.text has.content has.within
+pub has_fits : (contents : FileView) (P : List ℕ → Type 0) → Has contents P → CanFit contents
+has_fits contents P has = held_fits contents has.text has.content has.within
 
 -- a script that is read leads to what is meant after it
-pub leads_script : (held : FileView) (options : Options) (script : ReadScript) (R : ReadScript → Type 0) (o : Meaning) → IsScript held options script → R script → Fetches held which.Script (λ text. SaysScript (script_in text options) R o) o
-leads_script held options script R o is r =
-    leads_has held which.Script (λ text. script_in text options ≡ Ok script) (λ text. SaysScript (script_in text options) R o) o is (subst (λ s. SaysScript s R o) (sym is.says) r)
+pub leads_script : (contents : FileView) (options : Options) (script : ReadScript) (R : ReadScript → Type 0) (o : Meaning) → IsScript contents options script → R script → Fetches contents which.Script (λ text. SaysScript (script_in text options) R o) o
+leads_script contents options script R o is r =
+    leads_has contents which.Script (λ text. script_in text options ≡ Ok script) (λ text. SaysScript (script_in text options) R o) o is (subst (λ s. SaysScript s R o) (sym is.says) r)
 
 -- policy files that are read lead to what is meant after them
-pub leads_policies : (held : Held) (env : Env) (R : List BinaryPolicy → Type 0) (o : Meaning) (front rest : List Word) (n : ℕ) (before policies : List BinaryPolicy) →
-    ArePolicies held env front before policies → MeansPolicies held env (n + length front) rest policies R o → MeansPolicies held env n (front ++ rest) before R o
-leads_policies held env R o [] rest n before policies is m =
+pub leads_policies : (contents : Contents) (env : Env) (R : List BinaryPolicy → Type 0) (o : Meaning) (front rest : List Word) (n : ℕ) (before policies : List BinaryPolicy) →
+    ArePolicies contents env front before policies → MeansPolicies contents env (n + length front) rest policies R o → MeansPolicies contents env n (front ++ rest) before R o
+leads_policies contents env R o [] rest n before policies is m =
     let zero_more : n + 0 ≡ n = omega arith in
-    subst (λ ps. MeansPolicies held env n rest ps R o) is (subst (λ k. MeansPolicies held env k rest policies R o) zero_more m)
-leads_policies held env R o (name ∷ front) rest n before policies is m =
+    subst (λ ps. MeansPolicies contents env n rest ps R o) is (subst (λ k. MeansPolicies contents env k rest policies R o) zero_more m)
+leads_policies contents env R o (name ∷ front) rest n before policies is m =
     let one_more : n + length (name ∷ front) ≡ (n + 1) + length front = omega arith in
-    leads_has (held name) (which.Policy n) _ (λ text. SaysPolicy text env before n (λ more. MeansPolicies held env (n + 1) (front ++ rest) more R o) o) o is.1
-    (inl (is.0, is.1.says, leads_policies held env R o front rest (n + 1) is.0 policies is.2 (subst (λ k. MeansPolicies held env k rest policies R o) one_more m)))
+    leads_has (contents name) (which.Policy n) _ (λ text. SaysPolicy text env before n (λ more. MeansPolicies contents env (n + 1) (front ++ rest) more R o) o) o is.1
+    (inl (is.0, is.1.says, leads_policies contents env R o front rest (n + 1) is.0 policies is.2 (subst (λ k. MeansPolicies contents env k rest policies R o) one_more m)))
 
 -- one more policy file
-pub one_policy_more : (held : Held) (env : Env) (front : List Word) (name : Word) (before policies more : List BinaryPolicy) →
-    ArePolicies held env front before policies → IsPolicy (held name) env policies more → ArePolicies held env (front ++ name ∷ []) before more
-one_policy_more held env [] name before policies more is one = (more, subst (λ ps. IsPolicy (held name) env ps more) is one, refl)
-one_policy_more held env (first ∷ front) name before policies more is one = (is.0, is.1, one_policy_more held env front name is.0 policies more is.2 one)
+pub one_policy_more : (contents : Contents) (env : Env) (front : List Word) (name : Word) (before policies more : List BinaryPolicy) →
+    ArePolicies contents env front before policies → IsPolicy (contents name) env policies more → ArePolicies contents env (front ++ name ∷ []) before more
+one_policy_more contents env [] name before policies more is one = (more, subst (λ ps. IsPolicy (contents name) env ps more) is one, refl)
+one_policy_more contents env (first ∷ front) name before policies more is one = (is.0, is.1, one_policy_more contents env front name is.0 policies more is.2 one)
 
 -- the names up to this name
 pub take_to : (front : List Word) (name : Word) (back : List Word) → take (length front + 1) (front ++ name ∷ back) ≡ front ++ name ∷ []
@@ -78,9 +78,9 @@ pub number_of_file : (names : List (Bor Word)) (i : ℕ) → i < length names �
 number_of_file names i inside = omega (arith, length-map (take i names) (λ (n : Bor Word). n.now), length-take-le i names (omega arith))
 
 -- the policy file that is reached after this many
-abbrev pub comes_at : (held : Held) (env : Env) (names : List (Bor Word)) (i : ℕ) (name : Bor Word) (policies : List BinaryPolicy) → i < length names → name ≡ get_or names i name →
-    ArePolicies held env (words_at (take i names)) [] policies → ComesTo held env (words_at names) (i + 1) name.now policies
-comes_at held env names i name policies inside is read = record {
+abbrev pub comes_at : (contents : Contents) (env : Env) (names : List (Bor Word)) (i : ℕ) (name : Bor Word) (policies : List BinaryPolicy) → i < length names → name ≡ get_or names i name →
+    ArePolicies contents env (words_at (take i names)) [] policies → ReachesFile contents env (words_at names) (i + 1) name.now policies
+comes_at contents env names i name policies inside is read = record {
   front = words_at (take i names);
   back = words_at (drop (i + 1) names);
   names_are = words_split names i name inside is;

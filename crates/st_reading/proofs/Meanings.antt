@@ -22,7 +22,7 @@ use Rattle.st_command.specs.Command.{StepWords, CheckWords, check_options}
 use Rattle.st_command.specs.declared.command.Command.{Command}
 use Rattle.st_command.specs.declared.command.Command.TheVariants as command
 use Rattle.st_reading.specs.Bare.{bare_env}
-use Rattle.st_reading.specs.Meaning.{Held, Meaning, Stops, Refuses, Runs, Prints, is_stop, Reads, Fetches, SaysScript, SaysPolicy, MeansPolicies, MeansSchedule, MeansBehindScript, MeansStep, MeansCanon, MeansCheck, Means, names_of, IsTold, AreTold}
+use Rattle.st_reading.specs.Meaning.{Contents, Meaning, Stops, Refuses, Runs, Prints, is_stop, ReadsFile, Fetches, SaysScript, SaysPolicy, MeansPolicies, MeansSchedule, MeansAfterScript, MeansStep, MeansCanon, MeansCheck, Means, names_of, IsFileKnown, AreFilesKnown}
 use Rattle.st_reading.specs.declared.refusal.Refusal.TheVariants.{Missing, TooLong, Script, Policy}
 use Rattle.st_reading.specs.declared.refusal.Which.{Which}
 use Rattle.st_reading.specs.declared.refusal.Which.TheVariants as which
@@ -39,26 +39,26 @@ stopped o w P go is = let yes : is_stop o ≡ true = ap is_stop is in cc
 too_long : (content text : List ℕ) → text ≡ content → FILE_LIMIT < length content → length text ≤ FILE_LIMIT → ⊥
 too_long content text same long short = let e : length text ≡ length content = ap length same in omega arith
 
-reads_one : (h : FileView) (w : Which) (R : List ℕ → Meaning → Type 0) → IsTold h → ((text : List ℕ) → IsOne (R text)) → (a b : Meaning) → is_stop a ≡ false → is_stop b ≡ false → Reads h w (λ text. R text a) a → Reads h w (λ text. R text b) b → a ≡ b
-reads_one Unknown w R told one a b u v p q = absurd told
-reads_one Absent w R told one a b u v (inl p) (inl q) = p.1 ∙ sym q.1
-reads_one Absent w R told one a b u v (inl p) (inr (inl q)) = absurd q.0
-reads_one Absent w R told one a b u v (inl p) (inr (inr q)) = absurd q.1
-reads_one Absent w R told one a b u v (inr (inl p)) q = absurd p.0
-reads_one Absent w R told one a b u v (inr (inr p)) q = absurd p.1
-reads_one (FileBytes text) w R told one a b u v (inl p) q = absurd p.0
-reads_one (FileBytes text) w R told one a b u v (inr p) (inl q) = absurd q.0
-reads_one (FileBytes text) w R told one a b u v (inr (inl p)) (inr (inl q)) = p.1 ∙ sym q.1
-reads_one (FileBytes text) w R told one a b u v (inr (inl p)) (inr (inr q)) = absurd (too_long text q.0 q.1 p.0 q.2)
-reads_one (FileBytes text) w R told one a b u v (inr (inr p)) (inr (inl q)) = absurd (too_long text p.0 p.1 q.0 p.2)
-reads_one (FileBytes text) w R told one a b u v (inr (inr p)) (inr (inr q)) =
+reads_one : (h : FileView) (w : Which) (R : List ℕ → Meaning → Type 0) → IsFileKnown h → ((text : List ℕ) → IsOne (R text)) → (a b : Meaning) → is_stop a ≡ false → is_stop b ≡ false → ReadsFile h w (λ text. R text a) a → ReadsFile h w (λ text. R text b) b → a ≡ b
+reads_one Unknown w R known one a b u v p q = absurd known
+reads_one Absent w R known one a b u v (inl p) (inl q) = p.1 ∙ sym q.1
+reads_one Absent w R known one a b u v (inl p) (inr (inl q)) = absurd q.0
+reads_one Absent w R known one a b u v (inl p) (inr (inr q)) = absurd q.1
+reads_one Absent w R known one a b u v (inr (inl p)) q = absurd p.0
+reads_one Absent w R known one a b u v (inr (inr p)) q = absurd p.1
+reads_one (FileBytes text) w R known one a b u v (inl p) q = absurd p.0
+reads_one (FileBytes text) w R known one a b u v (inr p) (inl q) = absurd q.0
+reads_one (FileBytes text) w R known one a b u v (inr (inl p)) (inr (inl q)) = p.1 ∙ sym q.1
+reads_one (FileBytes text) w R known one a b u v (inr (inl p)) (inr (inr q)) = absurd (too_long text q.0 q.1 p.0 q.2)
+reads_one (FileBytes text) w R known one a b u v (inr (inr p)) (inr (inl q)) = absurd (too_long text p.0 p.1 q.0 p.2)
+reads_one (FileBytes text) w R known one a b u v (inr (inr p)) (inr (inr q)) =
     one text a b u v (subst (λ t. R t a) p.1 p.3) (subst (λ t. R t b) q.1 q.3)
 
 -- a known file has one content, so a fetch has one meaning if each content has
-fetches_one : (h : FileView) (w : Which) (R : List ℕ → Meaning → Type 0) → IsTold h → ((text : List ℕ) → IsOne (R text)) → IsOne (λ o. Fetches h w (λ text. R text o) o)
-fetches_one h w R told one a b u v (inl p) q = stopped a w (a ≡ b) u p
-fetches_one h w R told one a b u v (inr p) (inl q) = stopped b w (a ≡ b) v q
-fetches_one h w R told one a b u v (inr p) (inr q) = reads_one h w R told one a b u v p q
+fetches_one : (h : FileView) (w : Which) (R : List ℕ → Meaning → Type 0) → IsFileKnown h → ((text : List ℕ) → IsOne (R text)) → IsOne (λ o. Fetches h w (λ text. R text o) o)
+fetches_one h w R known one a b u v (inl p) q = stopped a w (a ≡ b) u p
+fetches_one h w R known one a b u v (inr p) (inl q) = stopped b w (a ≡ b) v q
+fetches_one h w R known one a b u v (inr p) (inr q) = reads_one h w R known one a b u v p q
 
 script_one : (said : Result ReadScript ScriptFault) (R : ReadScript → Meaning → Type 0) → ((script : ReadScript) → IsOne (R script)) → IsOne (λ o. SaysScript said (λ script. R script o) o)
 script_one (Ok script) R one a b u v p q = one script a b u v p q
@@ -71,13 +71,13 @@ fault_or d (Some h) = h
 same_fault : (n : ℕ) (f g : PolicyRefusal) → Some f ≡ Some g → Refuses (Policy n f) ≡ Refuses (Policy n g)
 same_fault n f g e = ap (λ (h : PolicyRefusal). Refuses (Policy n h)) (ap (fault_or f) e)
 
-none_told : (found : Option PolicyRefusal) → option_map (λ refusal. refusal.fault) found ≡ None → found ≡ None
-none_told None e = refl
-none_told (Some refusal) e = absurd (cc)
+none_known : (found : Option PolicyRefusal) → option_map (λ refusal. refusal.fault) found ≡ None → found ≡ None
+none_known None e = refl
+none_known (Some refusal) e = absurd (cc)
 
 -- a text that has a reading is not refused
 unrefused : (text : List ℕ) (env : Env) (before policies : List BinaryPolicy) → policy.Reads text env before policies → refusal_in text env before ≡ None
-unrefused text env before policies reads = none_told (refusal_in text env before) (reads-faultless text env before policies reads)
+unrefused text env before policies reads = none_known (refusal_in text env before) (reads-faultless text env before policies reads)
 
 -- a text has exactly one reading, or a first fault
 policy_one : (text : List ℕ) (env : Env) (before : List BinaryPolicy) (n : ℕ) (R : List BinaryPolicy → Meaning → Type 0) → ((policies : List BinaryPolicy) → IsOne (R policies)) →
@@ -88,50 +88,50 @@ policy_one text env before n R one a b u v (inl p) (inr q) = let e : None ≡ So
 policy_one text env before n R one a b u v (inr p) (inl q) = let e : None ≡ Some p.0 = sym (unrefused text env before q.0 q.1) ∙ p.1 in absurd (cc)
 policy_one text env before n R one a b u v (inr p) (inr q) = p.2 ∙ same_fault n p.0 q.0 (sym p.1 ∙ q.1) ∙ sym q.2
 
-policies_one : (held : Held) (env : Env) (R : List BinaryPolicy → Meaning → Type 0) → ((policies : List BinaryPolicy) → IsOne (R policies)) →
-    (names : List Word) → AreTold held names → (n : ℕ) (before : List BinaryPolicy) → IsOne (λ o. MeansPolicies held env n names before (λ policies. R policies o) o)
-policies_one held env R one [] told n before = one before
-policies_one held env R one (name ∷ names) told n before =
-    fetches_one (held name) (which.Policy n) (λ text o. SaysPolicy text env before n (λ policies. MeansPolicies held env (n + 1) names policies (λ policies. R policies o) o) o) told.0
-    (λ text. policy_one text env before n (λ policies o. MeansPolicies held env (n + 1) names policies (λ policies. R policies o) o)
-    (policies_one held env R one names told.1 (n + 1)))
+policies_one : (contents : Contents) (env : Env) (R : List BinaryPolicy → Meaning → Type 0) → ((policies : List BinaryPolicy) → IsOne (R policies)) →
+    (names : List Word) → AreFilesKnown contents names → (n : ℕ) (before : List BinaryPolicy) → IsOne (λ o. MeansPolicies contents env n names before (λ policies. R policies o) o)
+policies_one contents env R one [] known n before = one before
+policies_one contents env R one (name ∷ names) known n before =
+    fetches_one (contents name) (which.Policy n) (λ text o. SaysPolicy text env before n (λ policies. MeansPolicies contents env (n + 1) names policies (λ policies. R policies o) o) o) known.0
+    (λ text. policy_one text env before n (λ policies o. MeansPolicies contents env (n + 1) names policies (λ policies. R policies o) o)
+    (policies_one contents env R one names known.1 (n + 1)))
 
-told_front : (held : Held) (front back : List Word) → AreTold held (front ++ back) → AreTold held front
-told_front held [] back told = tt
-told_front held (name ∷ front) back told = (told.0, told_front held front back told.1)
+known_front : (contents : Contents) (front back : List Word) → AreFilesKnown contents (front ++ back) → AreFilesKnown contents front
+known_front contents [] back known = tt
+known_front contents (name ∷ front) back known = (known.0, known_front contents front back known.1)
 
-told_back : (held : Held) (front back : List Word) → AreTold held (front ++ back) → AreTold held back
-told_back held [] back told = told
-told_back held (name ∷ front) back told = told_back held front back told.1
+known_back : (contents : Contents) (front back : List Word) → AreFilesKnown contents (front ++ back) → AreFilesKnown contents back
+known_back contents [] back known = known
+known_back contents (name ∷ front) back known = known_back contents front back known.1
 
 is_one : (outcome : Meaning) → IsOne (λ o. o ≡ outcome)
 is_one outcome a b u v p q = p ∙ sym q
 
-canon_one : (held : Held) (name : Word) (env : Env) → IsTold (held name) → IsOne (MeansCanon held name env)
-canon_one held name env told =
-    policies_one held env (λ policies o. o ≡ Prints (canon policies)) (λ policies. is_one (Prints (canon policies))) (name ∷ []) (told, tt) 1 []
+canon_one : (contents : Contents) (name : Word) (env : Env) → IsFileKnown (contents name) → IsOne (MeansCanon contents name env)
+canon_one contents name env known =
+    policies_one contents env (λ policies o. o ≡ Prints (canon policies)) (λ policies. is_one (Prints (canon policies))) (name ∷ []) (known, tt) 1 []
 
-step_one : (held : Held) (step : StepWords) → AreTold held (names_of (command.Step step)) → IsOne (MeansStep held step)
-step_one held step told =
-    let schedule_told : IsTold (held step.schedule) = (told_back held step.policies (step.schedule ∷ []) told.1).0 in
-    fetches_one (held step.script) which.Script (λ text o. SaysScript (script_in text step.options) (λ script. MeansBehindScript held step script o) o) told.0
-    (λ text. script_one (script_in text step.options) (MeansBehindScript held step)
-    (λ script. policies_one held script.env (λ policies o. MeansSchedule held step script policies o)
-    (λ policies. fetches_one (held step.schedule) which.Schedule (λ text o. o ≡ Runs (input_with policies step.options script) (schedule_in text)) schedule_told
+step_one : (contents : Contents) (step : StepWords) → AreFilesKnown contents (names_of (command.Step step)) → IsOne (MeansStep contents step)
+step_one contents step known =
+    let schedule_known : IsFileKnown (contents step.schedule) = (known_back contents step.policies (step.schedule ∷ []) known.1).0 in
+    fetches_one (contents step.script) which.Script (λ text o. SaysScript (script_in text step.options) (λ script. MeansAfterScript contents step script o) o) known.0
+    (λ text. script_one (script_in text step.options) (MeansAfterScript contents step)
+    (λ script. policies_one contents script.env (λ policies o. MeansSchedule contents step script policies o)
+    (λ policies. fetches_one (contents step.schedule) which.Schedule (λ text o. o ≡ Runs (input_with policies step.options script) (schedule_in text)) schedule_known
     (λ text. is_one (Runs (input_with policies step.options script) (schedule_in text))))
-    step.policies (told_front held step.policies (step.schedule ∷ []) told.1) 1 []))
+    step.policies (known_front contents step.policies (step.schedule ∷ []) known.1) 1 []))
 
-check_one : (held : Held) (policy : Word) (ids : Option (ℕ × ℕ)) (script : Option Word) → let check : CheckWords = record { policy = policy; script = script; ids = ids } in
-    AreTold held (names_of (command.Check check)) → IsOne (MeansCheck held check script)
-check_one held policy ids None told = canon_one held policy (bare_env (is_some ids)) told.0
-check_one held policy ids (Some name) told =
+check_one : (contents : Contents) (policy : Word) (ids : Option (ℕ × ℕ)) (script : Option Word) → let check : CheckWords = record { policy = policy; script = script; ids = ids } in
+    AreFilesKnown contents (names_of (command.Check check)) → IsOne (MeansCheck contents check script)
+check_one contents policy ids None known = canon_one contents policy (bare_env (is_some ids)) known.0
+check_one contents policy ids (Some name) known =
     let check : CheckWords = record { policy = policy; script = Some name; ids = ids } in
-    fetches_one (held name) which.Script (λ text o. SaysScript (script_in text (check_options check)) (λ script. MeansCanon held policy script.env o) o) told.0
-    (λ text. script_one (script_in text (check_options check)) (λ script o. MeansCanon held policy script.env o) (λ script. canon_one held policy script.env told.1.0))
+    fetches_one (contents name) which.Script (λ text o. SaysScript (script_in text (check_options check)) (λ script. MeansCanon contents policy script.env o) o) known.0
+    (λ text. script_one (script_in text (check_options check)) (λ script o. MeansCanon contents policy script.env o) (λ script. canon_one contents policy script.env known.1.0))
 
-pub one_meaning : (held : Held) (c : Command) → AreTold held (names_of c) → IsOne (Means held c)
-one_meaning held (command.Step step) told = step_one held step told
-one_meaning held (command.Check check) told = check_one held check.policy check.ids check.script told
+pub one_meaning : (contents : Contents) (c : Command) → AreFilesKnown contents (names_of c) → IsOne (Means contents c)
+one_meaning contents (command.Step step) known = step_one contents step known
+one_meaning contents (command.Check check) known = check_one contents check.policy check.ids check.script known
 
 -- ---- at least one meaning
 
@@ -143,10 +143,10 @@ cut_or_whole : (text : List ℕ) (b : Bool) → nat_le (length text) FILE_LIMIT 
 cut_or_whole text true e = inl (leb-true (length text) FILE_LIMIT e)
 cut_or_whole text false e = inr (grind (arith, nat_tests))
 
-fetches_some : (h : FileView) (w : Which) (R : List ℕ → Meaning → Type 0) → IsTold h → ((text : List ℕ) → HasOne (R text)) → HasOne (λ o. Fetches h w (λ text. R text o) o)
-fetches_some Unknown w R told some = absurd told
-fetches_some Absent w R told some = (Refuses (Missing w), refl, inr (inl (tt, refl)))
-fetches_some (FileBytes text) w R told some = by (cut_or_whole text (nat_le (length text) FILE_LIMIT) refl)
+fetches_some : (h : FileView) (w : Which) (R : List ℕ → Meaning → Type 0) → IsFileKnown h → ((text : List ℕ) → HasOne (R text)) → HasOne (λ o. Fetches h w (λ text. R text o) o)
+fetches_some Unknown w R known some = absurd known
+fetches_some Absent w R known some = (Refuses (Missing w), refl, inr (inl (tt, refl)))
+fetches_some (FileBytes text) w R known some = by (cut_or_whole text (nat_le (length text) FILE_LIMIT) refl)
   where
     by : (length text ≤ FILE_LIMIT) ⊎ (FILE_LIMIT < length text) → HasOne (λ o. Fetches (FileBytes text) w (λ text. R text o) o)
     by (inl whole) = let one = some text in (one.0, one.1, inr (inr (inr (text, refl, whole, one.2))))
@@ -167,39 +167,39 @@ policy_some text env before n R few some = by (refusal_in text env before) refl
         let one = some read.0 read.1.few in
         (one.0, one.1, inl (read.0, read.1, one.2))
 
-policies_some : (held : Held) (env : Env) (R : List BinaryPolicy → Meaning → Type 0) → ((policies : List BinaryPolicy) → HasOne (R policies)) →
-    (names : List Word) → AreTold held names → (n : ℕ) (before : List BinaryPolicy) → filters_in before ≤ MOST_FILTERS → HasOne (λ o. MeansPolicies held env n names before (λ policies. R policies o) o)
-policies_some held env R some [] told n before few = some before
-policies_some held env R some (name ∷ names) told n before few =
-    fetches_some (held name) (which.Policy n) (λ text o. SaysPolicy text env before n (λ policies. MeansPolicies held env (n + 1) names policies (λ policies. R policies o) o) o) told.0
-    (λ text. policy_some text env before n (λ policies o. MeansPolicies held env (n + 1) names policies (λ policies. R policies o) o) few
-    (λ policies more. policies_some held env R some names told.1 (n + 1) policies more))
+policies_some : (contents : Contents) (env : Env) (R : List BinaryPolicy → Meaning → Type 0) → ((policies : List BinaryPolicy) → HasOne (R policies)) →
+    (names : List Word) → AreFilesKnown contents names → (n : ℕ) (before : List BinaryPolicy) → filters_in before ≤ MOST_FILTERS → HasOne (λ o. MeansPolicies contents env n names before (λ policies. R policies o) o)
+policies_some contents env R some [] known n before few = some before
+policies_some contents env R some (name ∷ names) known n before few =
+    fetches_some (contents name) (which.Policy n) (λ text o. SaysPolicy text env before n (λ policies. MeansPolicies contents env (n + 1) names policies (λ policies. R policies o) o) o) known.0
+    (λ text. policy_some text env before n (λ policies o. MeansPolicies contents env (n + 1) names policies (λ policies. R policies o) o) few
+    (λ policies more. policies_some contents env R some names known.1 (n + 1) policies more))
 
 is_some_one : (outcome : Meaning) → is_stop outcome ≡ false → HasOne (λ o. o ≡ outcome)
 is_some_one outcome go = (outcome, go, refl)
 
-canon_some : (held : Held) (name : Word) (env : Env) → IsTold (held name) → HasOne (MeansCanon held name env)
-canon_some held name env told =
-    policies_some held env (λ policies o. o ≡ Prints (canon policies)) (λ policies. is_some_one (Prints (canon policies)) refl) (name ∷ []) (told, tt) 1 [] (omega arith)
+canon_some : (contents : Contents) (name : Word) (env : Env) → IsFileKnown (contents name) → HasOne (MeansCanon contents name env)
+canon_some contents name env known =
+    policies_some contents env (λ policies o. o ≡ Prints (canon policies)) (λ policies. is_some_one (Prints (canon policies)) refl) (name ∷ []) (known, tt) 1 [] (omega arith)
 
-step_some : (held : Held) (step : StepWords) → AreTold held (names_of (command.Step step)) → HasOne (MeansStep held step)
-step_some held step told =
-    let schedule_told : IsTold (held step.schedule) = (told_back held step.policies (step.schedule ∷ []) told.1).0 in
-    fetches_some (held step.script) which.Script (λ text o. SaysScript (script_in text step.options) (λ script. MeansBehindScript held step script o) o) told.0
-    (λ text. script_some (script_in text step.options) (MeansBehindScript held step)
-    (λ script. policies_some held script.env (λ policies o. MeansSchedule held step script policies o)
-    (λ policies. fetches_some (held step.schedule) which.Schedule (λ text o. o ≡ Runs (input_with policies step.options script) (schedule_in text)) schedule_told
+step_some : (contents : Contents) (step : StepWords) → AreFilesKnown contents (names_of (command.Step step)) → HasOne (MeansStep contents step)
+step_some contents step known =
+    let schedule_known : IsFileKnown (contents step.schedule) = (known_back contents step.policies (step.schedule ∷ []) known.1).0 in
+    fetches_some (contents step.script) which.Script (λ text o. SaysScript (script_in text step.options) (λ script. MeansAfterScript contents step script o) o) known.0
+    (λ text. script_some (script_in text step.options) (MeansAfterScript contents step)
+    (λ script. policies_some contents script.env (λ policies o. MeansSchedule contents step script policies o)
+    (λ policies. fetches_some (contents step.schedule) which.Schedule (λ text o. o ≡ Runs (input_with policies step.options script) (schedule_in text)) schedule_known
     (λ text. is_some_one (Runs (input_with policies step.options script) (schedule_in text)) refl))
-    step.policies (told_front held step.policies (step.schedule ∷ []) told.1) 1 [] (omega arith)))
+    step.policies (known_front contents step.policies (step.schedule ∷ []) known.1) 1 [] (omega arith)))
 
-check_some : (held : Held) (policy : Word) (ids : Option (ℕ × ℕ)) (script : Option Word) → let check : CheckWords = record { policy = policy; script = script; ids = ids } in
-    AreTold held (names_of (command.Check check)) → HasOne (MeansCheck held check script)
-check_some held policy ids None told = canon_some held policy (bare_env (is_some ids)) told.0
-check_some held policy ids (Some name) told =
+check_some : (contents : Contents) (policy : Word) (ids : Option (ℕ × ℕ)) (script : Option Word) → let check : CheckWords = record { policy = policy; script = script; ids = ids } in
+    AreFilesKnown contents (names_of (command.Check check)) → HasOne (MeansCheck contents check script)
+check_some contents policy ids None known = canon_some contents policy (bare_env (is_some ids)) known.0
+check_some contents policy ids (Some name) known =
     let check : CheckWords = record { policy = policy; script = Some name; ids = ids } in
-    fetches_some (held name) which.Script (λ text o. SaysScript (script_in text (check_options check)) (λ script. MeansCanon held policy script.env o) o) told.0
-    (λ text. script_some (script_in text (check_options check)) (λ script o. MeansCanon held policy script.env o) (λ script. canon_some held policy script.env told.1.0))
+    fetches_some (contents name) which.Script (λ text o. SaysScript (script_in text (check_options check)) (λ script. MeansCanon contents policy script.env o) o) known.0
+    (λ text. script_some (script_in text (check_options check)) (λ script o. MeansCanon contents policy script.env o) (λ script. canon_some contents policy script.env known.1.0))
 
-pub some_meaning : (held : Held) (c : Command) → AreTold held (names_of c) → HasOne (Means held c)
-some_meaning held (command.Step step) told = step_some held step told
-some_meaning held (command.Check check) told = check_some held check.policy check.ids check.script told
+pub some_meaning : (contents : Contents) (c : Command) → AreFilesKnown contents (names_of c) → HasOne (Means contents c)
+some_meaning contents (command.Step step) known = step_some contents step known
+some_meaning contents (command.Check check) known = check_some contents check.policy check.ids check.script known

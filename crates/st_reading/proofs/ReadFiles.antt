@@ -14,7 +14,7 @@ use Rattle.st_script.specs.declared.reading.ReadScript.{ReadScript}
 use Rattle.st_command.specs.Words.{Word}
 use Rattle.st_command.specs.Command.{StepWords}
 use Rattle.st_reading.specs.Files.{Has}
-use Rattle.st_reading.specs.Meaning.{Held, Meaning, Stops, Refuses, Runs, Prints, Fetches, SaysScript, SaysPolicy, MeansPolicies, MeansSchedule, MeansBehindScript, MeansStep}
+use Rattle.st_reading.specs.Meaning.{Contents, Meaning, Stops, Refuses, Runs, Prints, Fetches, SaysScript, SaysPolicy, MeansPolicies, MeansSchedule, MeansAfterScript, MeansStep}
 use Rattle.st_reading.specs.declared.refusal.Which.{Which}
 use Rattle.st_reading.specs.declared.refusal.Which.TheVariants as which
 
@@ -34,18 +34,18 @@ abbrev pub IsKept : PolicyProperty → FileView → Type 0
 IsKept P view = (env : Env) (text : List ℕ) (old set : List BinaryPolicy) → CanHold view text → Reads text env old set → P env old → P env set
 
 -- the property still holds with the file of each of some names
-abbrev pub AreKept : PolicyProperty → Held → List Word → Type 0
-AreKept P held [] = Unit {0}
-AreKept P held (name ∷ names) = IsKept P (held name) × AreKept P held names
+abbrev pub AreKept : PolicyProperty → Contents → List Word → Type 0
+AreKept P contents [] = Unit {0}
+AreKept P contents (name ∷ names) = IsKept P (contents name) × AreKept P contents names
 
 -- what every file preserves, the files of some names preserve
-pub each_kept : (P : PolicyProperty) (held : Held) → ((name : Word) → IsKept P (held name)) → (names : List Word) → AreKept P held names
-each_kept P held keeps [] = tt
-each_kept P held keeps (name ∷ names) = (keeps name, each_kept P held keeps names)
+pub each_kept : (P : PolicyProperty) (contents : Contents) → ((name : Word) → IsKept P (contents name)) → (names : List Word) → AreKept P contents names
+each_kept P contents keeps [] = tt
+each_kept P contents keeps (name ∷ names) = (keeps name, each_kept P contents keeps names)
 
-module _ (held : Held) (outcome : Meaning) (read : IsRead outcome) where
+module _ (contents : Contents) (outcome : Meaning) (read : IsRead outcome) where
   -- each file that is reached is fetched
-  pub fetched : (name : Word) (w : Which) (Read : List ℕ → Type 0) → Fetches (held name) w Read outcome → Has (held name) Read
+  pub fetched : (name : Word) (w : Which) (Read : List ℕ → Type 0) → Fetches (contents name) w Read outcome → Has (contents name) Read
   fetched name w Read (inl is) = absurd (subst IsRead is read)
   fetched name w Read (inr (inl p)) = absurd (subst IsRead p.1 read)
   fetched name w Read (inr (inr (inl p))) = absurd (subst IsRead p.1 read)
@@ -61,11 +61,11 @@ module _ (held : Held) (outcome : Meaning) (read : IsRead outcome) where
   text_read text env before n Read (inr p) = absurd (subst IsRead p.2 read)
 
   -- policies are read that have a property which each file preserves
-  pub policies_read : (P : PolicyProperty) (env : Env) (Read : List BinaryPolicy → Type 0) (names : List Word) → AreKept P held names → (n : ℕ) (before : List BinaryPolicy) → P env before →
-      MeansPolicies held env n names before Read outcome → (policies : List BinaryPolicy) × P env policies × Read policies
+  pub policies_read : (P : PolicyProperty) (env : Env) (Read : List BinaryPolicy → Type 0) (names : List Word) → AreKept P contents names → (n : ℕ) (before : List BinaryPolicy) → P env before →
+      MeansPolicies contents env n names before Read outcome → (policies : List BinaryPolicy) × P env policies × Read policies
   policies_read P env Read [] keeps n before kept meant = (before, kept, meant)
   policies_read P env Read (name ∷ names) keeps n before kept meant =
-      let further : List BinaryPolicy → Type 0 = λ policies. MeansPolicies held env (n + 1) names policies Read outcome in
+      let further : List BinaryPolicy → Type 0 = λ policies. MeansPolicies contents env (n + 1) names policies Read outcome in
       let x = fetched name (which.Policy n) (λ text. SaysPolicy text env before n further outcome) meant in
       let y = text_read x.text env before n further x.says in
       policies_read P env Read names keeps.1 (n + 1) y.0 (keeps.0 env x.text before y.0 x.content y.1 kept) y.2
@@ -73,24 +73,24 @@ module _ (held : Held) (outcome : Meaning) (read : IsRead outcome) where
 -- ---- `step`
 
 -- what `step` has read, if it means a run or a text
-pub record IsStepRead (P : PolicyProperty) (held : Held) (step : StepWords) (outcome : Meaning) : Type 0 where
+pub record IsStepRead (P : PolicyProperty) (contents : Contents) (step : StepWords) (outcome : Meaning) : Type 0 where
   pub script_text : List ℕ
-  pub script_held : CanHold (held step.script) script_text
+  pub script_held : CanHold (contents step.script) script_text
   pub script_within : length script_text ≤ FILE_LIMIT
   pub script : ReadScript
   pub script_is : script_in script_text step.options ≡ Ok script
   pub policies : List BinaryPolicy
   pub kept : P script.env policies
   pub schedule_text : List ℕ
-  pub schedule_held : CanHold (held step.schedule) schedule_text
+  pub schedule_held : CanHold (contents step.schedule) schedule_text
   pub outcome_is : outcome ≡ Runs (input_with policies step.options script) (schedule_in schedule_text)
 
-pub step_read : (P : PolicyProperty) → ((env : Env) → P env []) → (held : Held) (step : StepWords) → AreKept P held step.policies → (outcome : Meaning) → IsRead outcome → MeansStep held step outcome → IsStepRead P held step outcome
-step_read P none held step keeps outcome read meant =
-    let x = fetched held outcome read step.script which.Script (λ text. SaysScript (script_in text step.options) (λ script. MeansBehindScript held step script outcome) outcome) meant in
-    let s = script_read held outcome read (script_in x.text step.options) (λ script. MeansBehindScript held step script outcome) x.says in
-    let p = policies_read held outcome read P s.0.env (λ policies. MeansSchedule held step s.0 policies outcome) step.policies keeps 1 [] (none s.0.env) s.2 in
-    let c = fetched held outcome read step.schedule which.Schedule (λ text. outcome ≡ Runs (input_with p.0 step.options s.0) (schedule_in text)) p.2 in
+pub step_read : (P : PolicyProperty) → ((env : Env) → P env []) → (contents : Contents) (step : StepWords) → AreKept P contents step.policies → (outcome : Meaning) → IsRead outcome → MeansStep contents step outcome → IsStepRead P contents step outcome
+step_read P none contents step keeps outcome read meant =
+    let x = fetched contents outcome read step.script which.Script (λ text. SaysScript (script_in text step.options) (λ script. MeansAfterScript contents step script outcome) outcome) meant in
+    let s = script_read contents outcome read (script_in x.text step.options) (λ script. MeansAfterScript contents step script outcome) x.says in
+    let p = policies_read contents outcome read P s.0.env (λ policies. MeansSchedule contents step s.0 policies outcome) step.policies keeps 1 [] (none s.0.env) s.2 in
+    let c = fetched contents outcome read step.schedule which.Schedule (λ text. outcome ≡ Runs (input_with p.0 step.options s.0) (schedule_in text)) p.2 in
     record {
       script_text = x.text;
       script_held = x.content;

@@ -17,9 +17,9 @@ use Rattle.st_command.specs.Command.{StepWords, CheckWords, check_options}
 use Rattle.st_command.specs.Grammar.{maybe_word}
 use Rattle.st_command.specs.declared.command.Command.{Command}
 use Rattle.st_command.specs.declared.command.Command.TheVariants as command
-use Rattle.st_reading.specs.Meaning.{Held, Meaning, is_stop, Stops, Refuses, Runs, Prints, SaysScript, SaysPolicy, Fetches, MeansPolicies, MeansSchedule, MeansBehindScript, MeansCanon, MeansCheck, Means, names_to}
-use Rattle.st_reading.specs.Files.{Has, FetchRefused, IsScript, ScriptRefused, PolicyRefused, ArePolicies, ComesTo, PoliciesRefused, GivesEnv, EnvRefused}
-use Rattle.st_reading.specs.Ends.{AskedTo, StopsAt, Refused, as_meaning, ending, Ends}
+use Rattle.st_reading.specs.Meaning.{Contents, Meaning, is_stop, Stops, Refuses, Runs, Prints, SaysScript, SaysPolicy, Fetches, MeansPolicies, MeansSchedule, MeansAfterScript, MeansCanon, MeansCheck, Means, names_to}
+use Rattle.st_reading.specs.Files.{Has, FetchRefused, IsScript, ScriptRefused, PolicyRefused, ArePolicies, ReachesFile, PoliciesRefused, GivesEnv, EnvRefused}
+use Rattle.st_reading.specs.Ends.{AskedTo, StopsAt, RefusesReading, as_meaning, ending, EndsReading}
 use Rattle.st_reading.specs.declared.reading.Reading.{Reading}
 use Rattle.st_reading.specs.declared.reading.Reading.TheVariants as reading
 use Rattle.st_reading.specs.declared.refusal.Refusal.{Refusal}
@@ -29,18 +29,18 @@ use Rattle.st_reading.specs.declared.refusal.Which.TheVariants as which
 use Rattle.st_reading.proofs.Leads.{leads_has, leads_script, leads_policies, take_to, has_fits}
 use Rattle.st_reading.proofs.Meanings.{IsOne}
 
-module _ (held : Held) (c : Command) (faults faults_after : ℕ) (old new : List Word) where
+module _ (contents : Contents) (c : Command) (faults faults_after : ℕ) (old new : List Word) where
   -- one file of the command, which is reached and was the last that was asked for
   module _ (w : Which) (name : Word) (front : List Word) (named : names_to c w ≡ front ++ name ∷ []) (asked : AskedTo c w old new) where
-    stops : Means held c (Stops w) → StopsAt held c old new w
+    stops : Means contents c (Stops w) → StopsAt contents c old new w
     stops meant = record { meant = meant; asked = asked }
 
-    pub fetch_refused : (R : List ℕ → Meaning → Type 0) → ((o : Meaning) → Fetches (held name) w (λ text. R text o) o → Means held c o) →
-        (r : Refusal) → FetchRefused (held name) w faults faults_after r → Refused held c faults faults_after old new r
+    pub fetch_refused : (R : List ℕ → Meaning → Type 0) → ((o : Meaning) → Fetches (contents name) w (λ text. R text o) o → Means contents c o) →
+        (r : Refusal) → FetchRefused (contents name) w faults faults_after r → RefusesReading contents c faults faults_after old new r
     fetch_refused R lead (Missing other) p =
-        subst (λ v. Means held c (Refuses (Missing v)) × AskedTo c v old new) (sym p.0) (lead (Refuses (Missing w)) (inr (inl (p.1, refl))), asked)
+        subst (λ v. Means contents c (Refuses (Missing v)) × AskedTo c v old new) (sym p.0) (lead (Refuses (Missing w)) (inr (inl (p.1, refl))), asked)
     fetch_refused R lead (TooLong other) p =
-        subst (λ v. Means held c (Refuses (TooLong v)) × AskedTo c v old new) (sym p.0) (lead (Refuses (TooLong w)) (inr (inr (inl (p.1, refl)))), asked)
+        subst (λ v. Means contents c (Refuses (TooLong v)) × AskedTo c v old new) (sym p.0) (lead (Refuses (TooLong w)) (inr (inr (inl (p.1, refl)))), asked)
     fetch_refused R lead ReadFault p = (p, (w, stops (lead (Stops w) (inl refl))))
     fetch_refused R lead NoMemory p =
         inr (w, stops (lead (Stops w) (inl refl)), record { front = front; name = name; names_are = named; fits = p })
@@ -49,10 +49,10 @@ module _ (held : Held) (c : Command) (faults faults_after : ℕ) (old new : List
 
   -- a script file that is refused
   pub script_refused : (name : Word) (options : Options) (R : ReadScript → Meaning → Type 0) → names_to c which.Script ≡ name ∷ [] → AskedTo c which.Script old new →
-      ((o : Meaning) → Fetches (held name) which.Script (λ text. SaysScript (script_in text options) (λ script. R script o) o) o → Means held c o) →
-      (r : Refusal) → ScriptRefused (held name) options faults faults_after r → Refused held c faults faults_after old new r
+      ((o : Meaning) → Fetches (contents name) which.Script (λ text. SaysScript (script_in text options) (λ script. R script o) o) o → Means contents c o) →
+      (r : Refusal) → ScriptRefused (contents name) options faults faults_after r → RefusesReading contents c faults faults_after old new r
   script_refused name options R named asked lead (Script fault) p = (
-    lead (Refuses (Script fault)) (leads_has (held name) which.Script _ (λ text. SaysScript (script_in text options) (λ script. R script (Refuses (Script fault))) (Refuses (Script fault))) (Refuses (Script fault)) p
+    lead (Refuses (Script fault)) (leads_has (contents name) which.Script _ (λ text. SaysScript (script_in text options) (λ script. R script (Refuses (Script fault))) (Refuses (Script fault))) (Refuses (Script fault)) p
         (subst (λ s. SaysScript s (λ script. R script (Refuses (Script fault))) (Refuses (Script fault))) (sym p.says) refl)),
     asked,
   )
@@ -68,18 +68,18 @@ module _ (held : Held) (c : Command) (faults faults_after : ℕ) (old new : List
 
   -- one of several policy files that is refused
   module _ (env : Env) (names first : List Word) (Read : List BinaryPolicy → Meaning → Type 0)
-      (lead : (o : Meaning) → MeansPolicies held env 1 names [] (λ policies. Read policies o) o → Means held c o)
+      (lead : (o : Meaning) → MeansPolicies contents env 1 names [] (λ policies. Read policies o) o → Means contents c o)
       (named : (n : ℕ) → names_to c (which.Policy n) ≡ first ++ take n names) where
-    module _ (n : ℕ) (name : Word) (before : List BinaryPolicy) (comes : ComesTo held env names n name before) (asked_are : new ≡ (old ++ first) ++ (comes.front ++ name ∷ [])) where
+    module _ (n : ℕ) (name : Word) (before : List BinaryPolicy) (comes : ReachesFile contents env names n name before) (asked_are : new ≡ (old ++ first) ++ (comes.front ++ name ∷ [])) where
       abbrev Here : List ℕ → Meaning → Type 0
-      Here text o = SaysPolicy text env before n (λ policies. MeansPolicies held env (n + 1) comes.back policies (λ policies. Read policies o) o) o
+      Here text o = SaysPolicy text env before n (λ policies. MeansPolicies contents env (n + 1) comes.back policies (λ policies. Read policies o) o) o
 
-      leads_here : (o : Meaning) → Fetches (held name) (which.Policy n) (λ text. Here text o) o → Means held c o
+      leads_here : (o : Meaning) → Fetches (contents name) (which.Policy n) (λ text. Here text o) o → Means contents c o
       leads_here o m =
           let number : n ≡ 1 + length comes.front = omega (arith, comes.number) in
-          lead o (subst (λ ns. MeansPolicies held env 1 ns [] (λ policies. Read policies o) o) (sym comes.names_are)
-          (leads_policies held env (λ policies. Read policies o) o comes.front (name ∷ comes.back) 1 [] before comes.read
-          (subst (λ k. MeansPolicies held env k (name ∷ comes.back) before (λ policies. Read policies o) o) number m)))
+          lead o (subst (λ ns. MeansPolicies contents env 1 ns [] (λ policies. Read policies o) o) (sym comes.names_are)
+          (leads_policies contents env (λ policies. Read policies o) o comes.front (name ∷ comes.back) 1 [] before comes.read
+          (subst (λ k. MeansPolicies contents env k (name ∷ comes.back) before (λ policies. Read policies o) o) number m)))
 
       named_here : names_to c (which.Policy n) ≡ (first ++ comes.front) ++ name ∷ []
       named_here =
@@ -91,18 +91,18 @@ module _ (held : Held) (c : Command) (faults faults_after : ℕ) (old new : List
           asked_are ∙ append_assoc old first (comes.front ++ name ∷ []) ∙
           ap (λ ns. old ++ ns) (sym (append_assoc first comes.front (name ∷ [])) ∙ sym named_here)
 
-      policy_refused : (r : Refusal) → PolicyRefused (held name) env before n faults faults_after r → Refused held c faults faults_after old new r
+      policy_refused : (r : Refusal) → PolicyRefused (contents name) env before n faults faults_after r → RefusesReading contents c faults faults_after old new r
       policy_refused (Policy other fault) p =
           let o : Meaning = Refuses (Policy n fault) in
-          subst (λ k. Means held c (Refuses (Policy k fault)) × AskedTo c (which.Policy k) old new) (sym p.0)
-          (leads_here o (leads_has (held name) (which.Policy n) (λ text. refusal_in text env before ≡ Some fault) (λ text. Here text o) o p.1 (inr (fault, p.1.says, refl))), asked_here)
+          subst (λ k. Means contents c (Refuses (Policy k fault)) × AskedTo c (which.Policy k) old new) (sym p.0)
+          (leads_here o (leads_has (contents name) (which.Policy n) (λ text. refusal_in text env before ≡ Some fault) (λ text. Here text o) o p.1 (inr (fault, p.1.says, refl))), asked_here)
       policy_refused (Missing w) p = fetch_refused (which.Policy n) name (first ++ comes.front) named_here asked_here Here leads_here (Missing w) p
       policy_refused (TooLong w) p = fetch_refused (which.Policy n) name (first ++ comes.front) named_here asked_here Here leads_here (TooLong w) p
       policy_refused ReadFault p = fetch_refused (which.Policy n) name (first ++ comes.front) named_here asked_here Here leads_here ReadFault p
       policy_refused NoMemory p = fetch_refused (which.Policy n) name (first ++ comes.front) named_here asked_here Here leads_here NoMemory p
       policy_refused (Script fault) p = absurd p
 
-    pub policies_refused : (r : Refusal) → PoliciesRefused held env names faults faults_after (old ++ first) new r → Refused held c faults faults_after old new r
+    pub policies_refused : (r : Refusal) → PoliciesRefused contents env names faults faults_after (old ++ first) new r → RefusesReading contents c faults faults_after old new r
     policies_refused r p = policy_refused p.n p.name p.policies p.comes p.asked r p.refused
 
 append_nil : (names : List Word) → names ++ [] ≡ names
@@ -111,101 +111,101 @@ append_nil (name ∷ names) = ap (λ ns. name ∷ ns) (append_nil names)
 
 -- ---- `step`
 
-module _ (held : Held) (step : StepWords) where
-  behind_script : (script : ReadScript) → IsScript (held step.script) step.options script → (o : Meaning) → MeansBehindScript held step script o → Means held (command.Step step) o
-  behind_script script is o m = leads_script (held step.script) step.options script (λ script. MeansBehindScript held step script o) o is m
+module _ (contents : Contents) (step : StepWords) where
+  after_script : (script : ReadScript) → IsScript (contents step.script) step.options script → (o : Meaning) → MeansAfterScript contents step script o → Means contents (command.Step step) o
+  after_script script is o m = leads_script (contents step.script) step.options script (λ script. MeansAfterScript contents step script o) o is m
 
-  behind_policies : (script : ReadScript) (policies : List BinaryPolicy) → IsScript (held step.script) step.options script → ArePolicies held script.env step.policies [] policies →
-      (o : Meaning) → MeansSchedule held step script policies o → Means held (command.Step step) o
-  behind_policies script policies is are o m =
-      behind_script script is o (subst (λ ns. MeansPolicies held script.env 1 ns [] (λ ps. MeansSchedule held step script ps o) o) (append_nil step.policies)
-      (leads_policies held script.env (λ ps. MeansSchedule held step script ps o) o step.policies [] 1 [] policies are m))
+  after_policies : (script : ReadScript) (policies : List BinaryPolicy) → IsScript (contents step.script) step.options script → ArePolicies contents script.env step.policies [] policies →
+      (o : Meaning) → MeansSchedule contents step script policies o → Means contents (command.Step step) o
+  after_policies script policies is are o m =
+      after_script script is o (subst (λ ns. MeansPolicies contents script.env 1 ns [] (λ ps. MeansSchedule contents step script ps o) o) (append_nil step.policies)
+      (leads_policies contents script.env (λ ps. MeansSchedule contents step script ps o) o step.policies [] 1 [] policies are m))
 
   -- with all its files read, `step` means to run this input
-  pub step_means : (script : ReadScript) (policies : List BinaryPolicy) (schedule : ReadSchedule) → IsScript (held step.script) step.options script →
-      ArePolicies held script.env step.policies [] policies → Has (held step.schedule) (λ text. schedule ≡ schedule_in text) → Means held (command.Step step) (Runs (input_with policies step.options script) schedule)
+  pub step_means : (script : ReadScript) (policies : List BinaryPolicy) (schedule : ReadSchedule) → IsScript (contents step.script) step.options script →
+      ArePolicies contents script.env step.policies [] policies → Has (contents step.schedule) (λ text. schedule ≡ schedule_in text) → Means contents (command.Step step) (Runs (input_with policies step.options script) schedule)
   step_means script policies schedule is are read =
       let o : Meaning = Runs (input_with policies step.options script) schedule in
-      behind_policies script policies is are o
-      (leads_has (held step.schedule) which.Schedule (λ text. schedule ≡ schedule_in text) (λ text. o ≡ Runs (input_with policies step.options script) (schedule_in text)) o read
+      after_policies script policies is are o
+      (leads_has (contents step.schedule) which.Schedule (λ text. schedule ≡ schedule_in text) (λ text. o ≡ Runs (input_with policies step.options script) (schedule_in text)) o read
       (ap (Runs (input_with policies step.options script)) read.says))
 
   module _ (faults faults_after : ℕ) (old new : List Word) where
-    pub step_script_refused : new ≡ old ++ step.script ∷ [] → (r : Refusal) → ScriptRefused (held step.script) step.options faults faults_after r →
-        Refused held (command.Step step) faults faults_after old new r
+    pub step_script_refused : new ≡ old ++ step.script ∷ [] → (r : Refusal) → ScriptRefused (contents step.script) step.options faults faults_after r →
+        RefusesReading contents (command.Step step) faults faults_after old new r
     step_script_refused asked r p =
-        script_refused held (command.Step step) faults faults_after old new step.script step.options (MeansBehindScript held step) refl asked (λ o m. m) r p
+        script_refused contents (command.Step step) faults faults_after old new step.script step.options (MeansAfterScript contents step) refl asked (λ o m. m) r p
 
-    pub step_policies_refused : (script : ReadScript) → IsScript (held step.script) step.options script → (r : Refusal) →
-        PoliciesRefused held script.env step.policies faults faults_after (old ++ step.script ∷ []) new r → Refused held (command.Step step) faults faults_after old new r
+    pub step_policies_refused : (script : ReadScript) → IsScript (contents step.script) step.options script → (r : Refusal) →
+        PoliciesRefused contents script.env step.policies faults faults_after (old ++ step.script ∷ []) new r → RefusesReading contents (command.Step step) faults faults_after old new r
     step_policies_refused script is r p =
-        policies_refused held (command.Step step) faults faults_after old new script.env step.policies (step.script ∷ []) (MeansSchedule held step script)
-        (behind_script script is) (λ n. refl) r p
+        policies_refused contents (command.Step step) faults faults_after old new script.env step.policies (step.script ∷ []) (MeansSchedule contents step script)
+        (after_script script is) (λ n. refl) r p
 
     all_asked : new ≡ ((old ++ step.script ∷ []) ++ step.policies) ++ step.schedule ∷ [] → AskedTo (command.Step step) which.Schedule old new
     all_asked asked =
         asked ∙ append_assoc (old ++ step.script ∷ []) step.policies (step.schedule ∷ []) ∙ append_assoc old (step.script ∷ []) (step.policies ++ step.schedule ∷ [])
 
-    pub step_schedule_refused : (script : ReadScript) (policies : List BinaryPolicy) → IsScript (held step.script) step.options script → ArePolicies held script.env step.policies [] policies →
-        new ≡ ((old ++ step.script ∷ []) ++ step.policies) ++ step.schedule ∷ [] → (r : Refusal) → FetchRefused (held step.schedule) which.Schedule faults faults_after r →
-        Refused held (command.Step step) faults faults_after old new r
+    pub step_schedule_refused : (script : ReadScript) (policies : List BinaryPolicy) → IsScript (contents step.script) step.options script → ArePolicies contents script.env step.policies [] policies →
+        new ≡ ((old ++ step.script ∷ []) ++ step.policies) ++ step.schedule ∷ [] → (r : Refusal) → FetchRefused (contents step.schedule) which.Schedule faults faults_after r →
+        RefusesReading contents (command.Step step) faults faults_after old new r
     step_schedule_refused script policies is are asked r p =
-        fetch_refused held (command.Step step) faults faults_after old new which.Schedule step.schedule (step.script ∷ step.policies) refl (all_asked asked)
-        (λ text o. o ≡ Runs (input_with policies step.options script) (schedule_in text)) (behind_policies script policies is are) r p
+        fetch_refused contents (command.Step step) faults faults_after old new which.Schedule step.schedule (step.script ∷ step.policies) refl (all_asked asked)
+        (λ text o. o ≡ Runs (input_with policies step.options script) (schedule_in text)) (after_policies script policies is are) r p
 
-    pub step_read : (script : ReadScript) (policies : List BinaryPolicy) (schedule : ReadSchedule) → IsScript (held step.script) step.options script →
-        ArePolicies held script.env step.policies [] policies → Has (held step.schedule) (λ text. schedule ≡ schedule_in text) →
+    pub step_read : (script : ReadScript) (policies : List BinaryPolicy) (schedule : ReadSchedule) → IsScript (contents step.script) step.options script →
+        ArePolicies contents script.env step.policies [] policies → Has (contents step.schedule) (λ text. schedule ≡ schedule_in text) →
         new ≡ ((old ++ step.script ∷ []) ++ step.policies) ++ step.schedule ∷ [] →
-        Ends held (command.Step step) faults faults_after old new (Ok (reading.Run (input_with policies step.options script) schedule))
+        EndsReading contents (command.Step step) faults faults_after old new (Ok (reading.Run (input_with policies step.options script) schedule))
     step_read script policies schedule is are read asked = (step_means script policies schedule is are read, all_asked asked)
 
 -- ---- `check`
 
 -- the environment that `check` reads its policy with leads to what is meant after it
-check_leads : (held : Held) (check : CheckWords) (script : Option Word) (env : Env) → GivesEnv held check script env → (o : Meaning) → MeansCanon held check.policy env o → MeansCheck held check script o
-check_leads held check None env gives o m = subst (λ e. MeansCanon held check.policy e o) gives m
-check_leads held check (Some name) env gives o m =
-    leads_script (held name) (check_options check) gives.0 (λ script. MeansCanon held check.policy script.env o) o gives.1
-    (subst (λ e. MeansCanon held check.policy e o) gives.2 m)
+check_leads : (contents : Contents) (check : CheckWords) (script : Option Word) (env : Env) → GivesEnv contents check script env → (o : Meaning) → MeansCanon contents check.policy env o → MeansCheck contents check script o
+check_leads contents check None env gives o m = subst (λ e. MeansCanon contents check.policy e o) gives m
+check_leads contents check (Some name) env gives o m =
+    leads_script (contents name) (check_options check) gives.0 (λ script. MeansCanon contents check.policy script.env o) o gives.1
+    (subst (λ e. MeansCanon contents check.policy e o) gives.2 m)
 
-module _ (held : Held) (faults faults_after : ℕ) (old new : List Word) where
-  check_refused : (policy : Word) (ids : Option (ℕ × ℕ)) (script : Option Word) (r : Refusal) → EnvRefused held (record { policy = policy; script = script; ids = ids }) script faults faults_after r →
-      new ≡ old ++ maybe_word script → Refused held (command.Check (record { policy = policy; script = script; ids = ids })) faults faults_after old new r
+module _ (contents : Contents) (faults faults_after : ℕ) (old new : List Word) where
+  check_refused : (policy : Word) (ids : Option (ℕ × ℕ)) (script : Option Word) (r : Refusal) → EnvRefused contents (record { policy = policy; script = script; ids = ids }) script faults faults_after r →
+      new ≡ old ++ maybe_word script → RefusesReading contents (command.Check (record { policy = policy; script = script; ids = ids })) faults faults_after old new r
   check_refused policy ids None r p asked =
-      subst (Refused held (command.Check (record { policy = policy; script = None; ids = ids })) faults faults_after old new) (sym p) (inl (asked ∙ append_nil old))
+      subst (RefusesReading contents (command.Check (record { policy = policy; script = None; ids = ids })) faults faults_after old new) (sym p) (inl (asked ∙ append_nil old))
   check_refused policy ids (Some name) r p asked =
       let check : CheckWords = record { policy = policy; script = Some name; ids = ids } in
-      script_refused held (command.Check check) faults faults_after old new name (check_options check) (λ script o. MeansCanon held policy script.env o) refl asked (λ o m. m) r p
+      script_refused contents (command.Check check) faults faults_after old new name (check_options check) (λ script o. MeansCanon contents policy script.env o) refl asked (λ o m. m) r p
 
-  pub check_env_refused : (check : CheckWords) (r : Refusal) → EnvRefused held check check.script faults faults_after r → new ≡ old ++ maybe_word check.script →
-      Refused held (command.Check check) faults faults_after old new r
+  pub check_env_refused : (check : CheckWords) (r : Refusal) → EnvRefused contents check check.script faults faults_after r → new ≡ old ++ maybe_word check.script →
+      RefusesReading contents (command.Check check) faults faults_after old new r
   check_env_refused check r p asked = check_refused check.policy check.ids check.script r p asked
 
-  module _ (check : CheckWords) (env : Env) (gives : GivesEnv held check check.script env) where
-    pub check_policies_refused : (r : Refusal) → PoliciesRefused held env (check.policy ∷ []) faults faults_after (old ++ maybe_word check.script) new r →
-        Refused held (command.Check check) faults faults_after old new r
+  module _ (check : CheckWords) (env : Env) (gives : GivesEnv contents check check.script env) where
+    pub check_policies_refused : (r : Refusal) → PoliciesRefused contents env (check.policy ∷ []) faults faults_after (old ++ maybe_word check.script) new r →
+        RefusesReading contents (command.Check check) faults faults_after old new r
     check_policies_refused r p =
-        policies_refused held (command.Check check) faults faults_after old new env (check.policy ∷ []) (maybe_word check.script) (λ policies o. o ≡ Prints (canon policies))
-        (check_leads held check check.script env gives) (λ n. refl) r p
+        policies_refused contents (command.Check check) faults faults_after old new env (check.policy ∷ []) (maybe_word check.script) (λ policies o. o ≡ Prints (canon policies))
+        (check_leads contents check check.script env gives) (λ n. refl) r p
 
-    canon_meant : (policies : List BinaryPolicy) → ArePolicies held env (check.policy ∷ []) [] policies → (o : Meaning) → o ≡ Prints (canon policies) → Means held (command.Check check) o
+    canon_meant : (policies : List BinaryPolicy) → ArePolicies contents env (check.policy ∷ []) [] policies → (o : Meaning) → o ≡ Prints (canon policies) → Means contents (command.Check check) o
     canon_meant policies are o m =
-        check_leads held check check.script env gives o (leads_policies held env (λ ps. o ≡ Prints (canon ps)) o (check.policy ∷ []) [] 1 [] policies are m)
+        check_leads contents check check.script env gives o (leads_policies contents env (λ ps. o ≡ Prints (canon ps)) o (check.policy ∷ []) [] 1 [] policies are m)
 
     asked_whole : new ≡ (old ++ maybe_word check.script) ++ check.policy ∷ [] → AskedTo (command.Check check) (which.Policy 1) old new
     asked_whole asked = asked ∙ append_assoc old (maybe_word check.script) (check.policy ∷ [])
 
-    pub check_read : (policies : List BinaryPolicy) → ArePolicies held env (check.policy ∷ []) [] policies → new ≡ (old ++ maybe_word check.script) ++ check.policy ∷ [] →
-        (printed : List ℕ) → printed ≡ canon policies → Ends held (command.Check check) faults faults_after old new (Ok (reading.Text printed))
+    pub check_read : (policies : List BinaryPolicy) → ArePolicies contents env (check.policy ∷ []) [] policies → new ≡ (old ++ maybe_word check.script) ++ check.policy ∷ [] →
+        (printed : List ℕ) → printed ≡ canon policies → EndsReading contents (command.Check check) faults faults_after old new (Ok (reading.Text printed))
     check_read policies are asked printed is = (canon_meant policies are (Prints printed) (ap Prints is), asked_whole asked)
 
     -- memory runs out for its text
-    pub check_wants_memory : (policies : List BinaryPolicy) → ArePolicies held env (check.policy ∷ []) [] policies → new ≡ (old ++ maybe_word check.script) ++ check.policy ∷ [] →
-        Refused held (command.Check check) faults faults_after old new NoMemory
+    pub check_wants_memory : (policies : List BinaryPolicy) → ArePolicies contents env (check.policy ∷ []) [] policies → new ≡ (old ++ maybe_word check.script) ++ check.policy ∷ [] →
+        RefusesReading contents (command.Check check) faults faults_after old new NoMemory
     check_wants_memory policies are asked = inr (
       which.Policy 1,
-      record { meant = check_leads held check check.script env gives (Stops (which.Policy 1)) (inl refl); asked = asked_whole asked },
-      record { front = maybe_word check.script; name = check.policy; names_are = refl; fits = has_fits (held check.policy) (λ text. policy.Reads text env [] are.0) are.1 },
+      record { meant = check_leads contents check check.script env gives (Stops (which.Policy 1)) (inl refl); asked = asked_whole asked },
+      record { front = maybe_word check.script; name = check.policy; names_are = refl; fits = has_fits (contents check.policy) (λ text. policy.Reads text env [] are.0) are.1 },
     )
 
 -- ---- the answer is what the command means
@@ -215,12 +215,12 @@ as_no_stop (reading.Run input schedule) = refl
 as_no_stop (reading.Text text) = refl
 
 -- if a command has one meaning, and no count rose, the answer is that meaning, unless memory runs out
-pub answers_meaning : (held : Held) (c : Command) (faults faults_after : ℕ) (old new : List Word) (result : Result Reading Refusal) → IsOne (Means held c) →
-    Ends held c faults faults_after old new result → (HasRisen faults faults_after → ⊥) → (o : Meaning) → is_stop o ≡ false → Means held c o → (result ≡ Err NoMemory) ⊎ (ending result ≡ o)
-answers_meaning held c faults faults_after old new (Ok read) one p quiet o go m = inr (one (as_meaning read) o (as_no_stop read) go p.0 m)
-answers_meaning held c faults faults_after old new (Err (Missing w)) one p quiet o go m = inr (one (Refuses (Missing w)) o refl go p.0 m)
-answers_meaning held c faults faults_after old new (Err (TooLong w)) one p quiet o go m = inr (one (Refuses (TooLong w)) o refl go p.0 m)
-answers_meaning held c faults faults_after old new (Err (Script fault)) one p quiet o go m = inr (one (Refuses (Script fault)) o refl go p.0 m)
-answers_meaning held c faults faults_after old new (Err (Policy n fault)) one p quiet o go m = inr (one (Refuses (Policy n fault)) o refl go p.0 m)
-answers_meaning held c faults faults_after old new (Err ReadFault) one p quiet o go m = absurd (quiet p.0)
-answers_meaning held c faults faults_after old new (Err NoMemory) one p quiet o go m = inl refl
+pub answers_meaning : (contents : Contents) (c : Command) (faults faults_after : ℕ) (old new : List Word) (result : Result Reading Refusal) → IsOne (Means contents c) →
+    EndsReading contents c faults faults_after old new result → (HasRisen faults faults_after → ⊥) → (o : Meaning) → is_stop o ≡ false → Means contents c o → (result ≡ Err NoMemory) ⊎ (ending result ≡ o)
+answers_meaning contents c faults faults_after old new (Ok read) one p quiet o go m = inr (one (as_meaning read) o (as_no_stop read) go p.0 m)
+answers_meaning contents c faults faults_after old new (Err (Missing w)) one p quiet o go m = inr (one (Refuses (Missing w)) o refl go p.0 m)
+answers_meaning contents c faults faults_after old new (Err (TooLong w)) one p quiet o go m = inr (one (Refuses (TooLong w)) o refl go p.0 m)
+answers_meaning contents c faults faults_after old new (Err (Script fault)) one p quiet o go m = inr (one (Refuses (Script fault)) o refl go p.0 m)
+answers_meaning contents c faults faults_after old new (Err (Policy n fault)) one p quiet o go m = inr (one (Refuses (Policy n fault)) o refl go p.0 m)
+answers_meaning contents c faults faults_after old new (Err ReadFault) one p quiet o go m = absurd (quiet p.0)
+answers_meaning contents c faults faults_after old new (Err NoMemory) one p quiet o go m = inl refl

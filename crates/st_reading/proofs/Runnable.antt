@@ -21,7 +21,7 @@ use Rattle.st_script.specs.declared.reading.ReadScript.{ReadScript}
 use Rattle.st_command.specs.Words.{Word}
 use Rattle.st_command.specs.Command.{StepWords, CheckWords, check_options}
 use Rattle.st_reading.specs.Bare.{bare_env}
-use Rattle.st_reading.specs.Meaning.{Held, Meaning, Runs, Prints, SaysScript, MeansStep, MeansCanon, MeansCheck}
+use Rattle.st_reading.specs.Meaning.{Contents, Meaning, Runs, Prints, SaysScript, MeansStep, MeansCanon, MeansCheck}
 use Rattle.st_reading.specs.Runnable.{IsRunnable}
 use Rattle.st_reading.specs.declared.refusal.Which.TheVariants as which
 use Rattle.st_reading.proofs.ReadFiles.{AreKept, IsRead, IsStepRead, each_kept, fetched, input_or, policies_read, script_read, step_read}
@@ -50,21 +50,21 @@ script_learns text options script is learning =
     let same : script.env.learn ≡ learns options.mode = read_has (λ (other : ReadScript). other.env.learn ≡ learns options.mode) text options (λ uncut none. refl) script is in
     same ∙ ap learns learning
 
-all_clean : (held : Held) (names : List Word) → AreKept AreClean held names
-all_clean held = each_kept AreClean held (λ name env text old set there. read_clean text env old set)
+all_clean : (contents : Contents) (names : List Word) → AreKept AreClean contents names
+all_clean contents = each_kept AreClean contents (λ name env text old set there. read_clean text env old set)
 
 -- ---- `step`
 
-clean_step : (held : Held) (step : StepWords) (outcome : Meaning) → IsRead outcome → MeansStep held step outcome → IsStepRead AreClean held step outcome
-clean_step held step outcome read meant = step_read AreClean none_clean held step (all_clean held step.policies) outcome read meant
+clean_step : (contents : Contents) (step : StepWords) (outcome : Meaning) → IsRead outcome → MeansStep contents step outcome → IsStepRead AreClean contents step outcome
+clean_step contents step outcome read meant = step_read AreClean none_clean contents step (all_clean contents step.policies) outcome read meant
 
 -- the replies of each script that is read grant no ids for setting ids
 abbrev pub RepliesAreUngranted : Type 0
 RepliesAreUngranted = (text : List ℕ) (options : Options) (script : ReadScript) → script_in text options ≡ Ok script → RepliesUngranted script.replies
 
-pub runnable : RepliesAreUngranted → (held : Held) (step : StepWords) (input : Input) (schedule : ReadSchedule) → MeansStep held step (Runs input schedule) → IsRunnable step input
-runnable replies held step input schedule meant =
-    let x = clean_step held step (Runs input schedule) tt meant in
+pub runnable : RepliesAreUngranted → (contents : Contents) (step : StepWords) (input : Input) (schedule : ReadSchedule) → MeansStep contents step (Runs input schedule) → IsRunnable step input
+runnable replies contents step input schedule meant =
+    let x = clean_step contents step (Runs input schedule) tt meant in
     record {
       script = x.script;
       policies = x.policies;
@@ -81,20 +81,20 @@ abbrev IsPrinted : Meaning → Type 0
 IsPrinted (Prints text) = Unit {0}
 IsPrinted _ = ⊥
 
-pub step_prints_nothing : (held : Held) (step : StepWords) (text : List ℕ) → MeansStep held step (Prints text) → ⊥
-step_prints_nothing held step text meant = let x = clean_step held step (Prints text) tt meant in subst IsPrinted x.outcome_is tt
+pub step_prints_nothing : (contents : Contents) (step : StepWords) (text : List ℕ) → MeansStep contents step (Prints text) → ⊥
+step_prints_nothing contents step text meant = let x = clean_step contents step (Prints text) tt meant in subst IsPrinted x.outcome_is tt
 
 -- ---- `check`
 
-canon_runs_nothing : (held : Held) (name : Word) (env : Env) (outcome : Meaning) → IsRead outcome → MeansCanon held name env outcome → IsPrinted outcome
-canon_runs_nothing held name env outcome read meant =
-    let p = policies_read held outcome read AreClean env (λ policies. outcome ≡ Prints (canon policies)) (name ∷ []) (all_clean held (name ∷ [])) 1 [] (none_clean env) meant in
+canon_runs_nothing : (contents : Contents) (name : Word) (env : Env) (outcome : Meaning) → IsRead outcome → MeansCanon contents name env outcome → IsPrinted outcome
+canon_runs_nothing contents name env outcome read meant =
+    let p = policies_read contents outcome read AreClean env (λ policies. outcome ≡ Prints (canon policies)) (name ∷ []) (all_clean contents (name ∷ [])) 1 [] (none_clean env) meant in
     subst IsPrinted (sym p.2) tt
 
-pub check_runs_nothing : (held : Held) (check : CheckWords) (script : Option Word) (input : Input) (schedule : ReadSchedule) → MeansCheck held check script (Runs input schedule) → ⊥
-check_runs_nothing held check None input schedule meant = canon_runs_nothing held check.policy (bare_env (is_some check.ids)) (Runs input schedule) tt meant
-check_runs_nothing held check (Some name) input schedule meant =
+pub check_runs_nothing : (contents : Contents) (check : CheckWords) (script : Option Word) (input : Input) (schedule : ReadSchedule) → MeansCheck contents check script (Runs input schedule) → ⊥
+check_runs_nothing contents check None input schedule meant = canon_runs_nothing contents check.policy (bare_env (is_some check.ids)) (Runs input schedule) tt meant
+check_runs_nothing contents check (Some name) input schedule meant =
     let run : Meaning = Runs input schedule in
-    let x = fetched held run tt name which.Script (λ text. SaysScript (script_in text (check_options check)) (λ script. MeansCanon held check.policy script.env run) run) meant in
-    let s = script_read held run tt (script_in x.text (check_options check)) (λ script. MeansCanon held check.policy script.env run) x.says in
-    canon_runs_nothing held check.policy s.0.env run tt s.2
+    let x = fetched contents run tt name which.Script (λ text. SaysScript (script_in text (check_options check)) (λ script. MeansCanon contents check.policy script.env run) run) meant in
+    let s = script_read contents run tt (script_in x.text (check_options check)) (λ script. MeansCanon contents check.policy script.env run) x.says in
+    canon_runs_nothing contents check.policy s.0.env run tt s.2

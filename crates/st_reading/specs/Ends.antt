@@ -4,7 +4,7 @@ use Rattle.st_outside.specs.Count.{HasRisen}
 use Rattle.st_outside.specs.Files.{CanFit}
 use Rattle.st_command.specs.Words.{Word}
 use Rattle.st_command.specs.declared.command.Command.{Command}
-use Rattle.st_reading.specs.Meaning.{Held, Meaning, Stops, Refuses, Runs, Prints, Means, names_to, last_file}
+use Rattle.st_reading.specs.Meaning.{Contents, Meaning, Stops, Refuses, Runs, Prints, Means, names_to, last_file}
 use Rattle.st_reading.specs.declared.reading.Reading.{Reading}
 use Rattle.st_reading.specs.declared.reading.Reading.TheVariants as reading
 use Rattle.st_reading.specs.declared.refusal.Refusal.{Refusal}
@@ -17,30 +17,30 @@ abbrev pub AskedTo : Command → Which → List Word → List Word → Type 0
 AskedTo c w old new = new ≡ old ++ names_to c w
 
 -- the last of some names can hold a file that a fetch can give
-pub record LastFits (held : Held) (names : List Word) : Type 0 where
+pub record LastFits (contents : Contents) (names : List Word) : Type 0 where
   pub front : List Word
   pub name : Word
   pub names_are : names ≡ front ++ name ∷ []
-  pub fits : CanFit (held name)
+  pub fits : CanFit (contents name)
 
 -- the command can mean to stop at this file, and the names up to the file were asked for
-pub record StopsAt (held : Held) (c : Command) (old new : List Word) (w : Which) : Type 0 where
-  pub meant : Means held c (Stops w)
+pub record StopsAt (contents : Contents) (c : Command) (old new : List Word) (w : Which) : Type 0 where
+  pub meant : Means contents c (Stops w)
   pub asked : AskedTo c w old new
 
 -- memory ran out before any file was asked for, or after asking for a file that can be fetched and at which the command can stop
-abbrev pub WantsMemory : Held → Command → List Word → List Word → Type 0
-WantsMemory held c old new = (new ≡ old) ⊎ ((w : Which) × StopsAt held c old new w × LastFits held (names_to c w))
+abbrev pub ReadingIsOutOfMemory : Contents → Command → List Word → List Word → Type 0
+ReadingIsOutOfMemory contents c old new = (new ≡ old) ⊎ ((w : Which) × StopsAt contents c old new w × LastFits contents (names_to c w))
 
 -- a refusal is what the command means, and the names up to the refused file were asked for; or a file that was reached couldn't be read and
 -- the count of faults rose; or memory ran out
-abbrev pub Refused : Held → Command → ℕ → ℕ → List Word → List Word → Refusal → Type 0
-Refused held c faults faults_after old new (Missing w) = Means held c (Refuses (Missing w)) × AskedTo c w old new
-Refused held c faults faults_after old new (TooLong w) = Means held c (Refuses (TooLong w)) × AskedTo c w old new
-Refused held c faults faults_after old new (Script fault) = Means held c (Refuses (Script fault)) × AskedTo c which.Script old new
-Refused held c faults faults_after old new (Policy n fault) = Means held c (Refuses (Policy n fault)) × AskedTo c (which.Policy n) old new
-Refused held c faults faults_after old new ReadFault = HasRisen faults faults_after × ((w : Which) × StopsAt held c old new w)
-Refused held c faults faults_after old new NoMemory = WantsMemory held c old new
+abbrev pub RefusesReading : Contents → Command → ℕ → ℕ → List Word → List Word → Refusal → Type 0
+RefusesReading contents c faults faults_after old new (Missing w) = Means contents c (Refuses (Missing w)) × AskedTo c w old new
+RefusesReading contents c faults faults_after old new (TooLong w) = Means contents c (Refuses (TooLong w)) × AskedTo c w old new
+RefusesReading contents c faults faults_after old new (Script fault) = Means contents c (Refuses (Script fault)) × AskedTo c which.Script old new
+RefusesReading contents c faults faults_after old new (Policy n fault) = Means contents c (Refuses (Policy n fault)) × AskedTo c (which.Policy n) old new
+RefusesReading contents c faults faults_after old new ReadFault = HasRisen faults faults_after × ((w : Which) × StopsAt contents c old new w)
+RefusesReading contents c faults faults_after old new NoMemory = ReadingIsOutOfMemory contents c old new
 
 -- what was read, as a meaning: a run, or a text to be printed
 abbrev pub as_meaning : Reading → Meaning
@@ -48,9 +48,9 @@ as_meaning (reading.Run input schedule) = Runs input schedule
 as_meaning (reading.Text text) = Prints text
 
 -- a command is read as what it means, with all its names asked for, or it is refused
-abbrev pub Ends : Held → Command → ℕ → ℕ → List Word → List Word → Result Reading Refusal → Type 0
-Ends held c faults faults_after old new (Ok read) = Means held c (as_meaning read) × AskedTo c (last_file c) old new
-Ends held c faults faults_after old new (Err refusal) = Refused held c faults faults_after old new refusal
+abbrev pub EndsReading : Contents → Command → ℕ → ℕ → List Word → List Word → Result Reading Refusal → Type 0
+EndsReading contents c faults faults_after old new (Ok read) = Means contents c (as_meaning read) × AskedTo c (last_file c) old new
+EndsReading contents c faults faults_after old new (Err refusal) = RefusesReading contents c faults faults_after old new refusal
 
 -- the meaning of a command that an answer reports
 abbrev pub ending : Result Reading Refusal → Meaning

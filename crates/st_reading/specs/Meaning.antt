@@ -28,8 +28,8 @@ use Rattle.st_reading.specs.declared.refusal.Which.{Which}
 use Rattle.st_reading.specs.declared.refusal.Which.TheVariants as which
 
 -- what each name holds, as far as it is known
-abbrev pub Held : Type 0
-Held = Word → FileView
+abbrev pub Contents : Type 0
+Contents = Word → FileView
 
 -- what a command means: a stop at a file that can't be read, a refusal, a run by this schedule, or a text that is printed without a run
 pub data Meaning : Type 0 where
@@ -48,15 +48,15 @@ is_stop (Prints text) = false
 -- ---- files
 
 -- the outcome for a name: a refusal if it holds no file or one that is too long, otherwise that of its text
-abbrev pub Reads : FileView → Which → (List ℕ → Type 0) → Meaning → Type 0
-Reads held w Read outcome =
-    (CanLack held × (outcome ≡ Refuses (Missing w))) ⊎
-    ((CanExceed held × (outcome ≡ Refuses (TooLong w))) ⊎
-    ((text : List ℕ) × CanHold held text × (length text ≤ FILE_LIMIT) × Read text))
+abbrev pub ReadsFile : FileView → Which → (List ℕ → Type 0) → Meaning → Type 0
+ReadsFile contents w Read outcome =
+    (CanLack contents × (outcome ≡ Refuses (Missing w))) ⊎
+    ((CanExceed contents × (outcome ≡ Refuses (TooLong w))) ⊎
+    ((text : List ℕ) × CanHold contents text × (length text ≤ FILE_LIMIT) × Read text))
 
 -- the same, but a file that is reached may also fail to be read
 abbrev pub Fetches : FileView → Which → (List ℕ → Type 0) → Meaning → Type 0
-Fetches held w Read outcome = (outcome ≡ Stops w) ⊎ Reads held w Read outcome
+Fetches contents w Read outcome = (outcome ≡ Stops w) ⊎ ReadsFile contents w Read outcome
 
 -- a script is read, or it is refused with its fault
 abbrev pub SaysScript : Result ReadScript ScriptFault → (ReadScript → Type 0) → Meaning → Type 0
@@ -70,45 +70,45 @@ SaysPolicy text env before n Read outcome =
     ((fault : PolicyRefusal) × (refusal_in text env before ≡ Some fault) × (outcome ≡ Refuses (Policy n fault)))
 
 -- policy files from number n on are read in order, each after the policies of the files before it
-abbrev pub MeansPolicies : Held → Env → ℕ → List Word → List BinaryPolicy → (List BinaryPolicy → Type 0) → Meaning → Type 0
-MeansPolicies held env n [] before Read outcome = Read before
-MeansPolicies held env n (name ∷ names) before Read outcome =
-    Fetches (held name) (which.Policy n)
-    (λ text. SaysPolicy text env before n (λ policies. MeansPolicies held env (n + 1) names policies Read outcome) outcome)
+abbrev pub MeansPolicies : Contents → Env → ℕ → List Word → List BinaryPolicy → (List BinaryPolicy → Type 0) → Meaning → Type 0
+MeansPolicies contents env n [] before Read outcome = Read before
+MeansPolicies contents env n (name ∷ names) before Read outcome =
+    Fetches (contents name) (which.Policy n)
+    (λ text. SaysPolicy text env before n (λ policies. MeansPolicies contents env (n + 1) names policies Read outcome) outcome)
     outcome
 
 -- ---- commands
 
 -- what `step` means once its script and policies are read: its schedule is fetched and read, whatever it says
-abbrev pub MeansSchedule : Held → StepWords → ReadScript → List BinaryPolicy → Meaning → Type 0
-MeansSchedule held step script policies outcome =
-    Fetches (held step.schedule) which.Schedule (λ text. outcome ≡ Runs (input_with policies step.options script) (schedule_in text)) outcome
+abbrev pub MeansSchedule : Contents → StepWords → ReadScript → List BinaryPolicy → Meaning → Type 0
+MeansSchedule contents step script policies outcome =
+    Fetches (contents step.schedule) which.Schedule (λ text. outcome ≡ Runs (input_with policies step.options script) (schedule_in text)) outcome
 
 -- what `step` means once its script is read: its policies are read with the script's environment
-abbrev pub MeansBehindScript : Held → StepWords → ReadScript → Meaning → Type 0
-MeansBehindScript held step script outcome =
-    MeansPolicies held script.env 1 step.policies [] (λ policies. MeansSchedule held step script policies outcome) outcome
+abbrev pub MeansAfterScript : Contents → StepWords → ReadScript → Meaning → Type 0
+MeansAfterScript contents step script outcome =
+    MeansPolicies contents script.env 1 step.policies [] (λ policies. MeansSchedule contents step script policies outcome) outcome
 
-abbrev pub MeansStep : Held → StepWords → Meaning → Type 0
-MeansStep held step outcome =
-    Fetches (held step.script) which.Script
-    (λ text. SaysScript (script_in text step.options) (λ script. MeansBehindScript held step script outcome) outcome) outcome
+abbrev pub MeansStep : Contents → StepWords → Meaning → Type 0
+MeansStep contents step outcome =
+    Fetches (contents step.script) which.Script
+    (λ text. SaysScript (script_in text step.options) (λ script. MeansAfterScript contents step script outcome) outcome) outcome
 
 -- what `check` means with this environment: the canonical text of its policies is printed
-abbrev pub MeansCanon : Held → Word → Env → Meaning → Type 0
-MeansCanon held name env outcome = MeansPolicies held env 1 (name ∷ []) [] (λ policies. outcome ≡ Prints (canon policies)) outcome
+abbrev pub MeansCanon : Contents → Word → Env → Meaning → Type 0
+MeansCanon contents name env outcome = MeansPolicies contents env 1 (name ∷ []) [] (λ policies. outcome ≡ Prints (canon policies)) outcome
 
 -- what `check` means, with the environment of a script or the bare one
-abbrev pub MeansCheck : Held → CheckWords → Option Word → Meaning → Type 0
-MeansCheck held check None outcome = MeansCanon held check.policy (bare_env (is_some check.ids)) outcome
-MeansCheck held check (Some name) outcome =
-    Fetches (held name) which.Script
-    (λ text. SaysScript (script_in text (check_options check)) (λ script. MeansCanon held check.policy script.env outcome) outcome) outcome
+abbrev pub MeansCheck : Contents → CheckWords → Option Word → Meaning → Type 0
+MeansCheck contents check None outcome = MeansCanon contents check.policy (bare_env (is_some check.ids)) outcome
+MeansCheck contents check (Some name) outcome =
+    Fetches (contents name) which.Script
+    (λ text. SaysScript (script_in text (check_options check)) (λ script. MeansCanon contents check.policy script.env outcome) outcome) outcome
 
 -- what a command means over files of which this much is known
-abbrev pub Means : Held → Command → Meaning → Type 0
-Means held (command.Step step) outcome = MeansStep held step outcome
-Means held (command.Check check) outcome = MeansCheck held check check.script outcome
+abbrev pub Means : Contents → Command → Meaning → Type 0
+Means contents (command.Step step) outcome = MeansStep contents step outcome
+Means contents (command.Check check) outcome = MeansCheck contents check check.script outcome
 
 -- ---- names
 
@@ -131,12 +131,12 @@ abbrev pub names_of : Command → List Word
 names_of c = names_to c (last_file c)
 
 -- it is known whether a name holds a file, and what the file holds
-abbrev pub IsTold : FileView → Type 0
-IsTold Unknown = ⊥
-IsTold Absent = Unit {0}
-IsTold (FileBytes text) = Unit {0}
+abbrev pub IsFileKnown : FileView → Type 0
+IsFileKnown Unknown = ⊥
+IsFileKnown Absent = Unit {0}
+IsFileKnown (FileBytes text) = Unit {0}
 
 -- the same is known of each of some names
-abbrev pub AreTold : Held → List Word → Type 0
-AreTold held [] = Unit {0}
-AreTold held (name ∷ names) = IsTold (held name) × AreTold held names
+abbrev pub AreFilesKnown : Contents → List Word → Type 0
+AreFilesKnown contents [] = Unit {0}
+AreFilesKnown contents (name ∷ names) = IsFileKnown (contents name) × AreFilesKnown contents names

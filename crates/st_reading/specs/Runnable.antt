@@ -6,7 +6,7 @@ use Rattle.st_law.specs.declared.input.Mode.TheVariants.{Learn}
 use Rattle.st_learn.specs.Learnt.{NoneAsks}
 use Rattle.st_reached.specs.Grants.{RepliesUngranted, SetIdsUngranted}
 use Rattle.st_reached.specs.Scripts.{IsBounded}
-use Rattle.st_script.specs.Startable.{CanStart, input_with}
+use Rattle.st_script.specs.Startable.{IsRunnableScript, input_with}
 use Rattle.st_script.specs.declared.reading.ReadScript.{ReadScript}
 use Rattle.st_command.specs.Command.{StepWords}
 
@@ -16,7 +16,7 @@ pub record IsRunnable (step : StepWords) (input : Input) : Type 0 where
   pub script : ReadScript
   pub policies : List BinaryPolicy
   pub input_is : input ≡ input_with policies step.options script
-  pub can_start : CanStart script
+  pub can_start : IsRunnableScript script
   pub bounded : IsBounded script.start
   pub ungranted : SetIdsUngranted policies
   pub replies : RepliesUngranted script.replies

@@ -17,11 +17,11 @@ use std::alloc::Global;
 
 // The whole content of a file.
 fn fetch<F: Files>(alloc: Global, files: &mut F, name: &Text, which: Which) -> Result<Text, Refusal>
-    ensures held { F.held files.new ≡ F.held files.old }
+    ensures contents { F.contents files.new ≡ F.contents files.old }
     ensures asked { F.asked files.new ≡ F.asked files.old ++ name.now ∷ [] }
-    ensures content { IfOk result (λ text. CanHold (F.held files.old name.now) text) }
+    ensures content { IfOk result (λ text. CanHold (F.contents files.old name.now) text) }
     ensures within { IfOk result (λ text. length text ≤ FILE_LIMIT) }
-    ensures refused { IfErr result (FetchRefused (F.held files.old name.now) which (F.faults files.old) (F.faults files.new)) }
+    ensures refused { IfErr result (FetchRefused (F.contents files.old name.now) which (F.faults files.old) (F.faults files.new)) }
     ensures quiet { result ≢ Err Refusal.ReadFault → F.faults files.new ≡ F.faults files.old }
 {
     match files.fetch(alloc, name) {
@@ -40,9 +40,9 @@ pub(crate) fn read_script_file<F: Files>(
     name: &Text,
     options: &Options,
 ) -> Result<ReadScript, Refusal>
-    ensures held { F.held files.new ≡ F.held files.old }
+    ensures contents { F.contents files.new ≡ F.contents files.old }
     ensures asked { F.asked files.new ≡ F.asked files.old ++ name.now ∷ [] }
-    ensures ends { ScriptEnds (F.held files.old name.now) options.now (F.faults files.old) (F.faults files.new) result }
+    ensures ends { ScriptEnds (F.contents files.old name.now) options.now (F.faults files.old) (F.faults files.new) result }
     ensures quiet { result ≢ Err Refusal.ReadFault → F.faults files.new ≡ F.faults files.old }
 {
     let text = fetch(alloc, files, name, Which::Script)?;
@@ -62,9 +62,9 @@ fn read_policy_file<F: Files>(
     name: &Text,
     policies: &mut PolicySet,
 ) -> Result<(), Refusal>
-    ensures held { F.held files.new ≡ F.held files.old }
+    ensures contents { F.contents files.new ≡ F.contents files.old }
     ensures asked { F.asked files.new ≡ F.asked files.old ++ name.now ∷ [] }
-    ensures ends { PolicyEnds (F.held files.old name.now) env.now policies.old number (F.faults files.old) (F.faults files.new) policies.new result }
+    ensures ends { PolicyEnds (F.contents files.old name.now) env.now policies.old number (F.faults files.old) (F.faults files.new) policies.new result }
     ensures same { OnErr result (policies.new ≡ policies.old) }
     ensures quiet { result ≢ Err Refusal.ReadFault → F.faults files.new ≡ F.faults files.old }
 {
@@ -86,8 +86,8 @@ pub(crate) fn read_policy_files<F: Files>(
     names: &[&Text],
 ) -> Result<PolicySet, Refusal>
     requires { length names.now ≤ 8 }
-    ensures held { F.held files.new ≡ F.held files.old }
-    ensures ends { PoliciesEnd (F.held files.old) env.now (map (λ name. name.now) names.now) (F.faults files.old) (F.faults files.new) (F.asked files.old) (F.asked files.new) result }
+    ensures contents { F.contents files.new ≡ F.contents files.old }
+    ensures ends { PoliciesEnd (F.contents files.old) env.now (map (λ name. name.now) names.now) (F.faults files.old) (F.faults files.new) (F.asked files.old) (F.asked files.new) result }
     ensures quiet { result ≢ Err Refusal.ReadFault → F.faults files.new ≡ F.faults files.old }
 {
     let mut policies = PolicySet::new(alloc);
@@ -105,9 +105,9 @@ pub(crate) fn read_schedule_file<F: Files>(
     files: &mut F,
     name: &Text,
 ) -> Result<ReadSchedule, Refusal>
-    ensures held { F.held files.new ≡ F.held files.old }
+    ensures contents { F.contents files.new ≡ F.contents files.old }
     ensures asked { F.asked files.new ≡ F.asked files.old ++ name.now ∷ [] }
-    ensures ends { ScheduleEnds (F.held files.old name.now) (F.faults files.old) (F.faults files.new) result }
+    ensures ends { ScheduleEnds (F.contents files.old name.now) (F.faults files.old) (F.faults files.new) result }
     ensures quiet { result ≢ Err Refusal.ReadFault → F.faults files.new ≡ F.faults files.old }
 {
     let text = fetch(alloc, files, name, Which::Schedule)?;

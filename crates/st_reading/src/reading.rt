@@ -2,9 +2,9 @@ ghost use Rattle.std.specs.Prelude.{◌≡◌, ◌≢◌, ◌⊎◌, false};
 ghost use Rattle.st_outside.specs.Count.{HasRisen};
 ghost use Rattle.st_command.specs.Reading.{IsWithinLimits};
 ghost use Rattle.st_command.specs.declared.command.Command.TheVariants as command;
-ghost use Rattle.st_reading.specs.Meaning.{Meaning, Means, is_stop, AreTold, names_of};
+ghost use Rattle.st_reading.specs.Meaning.{Meaning, Means, is_stop, AreFilesKnown, names_of};
 ghost use Rattle.st_reading.specs.Files.{EnvEnds};
-ghost use Rattle.st_reading.specs.Ends.{Ends, ending};
+ghost use Rattle.st_reading.specs.Ends.{EndsReading, ending};
 
 use crate::environment::bare_env;
 use crate::files::{read_policy_files, read_schedule_file, read_script_file};
@@ -34,8 +34,8 @@ fn read_step<F: Files>(
     files: &mut F,
 ) -> Result<Reading, Refusal>
     requires { IsWithinLimits (command.Step step.now) }
-    ensures held { F.held files.new ≡ F.held files.old }
-    ensures ends { Ends (F.held files.old) (command.Step step.now) (F.faults files.old) (F.faults files.new) (F.asked files.old) (F.asked files.new) result }
+    ensures contents { F.contents files.new ≡ F.contents files.old }
+    ensures ends { EndsReading (F.contents files.old) (command.Step step.now) (F.faults files.old) (F.faults files.new) (F.asked files.old) (F.asked files.new) result }
     ensures quiet { result ≢ Err Refusal.ReadFault → F.faults files.new ≡ F.faults files.old }
 {
     let script = read_script_file(alloc, files, step.script, &step.options)?;
@@ -57,8 +57,8 @@ fn env_of_check<F: Files>(
     check: &CheckWords<'_>,
     files: &mut F,
 ) -> Result<Env, Refusal>
-    ensures held { F.held files.new ≡ F.held files.old }
-    ensures ends { EnvEnds (F.held files.old) check.now (F.faults files.old) (F.faults files.new) (F.asked files.old) (F.asked files.new) result }
+    ensures contents { F.contents files.new ≡ F.contents files.old }
+    ensures ends { EnvEnds (F.contents files.old) check.now (F.faults files.old) (F.faults files.new) (F.asked files.old) (F.asked files.new) result }
     ensures quiet { result ≢ Err Refusal.ReadFault → F.faults files.new ≡ F.faults files.old }
 {
     match check.script {
@@ -76,8 +76,8 @@ fn read_check<F: Files>(
     check: &CheckWords<'_>,
     files: &mut F,
 ) -> Result<Reading, Refusal>
-    ensures held { F.held files.new ≡ F.held files.old }
-    ensures ends { Ends (F.held files.old) (command.Check check.now) (F.faults files.old) (F.faults files.new) (F.asked files.old) (F.asked files.new) result }
+    ensures contents { F.contents files.new ≡ F.contents files.old }
+    ensures ends { EndsReading (F.contents files.old) (command.Check check.now) (F.faults files.old) (F.faults files.new) (F.asked files.old) (F.asked files.new) result }
     ensures quiet { result ≢ Err Refusal.ReadFault → F.faults files.new ≡ F.faults files.old }
 {
     let env = env_of_check(alloc, check, files)?;
@@ -96,15 +96,15 @@ pub fn read_command<F: Files>(
 
     // The answer is what the command means, and the names that were asked for are those of the command, in order, up to the file that the
     // answer is about.
-    ensures ends { Ends (F.held files.old) command.now (F.faults files.old) (F.faults files.new) (F.asked files.old) (F.asked files.new) result }
+    ensures ends { EndsReading (F.contents files.old) command.now (F.faults files.old) (F.faults files.new) (F.asked files.old) (F.asked files.new) result }
 
     // The files stay as they are, and the count of faults rises only with a read fault.
-    ensures held { F.held files.new ≡ F.held files.old }
+    ensures contents { F.contents files.new ≡ F.contents files.old }
     ensures quiet { result ≢ Err Refusal.ReadFault → F.faults files.new ≡ F.faults files.old }
 
     // If each name of the command is known and no count rose, the answer is what the command means, unless memory runs out.
-    ensures complete { AreTold (F.held files.old) (names_of command.now) → (HasRisen (F.faults files.old) (F.faults files.new) → ⊥) →
-        (outcome : Meaning) → is_stop outcome ≡ false → Means (F.held files.old) command.now outcome →
+    ensures complete { AreFilesKnown (F.contents files.old) (names_of command.now) → (HasRisen (F.faults files.old) (F.faults files.new) → ⊥) →
+        (outcome : Meaning) → is_stop outcome ≡ false → Means (F.contents files.old) command.now outcome →
         (result ≡ Err Refusal.NoMemory) ⊎ (ending result ≡ outcome) }
 {
     match command {

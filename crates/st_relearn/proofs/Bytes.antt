@@ -2,13 +2,13 @@
 use Rattle.std.proofs.Common.{◌==◌, ◌↔◌, ◌<◌, ◌+◌, ◌-◌, ◌/◌, ◌%◌, ◌||◌, ℕ, Bool, true, false, cond, nat_lt, List, [], ◌∷◌, arith}
 use Rattle.std.proofs.lemmas.List.Elements.{All-from_recursion}
 use Rattle.st_filter.specs.declared.set.BinaryPolicy.{BinaryPolicy}
-use Rattle.st_lex.specs.Pieces.{Piece, PlainWord, QuotedText, Sign, Space, StandWell, print, sign_bytes}
+use Rattle.st_lex.specs.Pieces.{Piece, PlainWord, QuotedText, Sign, Space, CanBeReadBack, print, sign_bytes}
 use Rattle.st_lex.specs.Quote.{AreBytes, escaped_byte, hex_digit, quoted, quoted_byte, quoted_bytes}
 use Rattle.st_lex.specs.Quoted.{backslash, quote_mark}
 use Rattle.st_lex.specs.declared.token.TokenKind.{TokenKind}
 use Rattle.st_lex.specs.declared.token.TokenKind.TheVariants as kind
 use Rattle.st_printing.specs.Canon.{canon, set_pieces}
-use Rattle.st_reread.specs.Readable.{AreTextBytes, Behind, HasPlainDollars, HasSmallIds, Nothing, WasRead}
+use Rattle.st_reread.specs.Readable.{AreTextBytes, After, HasPlainDollars, HasSmallIds, Nothing, WasRead}
 use Rattle.st_grammar.specs.declared.env.Env.{Env}
 use Rattle.st_relearn.specs.Writable.{AreWritable}
 use Rattle.st_base.proofs.Each.{each-append}
@@ -48,7 +48,7 @@ sign_small kind.Quoted = tt
 sign_small kind.NotEqual = (omega arith, (omega arith, tt))
 sign_small _ = (omega arith, tt)
 
-pieces_small : (ps : List Piece) → StandWell ps → AreSmall (print ps)
+pieces_small : (ps : List Piece) → CanBeReadBack ps → AreSmall (print ps)
 pieces_small [] well = tt
 pieces_small (PlainWord word ∷ ps) well = each-append IsByte word (print ps) (text_small word (word_text word well.0)) (pieces_small ps well.2)
 pieces_small (QuotedText text ∷ ps) well = each-append IsByte (quoted text) (print ps) (quoted_small text well.0) (pieces_small ps well.1)
@@ -59,7 +59,7 @@ pieces_small (Space ∷ ps) well = (omega arith, pieces_small ps well)
 writable_is_read : (env : Env) (set : List BinaryPolicy) → AreWritable env set → WasRead env set
 writable_is_read env set w =
     let bytes : AreTextBytes (canon set) = All-from_recursion IsByte (canon set) (pieces_small (set_pieces set) (well_written env set w)) in
-    Behind (canon set) [] set bytes Nothing (written_is_read env set w)
+    After (canon set) [] set bytes Nothing (written_is_read env set w)
 
 pub exactly_read : (env : Env) (set : List BinaryPolicy) → HasPlainDollars env → HasSmallIds env → WasRead env set ↔ AreWritable env set
 exactly_read env set plain small = ((λ was. read_is_writable env set was plain small), writable_is_read env set)

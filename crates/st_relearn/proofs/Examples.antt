@@ -11,7 +11,7 @@ use Rattle.st_learn.specs.Learnt.{learnt_policies}
 use Rattle.st_grammar.specs.Reading.{policies_in}
 use Rattle.st_grammar.specs.declared.env.Env.{Env}
 use Rattle.st_trace.specs.declared.entry.Entry.{Entry}
-use Rattle.st_relearn.specs.Relearnt.{policy_text}
+use Rattle.st_relearn.specs.Relearnt.{learnt_policy_text}
 
 -- the filters that a run has added
 abbrev session_of : Input → Option (List Entry) → List SessionFilter
@@ -29,7 +29,7 @@ learning = record { users = []; groups = []; dollars = record { home = codes "/r
 abbrev two_rows : List ℕ
 two_rows = codes "Policy: /bin/cat, Emulation: native" ++ 10 ∷ codes "native-fsread: filename eq \"/etc/passwd\" then permit" ++ 10 ∷ []
 
-learnt_text : policy_text [] added ≡ two_rows
+learnt_text : learnt_policy_text [] added ≡ two_rows
 learnt_text = refl
 
 learnt_text_is_read : policies_in two_rows learning [] ≡ Ok (policy "/bin/cat" (passwd_only ∷ []) ∷ [])

@@ -193,24 +193,24 @@ module _ (i : Input) (st : State) (s : Short i st) (x : IsPlainState st) where
   looks_more true before seen all here = each-append IsPlainSeen before (seen ∷ []) all (here, tt)
   looks_more false before seen all here = all
 
-  plain_behind : (e : Entry) → IsLawful i st e → IsPlainState (state_after i st e)
-  plain_behind (Used t seq call regs args ids result changes) y = call_plain t seq call regs args ids result changes y
-  plain_behind (Entered t call regs way) y = record { links = x.links; processes = x.processes; heads = head_entered i st x t call regs way y.way_is; looks = x.looks }
-  plain_behind (Looked p part name seen) y = record {
+  plain_after : (e : Entry) → IsLawful i st e → IsPlainState (state_after i st e)
+  plain_after (Used t seq call regs args ids result changes) y = call_plain t seq call regs args ids result changes y
+  plain_after (Entered t call regs way) y = record { links = x.links; processes = x.processes; heads = head_entered i st x t call regs way y.way_is; looks = x.looks }
+  plain_after (Looked p part name seen) y = record {
     links = x.links;
     processes = x.processes;
     heads = x.heads;
     looks = λ q j. looks_more (p == q && part == j) ((st.messages q).lookups j) seen (x.looks q j) (subst IsPlainSeen (sym y.seen_is) (look_plain st.tree name x.links));
   }
-  plain_behind (Stored t place word) y = record { links = x.links; processes = x.processes; heads = x.heads; looks = x.looks }
-  plain_behind (Claimed w q) y = record { links = x.links; processes = x.processes; heads = x.heads; looks = x.looks }
-  plain_behind (Copied q part place word) y = record { links = x.links; processes = x.processes; heads = x.heads; looks = x.looks }
-  plain_behind (Faulted q errno) y = record { links = x.links; processes = x.processes; heads = x.heads; looks = x.looks }
-  plain_behind (Answered w copies v applied) y = record { links = x.links; processes = x.processes; heads = x.heads; looks = x.looks }
-  plain_behind (Denied t seq errno cause) y = record { links = x.links; processes = x.processes; heads = x.heads; looks = x.looks }
-  plain_behind (Ended t) y = record { links = x.links; processes = x.processes; heads = x.heads; looks = x.looks }
-  plain_behind (Learned q n) y = record { links = x.links; processes = x.processes; heads = x.heads; looks = x.looks }
-  plain_behind (Replied q reply n) y = record { links = x.links; processes = x.processes; heads = x.heads; looks = x.looks }
+  plain_after (Stored t place word) y = record { links = x.links; processes = x.processes; heads = x.heads; looks = x.looks }
+  plain_after (Claimed w q) y = record { links = x.links; processes = x.processes; heads = x.heads; looks = x.looks }
+  plain_after (Copied q part place word) y = record { links = x.links; processes = x.processes; heads = x.heads; looks = x.looks }
+  plain_after (Faulted q errno) y = record { links = x.links; processes = x.processes; heads = x.heads; looks = x.looks }
+  plain_after (Answered w copies v applied) y = record { links = x.links; processes = x.processes; heads = x.heads; looks = x.looks }
+  plain_after (Denied t seq errno cause) y = record { links = x.links; processes = x.processes; heads = x.heads; looks = x.looks }
+  plain_after (Ended t) y = record { links = x.links; processes = x.processes; heads = x.heads; looks = x.looks }
+  plain_after (Learned q n) y = record { links = x.links; processes = x.processes; heads = x.heads; looks = x.looks }
+  plain_after (Replied q reply n) y = record { links = x.links; processes = x.processes; heads = x.heads; looks = x.looks }
 
 -- ---- every lawful history
 
@@ -242,7 +242,7 @@ plain_first i texts = record {
 plain_of : (i : Input) → IsStartable i → HasPlainTexts i.start → (h : History) → IsLawfulBack i h → IsPlainState (looking_back i h)
 plain_of i startable texts [] lawful = plain_first i texts
 plain_of i startable texts (e ∷ h) lawful =
-    plain_behind i (looking_back i h) (short_of i startable h lawful.1) (plain_of i startable texts h lawful.1) e lawful.0
+    plain_after i (looking_back i h) (short_of i startable h lawful.1) (plain_of i startable texts h lawful.1) e lawful.0
 
 -- the copies of every lawful run
 pub copies_of_runs : (i : Input) → IsStartable i → HasPlainTexts i.start → (h : History) → IsLawfulBack i h → (q : ℕ) (s : Snapshot) → snapshot_in (looking_back i h) q ≡ Some s → AreWritableCopies s

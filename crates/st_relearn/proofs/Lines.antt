@@ -16,12 +16,12 @@ use Rattle.st_model.specs.declared.object.NewNode.{NewNode}
 use Rattle.st_names.specs.Name.{split_at_slashes}
 use Rattle.st_statements.specs.Accounts.{group_row, user_row}
 use Rattle.st_statements.specs.Instructions.{call_at, call_row, end_row, fork_row, put_row, registers, store_row}
-use Rattle.st_statements.specs.Lines.{looked_at, up_to_last_line, whole_lines}
-use Rattle.st_statements.specs.Objects.{dir_row, file_at, file_node, file_row, link_at, link_row, link_to, node_of, object_of}
-use Rattle.st_statements.specs.Parts.{end_of, if_normal, is_normal, is_plain_part, path_at, place_at, quoted_at, text_of_tokens, word_at}
-use Rattle.st_statements.specs.Statements.{inner_row, is_inside_behind, lines_from, lines_in, outer_row, statement_of}
+use Rattle.st_statements.specs.Lines.{tokens_before_fault_line, up_to_last_line, whole_lines}
+use Rattle.st_statements.specs.Objects.{dir_row, new_file, file_node, file_row, link_at, link_row, link_to, new_node, object_statement}
+use Rattle.st_statements.specs.Parts.{last_end, if_normal, is_normal, is_plain_part, path_at, place_at, quoted_at, text_of_tokens, word_at}
+use Rattle.st_statements.specs.Statements.{inner_row, is_inside_after, script_lines_from, lines_in, outer_row, statement_of}
 use Rattle.st_statements.specs.Tasks.{process_row, reply_row, thread_row, traced_at}
-use Rattle.st_statements.specs.Values.{id_at, mode_at, number_at, number_below}
+use Rattle.st_statements.specs.Values.{id_at, mode_at, number_token, number_below}
 use Rattle.st_statements.specs.declared.objects.TheConstants.{LINK_MODE}
 use Rattle.st_statements.specs.declared.statement.ScriptLine.{ScriptLine}
 use Rattle.st_statements.specs.declared.statement.Statement.{Statement}
@@ -70,7 +70,7 @@ if_either P false o p this other = other
 -- ---- values
 
 id_small : (text : List ℕ) (token : Token) → IfSome (id_at text token) IsId
-id_small text token = then_any IsId (number_below (2 ^ 32)) (number_at text token) (λ n. below n (nat_lt n (2 ^ 32)) refl) where
+id_small text token = then_any IsId (number_below (2 ^ 32)) (number_token text token) (λ n. below n (nat_lt n (2 ^ 32)) refl) where
   below : (n : ℕ) (b : Bool) → nat_lt n (2 ^ 32) ≡ b → IfSome (if b then Some n else None) IsId
   below n true is = ltb-true n (2 ^ 32) is
   below n false is = tt
@@ -102,11 +102,11 @@ group_plain text _ = tt
 abbrev IsPlainNew : NewNode → Type 0
 IsPlainNew new = HasPlainTarget new.kind
 
-node_plain : (kind : Option NewKind) (uid gid mode : Option ℕ) → IfSome kind HasPlainTarget → IfSome (node_of kind uid gid mode) IsPlainNew
+node_plain : (kind : Option NewKind) (uid gid mode : Option ℕ) → IfSome kind HasPlainTarget → IfSome (new_node kind uid gid mode) IsPlainNew
 node_plain kind uid gid mode is =
     if_then HasPlainTarget IsPlainNew _ kind is (λ k plain. then_any IsPlainNew _ uid (λ u. then_any IsPlainNew _ gid (λ g. map_any IsPlainNew (λ m. record { kind = k; uid = u; gid = g; mode = m }) mode (λ m. plain))))
 
-object_plain : (path : Option (List ℕ)) (new : Option NewNode) → IfSome new IsPlainNew → IfSome (object_of path new) IsPlainStatement
+object_plain : (path : Option (List ℕ)) (new : Option NewNode) → IfSome new IsPlainNew → IfSome (object_statement path new) IsPlainStatement
 object_plain path new is = then_any IsPlainStatement (λ p. option_map (says.Object p) new) path (λ p. if_map IsPlainNew IsPlainStatement (says.Object p) new is (λ n plain. plain))
 
 dir_plain : (text : List ℕ) (row : List Token) → IfSome (dir_row text row) IsPlainStatement
@@ -115,7 +115,7 @@ dir_plain text _ = tt
 
 file_plain : (text : List ℕ) (row : List Token) → IfSome (file_row text row) IsPlainStatement
 file_plain text (path ∷ uid ∷ gid ∷ mode ∷ content ∷ []) =
-    object_plain (place_at text path) (file_node text uid gid mode content) (node_plain (file_at text content) (id_at text uid) (id_at text gid) (mode_at text mode) (map_any HasPlainTarget made.File (quoted_at text content) (λ c. tt)))
+    object_plain (place_at text path) (file_node text uid gid mode content) (node_plain (new_file text content) (id_at text uid) (id_at text gid) (mode_at text mode) (map_any HasPlainTarget made.File (quoted_at text content) (λ c. tt)))
 file_plain text _ = tt
 
 link_plain : (text : List ℕ) (row : List Token) → AreGood text row → IfSome (link_row text row) IsPlainStatement
@@ -146,18 +146,18 @@ small_take (suc n) (b ∷ bs) small = (small.0, small_take n bs small.1)
 
 tokens_small : (text : List ℕ) (tokens : List Token) → AreSmall text → AreSmall (text_of_tokens text tokens)
 tokens_small text [] small = tt
-tokens_small text (token ∷ tokens) small = small_take (end_of token tokens - token.at) (drop token.at text) (small_drop token.at text small)
+tokens_small text (token ∷ tokens) small = small_take (last_end token tokens - token.at) (drop token.at text) (small_drop token.at text small)
 
 reply_plain : (text : List ℕ) (row : List Token) → AreSmall text → IfSome (reply_row text row) IsPlainStatement
 reply_plain text [] small = tt
 reply_plain text (binary ∷ filter) small = if_either IsPlainStatement (is_quoted binary.kind) (Some (says.Reply (text_of_token text binary) (text_of_tokens text filter))) None (tokens_small text filter small) tt
 
 store_plain : (text : List ℕ) (row : List Token) → IfSome (store_row text row) IsPlainStatement
-store_plain text (place ∷ word ∷ []) = then_any IsPlainStatement _ _ (λ p. map_any IsPlainStatement (says.Store p) (number_at text word) (λ w. tt))
+store_plain text (place ∷ word ∷ []) = then_any IsPlainStatement _ _ (λ p. map_any IsPlainStatement (says.Store p) (number_token text word) (λ w. tt))
 store_plain text _ = tt
 
 put_plain : (text : List ℕ) (row : List Token) → IfSome (put_row text row) IsPlainStatement
-put_plain text (at ∷ quoted ∷ []) = then_any IsPlainStatement _ (quoted_at text quoted) (λ bytes. then_any IsPlainStatement _ (number_at text at) (λ n. map_any IsPlainStatement (λ p. says.Put p bytes) _ (λ p. tt)))
+put_plain text (at ∷ quoted ∷ []) = then_any IsPlainStatement _ (quoted_at text quoted) (λ bytes. then_any IsPlainStatement _ (number_token text at) (λ n. map_any IsPlainStatement (λ p. says.Put p bytes) _ (λ p. tt)))
 put_plain text _ = tt
 
 call_plain : (text : List ℕ) (row : List Token) → IfSome (call_row text row) IsPlainStatement
@@ -197,10 +197,10 @@ row_plain text inside [] small good = tt
 row_plain text true (keyword ∷ row) small good = inner_plain text keyword row
 row_plain text false (keyword ∷ row) small good = outer_plain text keyword row small good.1
 
-lines_plain : (text : List ℕ) (inside : Bool) (rows : List (List Token)) → AreSmall text → AllByRecursion (AreGood text) rows → ArePlainLines (lines_from text inside rows)
+lines_plain : (text : List ℕ) (inside : Bool) (rows : List (List Token)) → AreSmall text → AllByRecursion (AreGood text) rows → ArePlainLines (script_lines_from text inside rows)
 lines_plain text inside [] small good = tt
 lines_plain text inside (row ∷ rows) small good =
-    (row_plain text inside row small good.0, lines_plain text (is_inside_behind inside (statement_of text inside row)) rows small good.1)
+    (row_plain text inside row small good.0, lines_plain text (is_inside_after inside (statement_of text inside row)) rows small good.1)
 
 -- ---- the tokens of rows
 
@@ -238,4 +238,4 @@ both_each P Q (token ∷ tokens) x y = ((x.0, y.0), both_each P Q tokens x.1 y.1
 pub script_lines : (text : List ℕ) → AreSmall text → ArePlainLines (lines_in text)
 script_lines text small =
     let good : AllByRecursion (IsGood text) (lexed_text text).tokens = both_each (IsWholeToken text) (HasInside text) (lexed_text text).tokens (words_whole text) (quotes_inside text small) in
-    lines_plain text false (rows (looked_at (lexed_text text))) small (rows_each (IsGood text) (looked_at (lexed_text text)) (whole_each (IsGood text) (lexed_text text).tokens (lexed_text text).fault good))
+    lines_plain text false (rows (tokens_before_fault_line (lexed_text text))) small (rows_each (IsGood text) (tokens_before_fault_line (lexed_text text)) (whole_each (IsGood text) (lexed_text text).tokens (lexed_text text).fault good))

@@ -5,7 +5,7 @@ use Rattle.st_base.specs.declared.errno.Errno.TheVariants.{ENOENT, ENOTDIR, ELOO
 use Rattle.st_base.proofs.Each.{each-append}
 use Rattle.st_lex.specs.Quote.{AreBytes}
 use Rattle.st_model.specs.Tree.{Node, Tree, is_directory, look, look_along, node_at, node_of, object_of, seen_of, seen_of_kind, seen_through}
-use Rattle.st_model.specs.Walk.{Fault, Name, Next, WalkState, is_last, is_up, name_after_ups, resolve_within, rest_after_ups, start_of_name, start_walk, walk_end, walk_on, walk_through}
+use Rattle.st_model.specs.Walk.{Fault, Name, Next, WalkState, is_last, is_up, name_after_parents, resolve_within, rest_after_ups, start_of_name, start_walk, walk_end, walk_components, walk_through}
 use Rattle.st_model.specs.declared.limits.TheConstants.{MOST_LINKS}
 use Rattle.st_model.specs.declared.object.Kind.{Kind}
 use Rattle.st_model.specs.declared.object.Kind.TheVariants as object_kind
@@ -81,10 +81,10 @@ either_walk false x y p q = q
 end_plain : (done : Components) → AreNames done → IsPlainWalk (walk_end done)
 end_plain done plain = either_walk (nat_lt LONGEST_NAME (length (printed_name done))) (Fault ENAMETOOLONG) (Name done) tt plain
 
-done_plain : (done rest : Components) → AreNames done → AreNames (name_after_ups done rest)
+done_plain : (done rest : Components) → AreNames done → AreNames (name_after_parents done rest)
 done_plain done [] plain = plain
 done_plain done (part ∷ rest) plain = by (is_up part) (done_plain (parent done) rest (each_take AreBytes (length done - 1) done plain)) where
-  by : (b : Bool) → AreNames (name_after_ups (parent done) rest) → AreNames (cond b (name_after_ups (parent done) rest) done)
+  by : (b : Bool) → AreNames (name_after_parents (parent done) rest) → AreNames (cond b (name_after_parents (parent done) rest) done)
   by true x = x
   by false x = plain
 
@@ -101,11 +101,11 @@ begun_plain text from plain = by (starts_with nat_eq text (codes "/")) where
   by true = tt
   by false = plain
 
-on_plain : (done rest : Components) (n : ℕ) (lookups : List SeenText) (follow : Bool) → AreNames done → AreNames rest → ArePlainLooks lookups → IsPlainWalk (walk_on done rest n lookups follow)
+on_plain : (done rest : Components) (n : ℕ) (lookups : List SeenText) (follow : Bool) → AreNames done → AreNames rest → ArePlainLooks lookups → IsPlainWalk (walk_components done rest n lookups follow)
 on_plain done [] n lookups follow d r l = end_plain done d
 on_plain done (part ∷ rest) n [] follow d r l = tt
 on_plain done (part ∷ rest) n (Dir ∷ lookups) follow d r l =
-    on_plain (name_after_ups (done ++ part ∷ []) rest) (rest_after_ups rest) n lookups follow
+    on_plain (name_after_parents (done ++ part ∷ []) rest) (rest_after_ups rest) n lookups follow
     (done_plain (done ++ part ∷ []) rest (each-append AreBytes done (part ∷ []) d (r.0, tt))) (rest_plain rest r.1) l.1
 on_plain done (part ∷ rest) n (File ∷ lookups) follow d r l =
     either_walk (is_last rest) (walk_end (done ++ part ∷ [])) (Fault ENOTDIR) (end_plain (done ++ part ∷ []) (each-append AreBytes done (part ∷ []) d (r.0, tt))) tt
@@ -115,15 +115,15 @@ on_plain done (part ∷ rest) n (NotDir ∷ lookups) follow d r l = tt
 on_plain done (part ∷ rest) n (Link text ∷ lookups) follow d r l =
     let more : AreNames (components_of text ++ rest) = each-append AreBytes (components_of text) rest (components_plain text l.0) r.1 in
     either_walk (is_last rest && not follow) (walk_end (done ++ part ∷ [])) _ (end_plain (done ++ part ∷ []) (each-append AreBytes done (part ∷ []) d (r.0, tt)))
-    (either_walk (nat_eq n MOST_LINKS) (Fault ELOOP) (walk_on (name_after_ups (start_of_name text done) (components_of text ++ rest)) (rest_after_ups (components_of text ++ rest)) (n + 1) lookups follow) tt
-    (on_plain (name_after_ups (start_of_name text done) (components_of text ++ rest)) (rest_after_ups (components_of text ++ rest)) (n + 1) lookups follow
+    (either_walk (nat_eq n MOST_LINKS) (Fault ELOOP) (walk_components (name_after_parents (start_of_name text done) (components_of text ++ rest)) (rest_after_ups (components_of text ++ rest)) (n + 1) lookups follow) tt
+    (on_plain (name_after_parents (start_of_name text done) (components_of text ++ rest)) (rest_after_ups (components_of text ++ rest)) (n + 1) lookups follow
     (done_plain (start_of_name text done) (components_of text ++ rest) (begun_plain text done d)) (rest_plain (components_of text ++ rest) more) l.1))
 
 pub walk_plain : (text : List ℕ) (cwd : Components) (follow : Bool) (lookups : List SeenText) → AreBytes text → AreNames cwd → ArePlainLooks lookups → IsPlainWalk (start_walk text cwd follow lookups)
 walk_plain text cwd follow lookups t c l =
     either_walk (nat_eq (length text) 0) (Fault ENOENT) _ tt
-    (either_walk (has_long_part text) (Fault ENAMETOOLONG) (walk_on (name_after_ups (start_of_name text cwd) (components_of text)) (rest_after_ups (components_of text)) 0 lookups follow) tt
-    (on_plain (name_after_ups (start_of_name text cwd) (components_of text)) (rest_after_ups (components_of text)) 0 lookups follow
+    (either_walk (has_long_part text) (Fault ENAMETOOLONG) (walk_components (name_after_parents (start_of_name text cwd) (components_of text)) (rest_after_ups (components_of text)) 0 lookups follow) tt
+    (on_plain (name_after_parents (start_of_name text cwd) (components_of text)) (rest_after_ups (components_of text)) 0 lookups follow
     (done_plain (start_of_name text cwd) (components_of text) (begun_plain text cwd c)) (rest_plain (components_of text) (components_plain text t)) l))
 
 -- ---- looks

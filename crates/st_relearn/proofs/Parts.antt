@@ -38,7 +38,7 @@ IsReadyWith specs (Look part name) = Unit {0}
 IsReadyWith specs (Stuck errno) = Unit {0}
 IsReadyWith specs (Ready args) = AreArguments specs args
 
-module _ (spec : ArgSpec) (specs : List ArgSpec) (rest : Progress) (behind : IsReadyWith specs rest) (j : ℕ) where
+module _ (spec : ArgSpec) (specs : List ArgSpec) (rest : Progress) (following : IsReadyWith specs rest) (j : ℕ) where
   arg_ready : (p : Progress) → IsReadyWith specs p → (text : List ℕ) → AreBytes text → IsReadyWith (spec ∷ specs) (with_arg (record { label = spec.label; index = spec.index; text = text }) p)
   arg_ready (Word part place) x text plain = tt
   arg_ready (Look part name) x text plain = tt
@@ -48,13 +48,13 @@ module _ (spec : ArgSpec) (specs : List ArgSpec) (rest : Progress) (behind : IsR
   walk_ready : (w : walk.WalkState) → IsPlainWalk w → IsReadyWith (spec ∷ specs) (progress_of_walk j spec w rest)
   walk_ready (walk.Next name) plain = tt
   walk_ready (walk.Fault errno) plain = tt
-  walk_ready (walk.Name name) plain = arg_ready rest behind _ (printed_plain name plain)
+  walk_ready (walk.Name name) plain = arg_ready rest following _ (printed_plain name plain)
 
   -- ---- a held call
 
   held_text : (k : PartKind) (cwd : Components) (follow : Bool) (lookups : List SeenText) (text : List ℕ) → AreNames cwd → ArePlainLooks lookups → AreBytes text → IsReadyWith (spec ∷ specs) (progress_of_text k j spec cwd follow lookups text rest)
   held_text kind.Name cwd follow lookups text c l t = walk_ready (walk.start_walk text cwd follow lookups) (walk_plain text cwd follow lookups t c l)
-  held_text _ cwd follow lookups text c l t = arg_ready rest behind text t
+  held_text _ cwd follow lookups text c l t = arg_ready rest following text t
 
   held_part : (cwd : Components) (follow : Bool) (lookups : List SeenText) (s : Spelled) → AreNames cwd → ArePlainLooks lookups → IsPlainSpelled s → IsReadyWith (spec ∷ specs) (progress_of_spelling j spec cwd follow lookups s rest)
   held_part cwd follow lookups (More place) c l t = tt
@@ -66,7 +66,7 @@ module _ (spec : ArgSpec) (specs : List ArgSpec) (rest : Progress) (behind : IsR
   unheld_text : (k : PartKind) (asked : ArgRequest) (tree : Tree) (text : List ℕ) → AreNames asked.cwd → HasPlainLinks tree → AreBytes text → IsReadyWith (spec ∷ specs) (part_of_text k j spec asked tree text rest)
   unheld_text kind.Name asked tree text c l t =
       walk_ready (walk.resolve tree asked.cwd text (follows asked.call asked.regs spec.register)) (resolved_plain (walk.most_lookups tree text) tree asked.cwd text (follows asked.call asked.regs spec.register) [] l c t tt)
-  unheld_text _ asked tree text c l t = arg_ready rest behind text t
+  unheld_text _ asked tree text c l t = arg_ready rest following text t
 
   unheld_part : (asked : ArgRequest) (tree : Tree) (s : Spelled) → AreNames asked.cwd → HasPlainLinks tree → IsPlainSpelled s → IsReadyWith (spec ∷ specs) (part_of_spelling j spec asked tree s rest)
   unheld_part asked tree (More place) c l t = tt

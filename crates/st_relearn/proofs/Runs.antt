@@ -30,7 +30,7 @@ use Rattle.st_grammar.specs.Grammar.{Reads}
 use Rattle.st_reread.specs.Readable.{WasRead, HasPlainDollars, HasSmallIds}
 use Rattle.st_grammar.specs.declared.env.Env.{Env}
 use Rattle.st_relearn.specs.Plain.{AreWritableCopies, HasPlainTexts}
-use Rattle.st_relearn.specs.Relearnt.{HasWritableReplies, IsWritableKept, ReadsAndPermits, policy_text}
+use Rattle.st_relearn.specs.Relearnt.{HasWritableReplies, IsWritableKept, ReadsAndPermits, learnt_policy_text}
 use Rattle.st_relearn.specs.Writable.{AreWritable, IsWritableAction, IsWritableFilter, IsWritablePolicy}
 use Rattle.st_relearn.proofs.Keeping.{copies_of_runs}
 use Rattle.st_relearn.proofs.LearntFilters.{learnt_is_writable}
@@ -105,15 +105,15 @@ pub read_permits_made : PermitsMade → ReadsOnce → (env : Env) (i : Input) �
     (later earlier : History) (t q : ℕ) (call : SysCall) (regs : List ℕ) (args : List ArgText) (ids : Ids) (result : CallResult) (changes : List Change) →
     IsLawfulBack i (later ++ Used t (Some q) call regs args ids result changes ∷ earlier) →
     filters_in (learnt_policies i.policies (session_at i (later ++ Used t (Some q) call regs args ids result changes ∷ earlier))) ≤ MOST_FILTERS →
-    ReadsAndPermits (policy_text i.policies (session_at i (later ++ Used t (Some q) call regs args ids result changes ∷ earlier))) env (looking_back i earlier) q ids
+    ReadsAndPermits (learnt_policy_text i.policies (session_at i (later ++ Used t (Some q) call regs args ids result changes ∷ earlier))) env (looking_back i earlier) q ids
 read_permits_made permits_made once env i startable texts replies writable plain later earlier t q call regs args ids result changes lawful few =
     let whole : History = later ++ Used t (Some q) call regs args ids result changes ∷ earlier in
     let set : List BinaryPolicy = learnt_policies i.policies (session_at i whole) in
-    let reads : Reads (policy_text i.policies (session_at i whole)) env [] set = learnt_is_read env i.policies (session_at i whole) writable (run_adds_writable env i startable texts replies whole lawful) few in
+    let reads : Reads (learnt_policy_text i.policies (session_at i whole)) env [] set = learnt_is_read env i.policies (session_at i whole) writable (run_adds_writable env i startable texts replies whole lawful) few in
     record {
       set = set;
       reads = reads;
-      alone = λ other again. once (policy_text i.policies (session_at i whole)) env [] other set again reads;
+      alone = λ other again. once (learnt_policy_text i.policies (session_at i whole)) env [] other set again reads;
       permitted = permits_made i plain later earlier t q call regs args ids result changes lawful;
     }
 
@@ -143,7 +143,7 @@ pub learnt_permits_made : PermitsMade → ReadsOnce → (env : Env) (i : Input) 
     (later earlier : History) (t q : ℕ) (call : SysCall) (regs : List ℕ) (args : List ArgText) (ids : Ids) (result : CallResult) (changes : List Change) →
     IsLawfulBack i (later ++ Used t (Some q) call regs args ids result changes ∷ earlier) →
     filters_in (learnt_policies i.policies (session_at i (later ++ Used t (Some q) call regs args ids result changes ∷ earlier))) ≤ MOST_FILTERS →
-    ReadsAndPermits (policy_text i.policies (session_at i (later ++ Used t (Some q) call regs args ids result changes ∷ earlier))) env (looking_back i earlier) q ids
+    ReadsAndPermits (learnt_policy_text i.policies (session_at i (later ++ Used t (Some q) call regs args ids result changes ∷ earlier))) env (looking_back i earlier) q ids
 learnt_permits_made permits_made once env i startable texts mode learns plain small was later earlier t q call regs args ids result changes lawful few =
     let w : AreWritable env i.policies = read_is_writable env i.policies was plain small in
     read_permits_made permits_made once env i startable texts (no_replies env i mode) w (none_asks env i.policies learns w) later earlier t q call regs args ids result changes lawful few

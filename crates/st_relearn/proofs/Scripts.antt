@@ -26,12 +26,12 @@ use Rattle.st_names.specs.Name.{components_of}
 use Rattle.st_grammar.specs.OneFilter.{FilterResult, ReadsFilter, filter_in}
 use Rattle.st_reread.specs.Readable.{AreTextBytes, HasPlainDollars, HasSmallIds, WasRead}
 use Rattle.st_grammar.specs.declared.env.Env.{Env}
-use Rattle.st_script_faults.specs.Environment.{dollars_by, dollars_of, environment_of, first_traced, group_id, groups_below, is_given, learns, new_group, new_user, process_of, user_id, user_of, users_below}
-use Rattle.st_script_faults.specs.Faults.{answer_of, reply_said, script_fault, unless_ask}
-use Rattle.st_script_faults.specs.Names.{Name, has_name, with_name}
+use Rattle.st_script_faults.specs.Environment.{dollars_by, dollars_of, environment_of, first_traced, group_id, groups_below, is_given, learns, new_group, new_user, script_process, user_id, user_of, users_below}
+use Rattle.st_script_faults.specs.Faults.{reply_filter, reply_said, script_fault, unless_ask}
+use Rattle.st_script_faults.specs.Names.{Name, is_name_among, with_new_name}
 use Rattle.st_script_faults.specs.declared.fault.ScriptFault.{ScriptFault}
-use Rattle.st_script.specs.Reading.{object_said, process_said, script_in, script_with, start_of, unless_faulty}
-use Rattle.st_script.specs.Startable.{CanStart, input_with}
+use Rattle.st_script.specs.Reading.{object_said, process_said, script_in, script_with, start_of, unless_fault}
+use Rattle.st_script.specs.Startable.{IsRunnableScript, input_with}
 use Rattle.st_script.specs.declared.reading.ReadScript.{ReadScript}
 use Rattle.st_statements.specs.Parts.{is_normal}
 use Rattle.st_statements.specs.Statements.{lines_in}
@@ -46,7 +46,7 @@ use Rattle.st_trace.specs.declared.start.GroupRow.{GroupRow}
 use Rattle.st_trace.specs.declared.start.TreeRow.{TreeRow}
 use Rattle.st_trace.specs.declared.start.UserRow.{UserRow}
 use Rattle.st_relearn.specs.Plain.{HasPlainTarget, HasPlainTexts, IsPlainProcess}
-use Rattle.st_relearn.specs.Relearnt.{ReadsAndPermits, policy_text}
+use Rattle.st_relearn.specs.Relearnt.{ReadsAndPermits, learnt_policy_text}
 use Rattle.st_relearn.specs.Scripts.{HasPlainScript}
 use Rattle.st_relearn.specs.Writable.{IsId, IsWritableFilter}
 use Rattle.st_relearn.proofs.Lines.{ArePlainLines, IsPlainStatement, if_either, if_map, script_lines}
@@ -91,46 +91,46 @@ abbrev IsPlainUser : UserRow → Type 0
 IsPlainUser user = AreBytes user.name × AreBytes user.home × IsId user.uid
 
 new_user_plain : (known : List Name) (o : Option Statement) → IfSome o IsPlainStatement → IfSome (new_user known o) IsPlainUser
-new_user_plain known (Some (says.User user)) plain = if_either IsPlainUser (has_name known user.name) None (Some user) tt plain
+new_user_plain known (Some (says.User user)) plain = if_either IsPlainUser (is_name_among known user.name) None (Some user) tt plain
 new_user_plain known _ plain = tt
 
 users_plain : (known : List Name) (lines : List ScriptLine) → ArePlainLines lines → AllByRecursion IsPlainUser (users_below known lines)
 users_plain known [] plain = tt
 users_plain known (line ∷ lines) plain = by (new_user known line.says) (new_user_plain known line.says plain.0) (λ names. users_plain names lines plain.1) where
   by : (o : Option UserRow) → IfSome o IsPlainUser → ((names : List Name) → AllByRecursion IsPlainUser (users_below names lines))
-      → AllByRecursion IsPlainUser (elim o [ Some user ↦ user ∷ users_below (with_name known user.name) lines | None ↦ users_below known lines ])
+      → AllByRecursion IsPlainUser (elim o [ Some user ↦ user ∷ users_below (with_new_name known user.name) lines | None ↦ users_below known lines ])
   by None here rest = rest known
-  by (Some user) here rest = (here, rest (with_name known user.name))
+  by (Some user) here rest = (here, rest (with_new_name known user.name))
 
 abbrev IsPlainGroup : GroupRow → Type 0
 IsPlainGroup group = IsId group.gid
 
 new_group_plain : (known : List Name) (o : Option Statement) → IfSome o IsPlainStatement → IfSome (new_group known o) IsPlainGroup
-new_group_plain known (Some (says.Group group)) plain = if_either IsPlainGroup (has_name known group.name) None (Some group) tt plain
+new_group_plain known (Some (says.Group group)) plain = if_either IsPlainGroup (is_name_among known group.name) None (Some group) tt plain
 new_group_plain known _ plain = tt
 
 groups_plain : (known : List Name) (lines : List ScriptLine) → ArePlainLines lines → AllByRecursion IsPlainGroup (groups_below known lines)
 groups_plain known [] plain = tt
 groups_plain known (line ∷ lines) plain = by (new_group known line.says) (new_group_plain known line.says plain.0) (λ names. groups_plain names lines plain.1) where
   by : (o : Option GroupRow) → IfSome o IsPlainGroup → ((names : List Name) → AllByRecursion IsPlainGroup (groups_below names lines))
-      → AllByRecursion IsPlainGroup (elim o [ Some group ↦ group ∷ groups_below (with_name known group.name) lines | None ↦ groups_below known lines ])
+      → AllByRecursion IsPlainGroup (elim o [ Some group ↦ group ∷ groups_below (with_new_name known group.name) lines | None ↦ groups_below known lines ])
   by None here rest = rest known
-  by (Some group) here rest = (here, rest (with_name known group.name))
+  by (Some group) here rest = (here, rest (with_new_name known group.name))
 
 abbrev IsPlainTraced : ScriptProcess → Type 0
 IsPlainTraced process = AreBytes process.cwd
 
-process_given : (o : Option Statement) → IfSome o IsPlainStatement → IfSome (process_of o) IsPlainTraced
+process_given : (o : Option Statement) → IfSome o IsPlainStatement → IfSome (script_process o) IsPlainTraced
 process_given (Some (says.Process process)) plain = plain.1
 process_given _ plain = tt
 
 traced_plain : (known : List Name) (lines : List ScriptLine) → ArePlainLines lines → IfSome (first_traced known lines) IsPlainTraced
 traced_plain known [] plain = tt
-traced_plain known (line ∷ lines) plain = by (process_of line.says) (process_given line.says plain.0) (λ names. traced_plain names lines plain.1) where
+traced_plain known (line ∷ lines) plain = by (script_process line.says) (process_given line.says plain.0) (λ names. traced_plain names lines plain.1) where
   by : (o : Option ScriptProcess) → IfSome o IsPlainTraced → ((names : List Name) → IfSome (first_traced names lines) IsPlainTraced)
-      → IfSome (elim o [ Some process ↦ if is_given known process then Some process else first_traced (with_name known process.name) lines | None ↦ first_traced known lines ]) IsPlainTraced
+      → IfSome (elim o [ Some process ↦ if is_given known process then Some process else first_traced (with_new_name known process.name) lines | None ↦ first_traced known lines ]) IsPlainTraced
   by None here rest = rest known
-  by (Some process) here rest = if_either IsPlainTraced (is_given known process) (Some process) (first_traced (with_name known process.name) lines) here (rest (with_name known process.name))
+  by (Some process) here rest = if_either IsPlainTraced (is_given known process) (Some process) (first_traced (with_new_name known process.name) lines) here (rest (with_new_name known process.name))
 
 found_plain : (is : UserRow → Bool) (users : List UserRow) → AllByRecursion IsPlainUser users → IfSome (find is users) IsPlainUser
 found_plain is [] all = tt
@@ -186,14 +186,14 @@ module _ (options : Options) (lines : List ScriptLine) (plain : ArePlainLines li
     answer_by f (Deny errno) w = w
     answer_by f Ask w = tt
 
-    answer_plain : (text : List ℕ) (r : FilterResult) → filter_in text env ≡ r → AllByRecursion (λ b. b < 256) text → IfSome (answer_of r) (IsWritableFilter env)
+    answer_plain : (text : List ℕ) (r : FilterResult) → filter_in text env ≡ r → AllByRecursion (λ b. b < 256) text → IfSome (reply_filter r) (IsWritableFilter env)
     answer_plain text (Ok f) is small = answer_by f f.action (reply_is_writable env text f (sound text env f is) (All-from_recursion (λ b. b < 256) text small) plain_dollars small_ids)
     answer_plain text (Err fault) is small = tt
 
     reply_plain : (o : Option Statement) → IfSome o IsPlainStatement → IfSome (reply_said env o) IsWritableReply
     reply_plain (Some (says.Reply binary filter)) small =
         if_either IsWritableReply (is_normal (unquoted env.dollars binary)) _ None
-        (if_map (IsWritableFilter env) IsWritableReply (λ f. record { binary = unquoted env.dollars binary; filter = f }) (answer_of (filter_in filter env)) (answer_plain filter (filter_in filter env) refl small) (λ f w. w)) tt
+        (if_map (IsWritableFilter env) IsWritableReply (λ f. record { binary = unquoted env.dollars binary; filter = f }) (reply_filter (filter_in filter env)) (answer_plain filter (filter_in filter env) refl small) (λ f w. w)) tt
     reply_plain _ small = tt
 
     lines_written : HasPlainScript (script_with env lines)
@@ -210,7 +210,7 @@ module _ (options : Options) (lines : List ScriptLine) (plain : ArePlainLines li
 abbrev ReadsFilters : Type 0
 ReadsFilters = (text : List ℕ) (env : Env) (f : FilterValue) → filter_in text env ≡ Ok f → ReadsFilter text env f
 
-read_by : (o : Option ScriptFault) (read script : ReadScript) → unless_faulty o read ≡ Ok script → read ≡ script
+read_by : (o : Option ScriptFault) (read script : ReadScript) → unless_fault o read ≡ Ok script → read ≡ script
 read_by (Some fault) read script e = absurd (cc)
 read_by None read script e = cc
 
@@ -226,14 +226,14 @@ script_is_plain sound text options script bytes e =
 
 -- the law that a run can start with a script that is read
 abbrev ScriptsStart : Type 0
-ScriptsStart = (text : List ℕ) (options : Options) (script : ReadScript) → script_in text options ≡ Ok script → CanStart script
+ScriptsStart = (text : List ℕ) (options : Options) (script : ReadScript) → script_in text options ≡ Ok script → IsRunnableScript script
 
 pub script_permits_made : PermitsMade → ReadsOnce → ReadsFilters → ScriptsStart → (text : List ℕ) (options : Options) (script : ReadScript) (policies : List BinaryPolicy) →
     AreTextBytes text → script_in text options ≡ Ok script → options.mode ≡ Learn → 1 ≤ options.workers → options.workers ≤ 8 → WasRead script.env policies →
     (later earlier : History) (t q : ℕ) (call : SysCall) (regs : List ℕ) (args : List ArgText) (ids : Ids) (result : CallResult) (changes : List Change) →
     IsLawfulBack (input_with policies options script) (later ++ Used t (Some q) call regs args ids result changes ∷ earlier) →
     filters_in (learnt_policies policies (session_at (input_with policies options script) (later ++ Used t (Some q) call regs args ids result changes ∷ earlier))) ≤ MOST_FILTERS →
-    ReadsAndPermits (policy_text policies (session_at (input_with policies options script) (later ++ Used t (Some q) call regs args ids result changes ∷ earlier))) script.env (looking_back (input_with policies options script) earlier) q ids
+    ReadsAndPermits (learnt_policy_text policies (session_at (input_with policies options script) (later ++ Used t (Some q) call regs args ids result changes ∷ earlier))) script.env (looking_back (input_with policies options script) earlier) q ids
 script_permits_made permits_made once sound start text options script policies bytes e mode some few was later earlier t q call regs args ids result changes lawful room =
     let plain : HasPlainScript script = script_is_plain sound text options script bytes e in
     let learning : script.env.learn ≡ true = ap (λ (s : ReadScript). s.env.learn) (sym (read_is text options script e)) ∙ ap learns mode in

@@ -8,11 +8,11 @@ use Rattle.st_filter.specs.declared.set.BinaryPolicy.{BinaryPolicy}
 use Rattle.st_filter.specs.declared.set.TheConstants.{MOST_FILTERS}
 use Rattle.st_law.specs.Sessions.{SessionFilter}
 use Rattle.st_learn.specs.Learnt.{all_policies, empty_policy, filters_added, learnt_policies, with_policy, with_session}
-use Rattle.st_learn.specs.Sessions.{is_of}
+use Rattle.st_learn.specs.Sessions.{is_filter_for}
 use Rattle.st_grammar.specs.Grammar.{AreNew, Reads}
 use Rattle.st_grammar.specs.declared.env.Env.{Env}
 use Rattle.st_base.proofs.Each.{each-append}
-use Rattle.st_relearn.specs.Relearnt.{IsWritableKept, policy_text}
+use Rattle.st_relearn.specs.Relearnt.{IsWritableKept, learnt_policy_text}
 use Rattle.st_relearn.specs.Writable.{AreWritable, IsWritableBinary, IsWritableFilter, IsWritablePolicy}
 use Rattle.st_relearn.proofs.Writing.{written_is_read}
 use Rattle.st_reread.proofs.Readings.{AreNew-append}
@@ -63,8 +63,8 @@ module _ (env : Env) where
 
   added_writable : (session : List SessionFilter) (binary : List ℕ) → AllByRecursion (IsWritableKept env) session → AllByRecursion (IsWritableFilter env) (filters_added session binary)
   added_writable [] binary kept = tt
-  added_writable (k ∷ session) binary kept = by (is_of binary k) (added_writable session binary kept.1) where
-    by : (t : Bool) → AllByRecursion (IsWritableFilter env) (filters_added session binary) → AllByRecursion (IsWritableFilter env) (map (λ each. each.filter) (cond t (k ∷ filter (is_of binary) session) (filter (is_of binary) session)))
+  added_writable (k ∷ session) binary kept = by (is_filter_for binary k) (added_writable session binary kept.1) where
+    by : (t : Bool) → AllByRecursion (IsWritableFilter env) (filters_added session binary) → AllByRecursion (IsWritableFilter env) (map (λ each. each.filter) (cond t (k ∷ filter (is_filter_for binary) session) (filter (is_filter_for binary) session)))
     by true later = (kept.0.filter, later)
     by false later = later
 
@@ -88,6 +88,6 @@ module _ (env : Env) where
     few = few;
   }
 
-  pub learnt_is_read : (ps : List BinaryPolicy) (session : List SessionFilter) → AreWritable env ps → All (IsWritableKept env) session → filters_in (learnt_policies ps session) ≤ MOST_FILTERS → Reads (policy_text ps session) env [] (learnt_policies ps session)
+  pub learnt_is_read : (ps : List BinaryPolicy) (session : List SessionFilter) → AreWritable env ps → All (IsWritableKept env) session → filters_in (learnt_policies ps session) ≤ MOST_FILTERS → Reads (learnt_policy_text ps session) env [] (learnt_policies ps session)
   learnt_is_read ps session w kept few =
       written_is_read env (learnt_policies ps session) (learnt_writable ps session w (recursion_from_All (IsWritableKept env) session kept) few)

@@ -12,7 +12,7 @@ use Rattle.st_calls.specs.declared.call.SysCall.TheVariants.{Open}
 use Rattle.st_calls.specs.declared.rule.Rule.{Rule}
 use Rattle.st_calls.specs.declared.rule.Rule.TheVariants.{Call, FsRead, FsWrite}
 use Rattle.st_calls.specs.Call.{rule_named}
-use Rattle.st_lex.specs.Pieces.{Piece, PlainWord, QuotedText, Sign, Space, StandWell, is_word_text, sign_bytes}
+use Rattle.st_lex.specs.Pieces.{Piece, PlainWord, QuotedText, Sign, Space, CanBeReadBack, is_word_text, sign_bytes}
 use Rattle.st_lex.specs.Quote.{AreBytes, quoted}
 use Rattle.st_lex.specs.Tokens.{is_word_byte}
 use Rattle.st_filter.specs.Formula.{Formula, True, Test, Not, And, Or, FilterValue}
@@ -242,7 +242,7 @@ writable_policies env (p ∷ ps) r = (writable_policy env p r.0, writable_polici
 -- ---- policies that can be written are read again
 
 -- the pieces of policies that can be written can be read back
-pub well_written : (env : Env) (set : List BinaryPolicy) → AreWritable env set → StandWell (set_pieces set)
+pub well_written : (env : Env) (set : List BinaryPolicy) → AreWritable env set → CanBeReadBack (set_pieces set)
 well_written env set w = well_set env set (readable_policies env set (recursion_from_All (IsWritablePolicy env) set w.each))
 
 pub written_is_read : (env : Env) (set : List BinaryPolicy) → AreWritable env set → Reads (canon set) env [] set

@@ -24,8 +24,8 @@ abbrev pub HasWritableReplies : Env → Input → Type 0
 HasWritableReplies env i = i.options.mode ≡ AskText → All (λ reply. IsWritableFilter env reply.filter) i.replies
 
 -- the canonical text of the policies, with what a session has added to them
-abbrev pub policy_text : List BinaryPolicy → List SessionFilter → List ℕ
-policy_text policies session = canon (learnt_policies policies session)
+abbrev pub learnt_policy_text : List BinaryPolicy → List SessionFilter → List ℕ
+learnt_policy_text policies session = canon (learnt_policies policies session)
 
 -- a text is read alone as these policies and no others, and they permit the call of a number under these ids
 pub record ReadsAndPermits (text : List ℕ) (env : Env) (st : State) (q : ℕ) (ids : Ids) : Type 0 where

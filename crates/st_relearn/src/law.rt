@@ -25,7 +25,7 @@ ghost use Rattle.st_grammar.specs.OneFilter.{ReadsFilter};
 ghost use Rattle.st_reread.specs.Readable.{AreTextBytes, WasRead, HasPlainDollars, HasSmallIds};
 ghost use Rattle.st_grammar.specs.declared.env.Env.{Env};
 ghost use Rattle.st_relearn.specs.Plain.{AreArguments, AreWritableCopies, HasPlainTexts};
-ghost use Rattle.st_relearn.specs.Relearnt.{HasWritableReplies, IsWritableKept, ReadsAndPermits, policy_text};
+ghost use Rattle.st_relearn.specs.Relearnt.{HasWritableReplies, IsWritableKept, ReadsAndPermits, learnt_policy_text};
 ghost use Rattle.st_relearn.specs.Scripts.{HasPlainScript};
 ghost use Rattle.st_relearn.specs.Writable.{AreWritable, IsWritableFilter};
 ghost use Rattle.st_script.specs.Reading.{script_in};
@@ -62,7 +62,7 @@ pub fn what_is_learnt_can_be_written()
 /// The canonical text of policies, with what a session has added to them, is read again as the same policies, if they and the session's
 /// filters can be written and there are not too many filters in all.
 pub fn learnt_text_is_read_again()
-    ensures { (env : Env) (policies : List BinaryPolicy) (session : List SessionFilter) → AreWritable env policies → All (IsWritableKept env) session → filters_in (learnt_policies policies session) ≤ MOST_FILTERS → Reads (policy_text policies session) env [] (learnt_policies policies session) }
+    ensures { (env : Env) (policies : List BinaryPolicy) (session : List SessionFilter) → AreWritable env policies → All (IsWritableKept env) session → filters_in (learnt_policies policies session) ≤ MOST_FILTERS → Reads (learnt_policy_text policies session) env [] (learnt_policies policies session) }
 {}
 
 /// Each copy that a lawful run makes has the arguments of its rule, and the arguments and the binary of its policy can be written, if the
@@ -79,7 +79,7 @@ pub fn what_a_run_adds_can_be_written()
 /// The policies with what a run has added, written and read again, permit each held call that the run has made, under the ids that it was
 /// made under. This needs that no filter that was read asks, that all filters can be written, and that there are not too many in all.
 pub fn what_is_read_again_permits_what_was_made()
-    ensures { (env : Env) (input : Input) → IsStartable input → HasPlainTexts input.start → HasWritableReplies env input → AreWritable env input.policies → NoneAsks input.policies → (later earlier : History) (t q : ℕ) (call : SysCall) (regs : List ℕ) (args : List ArgText) (ids : Ids) (result : CallResult) (changes : List Change) → IsLawfulBack input (later ++ Used t (Some q) call regs args ids result changes ∷ earlier) → filters_in (learnt_policies input.policies (session_at input (later ++ Used t (Some q) call regs args ids result changes ∷ earlier))) ≤ MOST_FILTERS → ReadsAndPermits (policy_text input.policies (session_at input (later ++ Used t (Some q) call regs args ids result changes ∷ earlier))) env (looking_back input earlier) q ids }
+    ensures { (env : Env) (input : Input) → IsStartable input → HasPlainTexts input.start → HasWritableReplies env input → AreWritable env input.policies → NoneAsks input.policies → (later earlier : History) (t q : ℕ) (call : SysCall) (regs : List ℕ) (args : List ArgText) (ids : Ids) (result : CallResult) (changes : List Change) → IsLawfulBack input (later ++ Used t (Some q) call regs args ids result changes ∷ earlier) → filters_in (learnt_policies input.policies (session_at input (later ++ Used t (Some q) call regs args ids result changes ∷ earlier))) ≤ MOST_FILTERS → ReadsAndPermits (learnt_policy_text input.policies (session_at input (later ++ Used t (Some q) call regs args ids result changes ∷ earlier))) env (looking_back input earlier) q ids }
 {
     what_was_made_is_permitted_by_what_was_learnt();
     reading_is_one();
@@ -89,7 +89,7 @@ pub fn what_is_read_again_permits_what_was_made()
 /// texts that they were read with. The result permits each held call that the run has made, under the ids that it was made under, unless
 /// there are too many filters in all.
 pub fn learnt_text_permits_what_was_made()
-    ensures { (env : Env) (input : Input) → IsStartable input → HasPlainTexts input.start → input.options.mode ≡ Learn → env.learn ≡ true → HasPlainDollars env → HasSmallIds env → WasRead env input.policies → (later earlier : History) (t q : ℕ) (call : SysCall) (regs : List ℕ) (args : List ArgText) (ids : Ids) (result : CallResult) (changes : List Change) → IsLawfulBack input (later ++ Used t (Some q) call regs args ids result changes ∷ earlier) → filters_in (learnt_policies input.policies (session_at input (later ++ Used t (Some q) call regs args ids result changes ∷ earlier))) ≤ MOST_FILTERS → ReadsAndPermits (policy_text input.policies (session_at input (later ++ Used t (Some q) call regs args ids result changes ∷ earlier))) env (looking_back input earlier) q ids }
+    ensures { (env : Env) (input : Input) → IsStartable input → HasPlainTexts input.start → input.options.mode ≡ Learn → env.learn ≡ true → HasPlainDollars env → HasSmallIds env → WasRead env input.policies → (later earlier : History) (t q : ℕ) (call : SysCall) (regs : List ℕ) (args : List ArgText) (ids : Ids) (result : CallResult) (changes : List Change) → IsLawfulBack input (later ++ Used t (Some q) call regs args ids result changes ∷ earlier) → filters_in (learnt_policies input.policies (session_at input (later ++ Used t (Some q) call regs args ids result changes ∷ earlier))) ≤ MOST_FILTERS → ReadsAndPermits (learnt_policy_text input.policies (session_at input (later ++ Used t (Some q) call regs args ids result changes ∷ earlier))) env (looking_back input earlier) q ids }
 {
     what_was_made_is_permitted_by_what_was_learnt();
     reading_is_one();
@@ -106,7 +106,7 @@ pub fn what_a_script_says_can_be_written()
 /// same names and texts. The result permits each held call that the run has made, under the ids that it was made under, unless there are
 /// too many filters in all.
 pub fn what_a_script_learns_permits_what_was_made()
-    ensures { (text : List ℕ) (options : Options) (script : ReadScript) (policies : List BinaryPolicy) → AreTextBytes text → script_in text options ≡ Ok script → options.mode ≡ Learn → 1 ≤ options.workers → options.workers ≤ 8 → WasRead script.env policies → (later earlier : History) (t q : ℕ) (call : SysCall) (regs : List ℕ) (args : List ArgText) (ids : Ids) (result : CallResult) (changes : List Change) → IsLawfulBack (input_with policies options script) (later ++ Used t (Some q) call regs args ids result changes ∷ earlier) → filters_in (learnt_policies policies (session_at (input_with policies options script) (later ++ Used t (Some q) call regs args ids result changes ∷ earlier))) ≤ MOST_FILTERS → ReadsAndPermits (policy_text policies (session_at (input_with policies options script) (later ++ Used t (Some q) call regs args ids result changes ∷ earlier))) script.env (looking_back (input_with policies options script) earlier) q ids }
+    ensures { (text : List ℕ) (options : Options) (script : ReadScript) (policies : List BinaryPolicy) → AreTextBytes text → script_in text options ≡ Ok script → options.mode ≡ Learn → 1 ≤ options.workers → options.workers ≤ 8 → WasRead script.env policies → (later earlier : History) (t q : ℕ) (call : SysCall) (regs : List ℕ) (args : List ArgText) (ids : Ids) (result : CallResult) (changes : List Change) → IsLawfulBack (input_with policies options script) (later ++ Used t (Some q) call regs args ids result changes ∷ earlier) → filters_in (learnt_policies policies (session_at (input_with policies options script) (later ++ Used t (Some q) call regs args ids result changes ∷ earlier))) ≤ MOST_FILTERS → ReadsAndPermits (learnt_policy_text policies (session_at (input_with policies options script) (later ++ Used t (Some q) call regs args ids result changes ∷ earlier))) script.env (looking_back (input_with policies options script) earlier) q ids }
 {
     what_was_made_is_permitted_by_what_was_learnt();
     reading_is_one();

@@ -7,7 +7,7 @@ use Rattle.st_trace.specs.declared.entry.Entry.{Entry}
 use Rattle.st_law.specs.declared.input.Input.{Input}
 use Rattle.st_law.specs.Machine.{entry_of, history, history_with, run, state_after, state_at, state_of_run}
 use Rattle.st_law.specs.Schedules.{Choices, Played, further_on, line_on, lines_played, played, repeated}
-use Rattle.st_report.specs.ScheduleText.{lines_from, printed_schedule, repeats_of, spelled_choices}
+use Rattle.st_report.specs.ScheduleText.{schedule_lines_from, printed_schedule, repeats_of, spelled_choices}
 use Rattle.st_report.specs.declared.schedule.Repeat.{Repeat}
 use Rattle.st_report.proofs.Repeats.{spelled_again}
 
@@ -73,10 +73,10 @@ module _ (i : Input) where
       ∙ repeated_again n c (front ++ c ∷ []) rest (subst (λ cs. AreEnabled (reverse cs)) (sym (append_assoc front (c ∷ []) (replicate n c ++ rest))) x)
       ∙ ap (λ cs. Some (played_to cs)) (append_assoc front (c ∷ []) (replicate n c))
 
-  lines_again : (line : ℕ) (repeats : List Repeat) (front : List Choice) → AreEnabled (reverse (front ++ spelled_choices repeats)) → lines_played (lines_from line repeats) None i (played_to front) ≡ Choices (front ++ spelled_choices repeats)
+  lines_again : (line : ℕ) (repeats : List Repeat) (front : List Choice) → AreEnabled (reverse (front ++ spelled_choices repeats)) → lines_played (schedule_lines_from line repeats) None i (played_to front) ≡ Choices (front ++ spelled_choices repeats)
   lines_again line [] front x = ap Choices (sym (append-nil front))
   lines_again line (each ∷ repeats) front x =
-      ap (line_on line (λ after. lines_played (lines_from (suc line) repeats) None i after)) (repeated_again each.times each.choice front (spelled_choices repeats) x)
+      ap (line_on line (λ after. lines_played (schedule_lines_from (suc line) repeats) None i after)) (repeated_again each.times each.choice front (spelled_choices repeats) x)
       ∙ lines_again (suc line) repeats (front ++ replicate each.times each.choice) (subst (λ cs. AreEnabled (reverse cs)) (sym (append_assoc front (replicate each.times each.choice) (spelled_choices repeats))) x)
       ∙ ap Choices (append_assoc front (replicate each.times each.choice) (spelled_choices repeats))
 

@@ -6,7 +6,7 @@ use Rattle.std.proofs.lemmas.Bool.{and_from, and_parts, eq-eqb, eqb-true, lt-ltb
 use Rattle.st_trace.specs.declared.entry.Choice.{Choice}
 use Rattle.st_trace.specs.declared.entry.Choice.TheVariants.{Thread, Worker, Operator}
 use Rattle.st_law.specs.declared.input.TheConstants.{MOST_TIMES}
-use Rattle.st_report.specs.ScheduleText.{AreJoined, is_same_choice, joins, repeat_of, repeats_behind, repeats_of, repeats_with, spelled_choices}
+use Rattle.st_report.specs.ScheduleText.{AreJoined, is_same_choice, joins, repeat_of, repeats_after, repeats_of, repeats_with, spelled_choices}
 use Rattle.st_report.specs.declared.schedule.Repeat.{Repeat}
 
 -- ---- choices
@@ -28,15 +28,15 @@ one_choice (Worker w) = eq-eqb w w refl
 one_choice Operator = refl
 
 -- whether the next choice joins the line
-abbrev is_told_with : Choice → ℕ → Choice → Bool
-is_told_with c n d = joins (repeat_of c n) d
+abbrev is_printed_with : Choice → ℕ → Choice → Bool
+is_printed_with c n d = joins (repeat_of c n) d
 
 -- it does if the line isn't full and the choice is the same
-told_parts : (c d : Choice) (n : ℕ) → is_told_with c n d ≡ true → (is_same_choice c d ≡ true) × (nat_lt n MOST_TIMES ≡ true)
-told_parts c d n e = let both = and_parts (nat_lt n MOST_TIMES) (is_same_choice c d) e in (both.1, both.0)
+printed_parts : (c d : Choice) (n : ℕ) → is_printed_with c n d ≡ true → (is_same_choice c d ≡ true) × (nat_lt n MOST_TIMES ≡ true)
+printed_parts c d n e = let both = and_parts (nat_lt n MOST_TIMES) (is_same_choice c d) e in (both.1, both.0)
 
-told_from : (c d : Choice) (n : ℕ) → is_same_choice c d ≡ true → nat_lt n MOST_TIMES ≡ true → is_told_with c n d ≡ true
-told_from c d n same room = and_from (nat_lt n MOST_TIMES) (is_same_choice c d) room same
+printed_from : (c d : Choice) (n : ℕ) → is_same_choice c d ≡ true → nat_lt n MOST_TIMES ≡ true → is_printed_with c n d ≡ true
+printed_from c d n same room = and_from (nat_lt n MOST_TIMES) (is_same_choice c d) room same
 
 one_more_time : (n : ℕ) (c : Choice) (cs : List Choice) → replicate (suc n) c ++ cs ≡ replicate n c ++ c ∷ cs
 one_more_time zero c cs = refl
@@ -44,20 +44,20 @@ one_more_time (suc n) c cs = ap (λ rest. c ∷ rest) (one_more_time n c cs)
 
 -- ---- lines spell their choices
 
-spelled_by : (c d : Choice) (n : ℕ) (cs : List Choice) → spelled_choices (repeats_behind c (suc n) cs) ≡ replicate (suc n) c ++ cs → spelled_choices (repeats_behind d 1 cs) ≡ d ∷ cs
-    → (b : Bool) → is_told_with c n d ≡ b → spelled_choices (cond b (repeats_behind c (suc n) cs) (repeat_of c n ∷ repeats_behind d 1 cs)) ≡ replicate n c ++ d ∷ cs
+spelled_by : (c d : Choice) (n : ℕ) (cs : List Choice) → spelled_choices (repeats_after c (suc n) cs) ≡ replicate (suc n) c ++ cs → spelled_choices (repeats_after d 1 cs) ≡ d ∷ cs
+    → (b : Bool) → is_printed_with c n d ≡ b → spelled_choices (cond b (repeats_after c (suc n) cs) (repeat_of c n ∷ repeats_after d 1 cs)) ≡ replicate n c ++ d ∷ cs
 spelled_by c d n cs more other true e =
-    let same : c ≡ d = same_choice c d (told_parts c d n e).0 in
+    let same : c ≡ d = same_choice c d (printed_parts c d n e).0 in
     more ∙ one_more_time n c cs ∙ ap (λ (x : Choice). replicate n c ++ x ∷ cs) same
 spelled_by c d n cs more other false e = ap (λ rest. replicate n c ++ rest) other
 
-spelled_behind : (c : Choice) (n : ℕ) (cs : List Choice) → spelled_choices (repeats_behind c n cs) ≡ replicate n c ++ cs
-spelled_behind c n [] = refl
-spelled_behind c n (d ∷ cs) = spelled_by c d n cs (spelled_behind c (suc n) cs) (spelled_behind d 1 cs) (is_told_with c n d) refl
+spelled_later : (c : Choice) (n : ℕ) (cs : List Choice) → spelled_choices (repeats_after c n cs) ≡ replicate n c ++ cs
+spelled_later c n [] = refl
+spelled_later c n (d ∷ cs) = spelled_by c d n cs (spelled_later c (suc n) cs) (spelled_later d 1 cs) (is_printed_with c n d) refl
 
 pub spelled_again : (choices : List Choice) → spelled_choices (repeats_of choices) ≡ choices
 spelled_again [] = refl
-spelled_again (c ∷ cs) = spelled_behind c 1 cs
+spelled_again (c ∷ cs) = spelled_later c 1 cs
 
 -- ---- each line is as long as it may be
 
@@ -67,52 +67,52 @@ record BeginsWith (c : Choice) (repeats : List Repeat) : Type 0 where
   later : List Repeat
   split : repeats ≡ repeat_of c times ∷ later
 
-begins_by : (c d : Choice) (n : ℕ) (cs : List Choice) → BeginsWith c (repeats_behind c (suc n) cs) → (b : Bool) → BeginsWith c (cond b (repeats_behind c (suc n) cs) (repeat_of c n ∷ repeats_behind d 1 cs))
+begins_by : (c d : Choice) (n : ℕ) (cs : List Choice) → BeginsWith c (repeats_after c (suc n) cs) → (b : Bool) → BeginsWith c (cond b (repeats_after c (suc n) cs) (repeat_of c n ∷ repeats_after d 1 cs))
 begins_by c d n cs more true = more
-begins_by c d n cs more false = record { times = n; later = repeats_behind d 1 cs; split = refl }
+begins_by c d n cs more false = record { times = n; later = repeats_after d 1 cs; split = refl }
 
-begins : (c : Choice) (n : ℕ) (cs : List Choice) → BeginsWith c (repeats_behind c n cs)
+begins : (c : Choice) (n : ℕ) (cs : List Choice) → BeginsWith c (repeats_after c n cs)
 begins c n [] = record { times = n; later = []; split = refl }
-begins c n (d ∷ cs) = begins_by c d n cs (begins c (suc n) cs) (is_told_with c n d)
+begins c n (d ∷ cs) = begins_by c d n cs (begins c (suc n) cs) (is_printed_with c n d)
 
 joined_before : (c d : Choice) (n : ℕ) (repeats : List Repeat) → 1 ≤ n → n ≤ MOST_TIMES → (c ≡ d → n ≡ MOST_TIMES) → BeginsWith d repeats → AreJoined repeats → AreJoined (repeat_of c n ∷ repeats)
 joined_before c d n repeats low high full x joined =
     subst (λ rs. AreJoined (repeat_of c n ∷ rs)) (sym x.split) (low, high, full, subst AreJoined x.split joined)
 
-full_line : (c d : Choice) (n : ℕ) → n ≤ MOST_TIMES → is_told_with c n d ≡ false → c ≡ d → n ≡ MOST_TIMES
+full_line : (c d : Choice) (n : ℕ) → n ≤ MOST_TIMES → is_printed_with c n d ≡ false → c ≡ d → n ≡ MOST_TIMES
 full_line c d n high e same = by (nat_lt n MOST_TIMES) refl where
   by : (b : Bool) → nat_lt n MOST_TIMES ≡ b → n ≡ MOST_TIMES
-  by true f = absurd (let g : is_told_with c n d ≡ true = told_from c d n (ap (is_same_choice c) (sym same) ∙ one_choice c) f in cc)
+  by true f = absurd (let g : is_printed_with c n d ≡ true = printed_from c d n (ap (is_same_choice c) (sym same) ∙ one_choice c) f in cc)
   by false f = let ltb = lt-ltb n MOST_TIMES in by_order n MOST_TIMES high (λ low. let g = ltb low in cc) where
     by_order : (m k : ℕ) → m ≤ k → (m < k → ⊥) → m ≡ k
     by_order m k high none = omega (arith, high, none)
 
-joined_by : (c d : Choice) (n : ℕ) (cs : List Choice) → 1 ≤ n → n ≤ MOST_TIMES → (suc n ≤ MOST_TIMES → AreJoined (repeats_behind c (suc n) cs)) → AreJoined (repeats_behind d 1 cs)
-    → (b : Bool) → is_told_with c n d ≡ b → AreJoined (cond b (repeats_behind c (suc n) cs) (repeat_of c n ∷ repeats_behind d 1 cs))
-joined_by c d n cs low high more other true e = let room = ltb-true n MOST_TIMES (told_parts c d n e).1 in more (omega (arith, room))
-joined_by c d n cs low high more other false e = joined_before c d n (repeats_behind d 1 cs) low high (full_line c d n high e) (begins d 1 cs) other
+joined_by : (c d : Choice) (n : ℕ) (cs : List Choice) → 1 ≤ n → n ≤ MOST_TIMES → (suc n ≤ MOST_TIMES → AreJoined (repeats_after c (suc n) cs)) → AreJoined (repeats_after d 1 cs)
+    → (b : Bool) → is_printed_with c n d ≡ b → AreJoined (cond b (repeats_after c (suc n) cs) (repeat_of c n ∷ repeats_after d 1 cs))
+joined_by c d n cs low high more other true e = let room = ltb-true n MOST_TIMES (printed_parts c d n e).1 in more (omega (arith, room))
+joined_by c d n cs low high more other false e = joined_before c d n (repeats_after d 1 cs) low high (full_line c d n high e) (begins d 1 cs) other
 
-joined_behind : (c : Choice) (n : ℕ) (cs : List Choice) → 1 ≤ n → n ≤ MOST_TIMES → AreJoined (repeats_behind c n cs)
-joined_behind c n [] low high = (low, high)
-joined_behind c n (d ∷ cs) low high =
-    joined_by c d n cs low high (λ room. joined_behind c (suc n) cs (omega arith) room) (joined_behind d 1 cs (omega arith) (omega arith)) (is_told_with c n d) refl
+joined_after : (c : Choice) (n : ℕ) (cs : List Choice) → 1 ≤ n → n ≤ MOST_TIMES → AreJoined (repeats_after c n cs)
+joined_after c n [] low high = (low, high)
+joined_after c n (d ∷ cs) low high =
+    joined_by c d n cs low high (λ room. joined_after c (suc n) cs (omega arith) room) (joined_after d 1 cs (omega arith) (omega arith)) (is_printed_with c n d) refl
 
 pub joined : (choices : List Choice) → AreJoined (repeats_of choices)
 joined [] = tt
-joined (c ∷ cs) = joined_behind c 1 cs (omega arith) (omega arith)
+joined (c ∷ cs) = joined_after c 1 cs (omega arith) (omega arith)
 
 -- ---- no other lines are like this
 
 -- lines of a choice, which was made this many times already, are joined again
-again_behind : (c : Choice) (k m : ℕ) (repeats : List Repeat) → AreJoined (repeat_of c (k + m) ∷ repeats) → repeats_behind c (k + m) (spelled_choices repeats) ≡ repeat_of c (k + m) ∷ repeats
-    → repeats_behind c k (replicate m c ++ spelled_choices repeats) ≡ repeat_of c (k + m) ∷ repeats
-again_behind c k zero repeats x last = subst (λ n. repeats_behind c n (spelled_choices repeats) ≡ repeat_of c (k + 0) ∷ repeats) (let e : k + 0 ≡ k = omega arith in e) last
-again_behind c k (suc m) repeats x last =
+again_after : (c : Choice) (k m : ℕ) (repeats : List Repeat) → AreJoined (repeat_of c (k + m) ∷ repeats) → repeats_after c (k + m) (spelled_choices repeats) ≡ repeat_of c (k + m) ∷ repeats
+    → repeats_after c k (replicate m c ++ spelled_choices repeats) ≡ repeat_of c (k + m) ∷ repeats
+again_after c k zero repeats x last = subst (λ n. repeats_after c n (spelled_choices repeats) ≡ repeat_of c (k + 0) ∷ repeats) (let e : k + 0 ≡ k = omega arith in e) last
+again_after c k (suc m) repeats x last =
     let high = most repeats x in
-    let room : is_told_with c k c ≡ true = told_from c c k (one_choice c) (lt-ltb k MOST_TIMES (omega (arith, high))) in
+    let room : is_printed_with c k c ≡ true = printed_from c c k (one_choice c) (lt-ltb k MOST_TIMES (omega (arith, high))) in
     let more : k + suc m ≡ suc k + m = omega arith in
-    ap (λ b. cond b (repeats_behind c (suc k) (replicate m c ++ spelled_choices repeats)) (repeat_of c k ∷ repeats_behind c 1 (replicate m c ++ spelled_choices repeats))) room
-    ∙ again_behind c (suc k) m repeats (subst (λ n. AreJoined (repeat_of c n ∷ repeats)) more x) (subst (λ n. repeats_behind c n (spelled_choices repeats) ≡ repeat_of c n ∷ repeats) more last)
+    ap (λ b. cond b (repeats_after c (suc k) (replicate m c ++ spelled_choices repeats)) (repeat_of c k ∷ repeats_after c 1 (replicate m c ++ spelled_choices repeats))) room
+    ∙ again_after c (suc k) m repeats (subst (λ n. AreJoined (repeat_of c n ∷ repeats)) more x) (subst (λ n. repeats_after c n (spelled_choices repeats) ≡ repeat_of c n ∷ repeats) more last)
     ∙ ap (λ n. repeat_of c n ∷ repeats) (sym more) where
       most : (rs : List Repeat) → AreJoined (repeat_of c (k + suc m) ∷ rs) → k + suc m ≤ MOST_TIMES
       most [] y = y.1
@@ -127,62 +127,62 @@ joined_later each [] x = tt
 joined_later each (next ∷ repeats) x = x.3
 
 -- a line ends if it is full, or if another choice comes after it
-ends_there : (c : Choice) (n : ℕ) (repeats : List Repeat) → AreJoined (repeat_of c n ∷ repeats) → repeats_of (spelled_choices repeats) ≡ repeats → repeats_behind c n (spelled_choices repeats) ≡ repeat_of c n ∷ repeats
+ends_there : (c : Choice) (n : ℕ) (repeats : List Repeat) → AreJoined (repeat_of c n ∷ repeats) → repeats_of (spelled_choices repeats) ≡ repeats → repeats_after c n (spelled_choices repeats) ≡ repeat_of c n ∷ repeats
 ends_there c n [] x later = refl
 ends_there c n (each ∷ repeats) x later = by each.times refl where
-  ends : is_told_with c n each.choice ≡ false
-  ends = tell (is_told_with c n each.choice) refl where
-    tell : (b : Bool) → is_told_with c n each.choice ≡ b → is_told_with c n each.choice ≡ false
+  ends : is_printed_with c n each.choice ≡ false
+  ends = tell (is_printed_with c n each.choice) refl where
+    tell : (b : Bool) → is_printed_with c n each.choice ≡ b → is_printed_with c n each.choice ≡ false
     tell false e = e
     tell true e =
-        let both = told_parts c each.choice n e in
+        let both = printed_parts c each.choice n e in
         let room = ltb-true n MOST_TIMES both.1 in
         let full : n ≡ MOST_TIMES = x.2 (same_choice c each.choice both.0) in absurd (omega (arith, room, full))
 
-  by : (times : ℕ) → each.times ≡ times → repeats_behind c n (spelled_choices (each ∷ repeats)) ≡ repeat_of c n ∷ each ∷ repeats
+  by : (times : ℕ) → each.times ≡ times → repeats_after c n (spelled_choices (each ∷ repeats)) ≡ repeat_of c n ∷ each ∷ repeats
   by zero e = let low = lowest each repeats x.3 in absurd (omega (arith, low, e))
   by (suc m) e =
       let spelled : spelled_choices (each ∷ repeats) ≡ each.choice ∷ (replicate m each.choice ++ spelled_choices repeats) = ap (λ times. replicate times each.choice ++ spelled_choices repeats) e in
-      ap (repeats_behind c n) spelled
-      ∙ ap (λ b. cond b (repeats_behind c (suc n) (replicate m each.choice ++ spelled_choices repeats)) (repeat_of c n ∷ repeats_behind each.choice 1 (replicate m each.choice ++ spelled_choices repeats))) ends
+      ap (repeats_after c n) spelled
+      ∙ ap (λ b. cond b (repeats_after c (suc n) (replicate m each.choice ++ spelled_choices repeats)) (repeat_of c n ∷ repeats_after each.choice 1 (replicate m each.choice ++ spelled_choices repeats))) ends
       ∙ ap (λ rs. repeat_of c n ∷ rs) (sym (ap repeats_of spelled) ∙ later)
 
-told_by : (each : Repeat) (repeats : List Repeat) → AreJoined (each ∷ repeats) → repeats_behind each.choice each.times (spelled_choices repeats) ≡ each ∷ repeats
+printed_by : (each : Repeat) (repeats : List Repeat) → AreJoined (each ∷ repeats) → repeats_after each.choice each.times (spelled_choices repeats) ≡ each ∷ repeats
     → (times : ℕ) → each.times ≡ times → repeats_of (spelled_choices (each ∷ repeats)) ≡ each ∷ repeats
-told_by each repeats x last zero e = let low = lowest each repeats x in absurd (omega (arith, low, e))
-told_by each repeats x last (suc m) e =
+printed_by each repeats x last zero e = let low = lowest each repeats x in absurd (omega (arith, low, e))
+printed_by each repeats x last (suc m) e =
     let same : 1 + m ≡ each.times = omega (arith, e) in
     ap (λ times. repeats_of (replicate times each.choice ++ spelled_choices repeats)) e
-    ∙ again_behind each.choice 1 m repeats (subst (λ n. AreJoined (repeat_of each.choice n ∷ repeats)) (sym same) x)
-    (subst (λ n. repeats_behind each.choice n (spelled_choices repeats) ≡ repeat_of each.choice n ∷ repeats) (sym same) last)
+    ∙ again_after each.choice 1 m repeats (subst (λ n. AreJoined (repeat_of each.choice n ∷ repeats)) (sym same) x)
+    (subst (λ n. repeats_after each.choice n (spelled_choices repeats) ≡ repeat_of each.choice n ∷ repeats) (sym same) last)
     ∙ ap (λ n. repeat_of each.choice n ∷ repeats) same
 
-told_again : (repeats : List Repeat) → AreJoined repeats → repeats_of (spelled_choices repeats) ≡ repeats
-told_again [] x = refl
-told_again (each ∷ repeats) x =
-    told_by each repeats x (ends_there each.choice each.times repeats x (told_again repeats (joined_later each repeats x))) each.times refl
+printed_again : (repeats : List Repeat) → AreJoined repeats → repeats_of (spelled_choices repeats) ≡ repeats
+printed_again [] x = refl
+printed_again (each ∷ repeats) x =
+    printed_by each repeats x (ends_there each.choice each.times repeats x (printed_again repeats (joined_later each repeats x))) each.times refl
 
 pub no_others : (choices : List Choice) (repeats : List Repeat) → AreJoined repeats → spelled_choices repeats ≡ choices → repeats ≡ repeats_of choices
-no_others choices repeats x e = sym (told_again repeats x) ∙ ap repeats_of e
+no_others choices repeats x e = sym (printed_again repeats x) ∙ ap repeats_of e
 
 -- ---- one more choice
 
 -- after a first line, the last line grows
-grows_behind : (each : Repeat) (d c : Choice) (repeats : List Repeat) → BeginsWith d repeats → repeats_with (each ∷ repeats) c ≡ each ∷ repeats_with repeats c
-grows_behind each d c repeats x = subst (λ rs. repeats_with (each ∷ rs) c ≡ each ∷ repeats_with rs c) (sym x.split) refl
+grows_after : (each : Repeat) (d c : Choice) (repeats : List Repeat) → BeginsWith d repeats → repeats_with (each ∷ repeats) c ≡ each ∷ repeats_with repeats c
+grows_after each d c repeats x = subst (λ rs. repeats_with (each ∷ rs) c ≡ each ∷ repeats_with rs c) (sym x.split) refl
 
-more_by : (c d e : Choice) (n : ℕ) (cs : List Choice) → repeats_behind c (suc n) (cs ++ e ∷ []) ≡ repeats_with (repeats_behind c (suc n) cs) e → repeats_behind d 1 (cs ++ e ∷ []) ≡ repeats_with (repeats_behind d 1 cs) e
-    → (b : Bool) → cond b (repeats_behind c (suc n) (cs ++ e ∷ [])) (repeat_of c n ∷ repeats_behind d 1 (cs ++ e ∷ [])) ≡ repeats_with (cond b (repeats_behind c (suc n) cs) (repeat_of c n ∷ repeats_behind d 1 cs)) e
+more_by : (c d e : Choice) (n : ℕ) (cs : List Choice) → repeats_after c (suc n) (cs ++ e ∷ []) ≡ repeats_with (repeats_after c (suc n) cs) e → repeats_after d 1 (cs ++ e ∷ []) ≡ repeats_with (repeats_after d 1 cs) e
+    → (b : Bool) → cond b (repeats_after c (suc n) (cs ++ e ∷ [])) (repeat_of c n ∷ repeats_after d 1 (cs ++ e ∷ [])) ≡ repeats_with (cond b (repeats_after c (suc n) cs) (repeat_of c n ∷ repeats_after d 1 cs)) e
 more_by c d e n cs more other true = more
-more_by c d e n cs more other false = ap (λ rs. repeat_of c n ∷ rs) other ∙ sym (grows_behind (repeat_of c n) d e (repeats_behind d 1 cs) (begins d 1 cs))
+more_by c d e n cs more other false = ap (λ rs. repeat_of c n ∷ rs) other ∙ sym (grows_after (repeat_of c n) d e (repeats_after d 1 cs) (begins d 1 cs))
 
-more_behind : (c e : Choice) (n : ℕ) (cs : List Choice) → repeats_behind c n (cs ++ e ∷ []) ≡ repeats_with (repeats_behind c n cs) e
-more_behind c e n [] = refl
-more_behind c e n (d ∷ cs) = more_by c d e n cs (more_behind c e (suc n) cs) (more_behind d e 1 cs) (is_told_with c n d)
+more_after : (c e : Choice) (n : ℕ) (cs : List Choice) → repeats_after c n (cs ++ e ∷ []) ≡ repeats_with (repeats_after c n cs) e
+more_after c e n [] = refl
+more_after c e n (d ∷ cs) = more_by c d e n cs (more_after c e (suc n) cs) (more_after d e 1 cs) (is_printed_with c n d)
 
 pub one_more_choice : (choices : List Choice) (c : Choice) → repeats_with (repeats_of choices) c ≡ repeats_of (choices ++ c ∷ [])
 one_more_choice [] c = refl
-one_more_choice (d ∷ cs) c = sym (more_behind d c 1 cs)
+one_more_choice (d ∷ cs) c = sym (more_after d c 1 cs)
 
 -- ---- the last line
 

@@ -27,16 +27,16 @@ joins last choice = nat_lt last.times MOST_TIMES && is_same_choice last.choice c
 
 -- the lines of a choice that was made this many times already, followed by these choices: equal neighbours are joined, as many as
 -- one line may have
-abbrev pub repeats_behind : Choice → ℕ → List Choice → List Repeat
-repeats_behind choice times [] = repeat_of choice times ∷ []
-repeats_behind choice times (next ∷ choices) =
-    if joins (repeat_of choice times) next then repeats_behind choice (suc times) choices
-    else repeat_of choice times ∷ repeats_behind next 1 choices
+abbrev pub repeats_after : Choice → ℕ → List Choice → List Repeat
+repeats_after choice times [] = repeat_of choice times ∷ []
+repeats_after choice times (next ∷ choices) =
+    if joins (repeat_of choice times) next then repeats_after choice (suc times) choices
+    else repeat_of choice times ∷ repeats_after next 1 choices
 
 -- the lines of choices, with equal neighbours joined
 abbrev pub repeats_of : List Choice → List Repeat
 repeats_of [] = []
-repeats_of (choice ∷ choices) = repeats_behind choice 1 choices
+repeats_of (choice ∷ choices) = repeats_after choice 1 choices
 
 -- who moves
 abbrev pub choice_text : Choice → List ℕ
@@ -87,10 +87,10 @@ AreJoined (each ∷ next ∷ repeats) =
     (1 ≤ each.times) × (each.times ≤ MOST_TIMES) × (each.choice ≡ next.choice → each.times ≡ MOST_TIMES) × AreJoined (next ∷ repeats)
 
 -- these lines as those of a schedule that was read, numbered from this line on
-abbrev pub lines_from : ℕ → List Repeat → List ScheduleLine
-lines_from line [] = []
-lines_from line (each ∷ repeats) = record { what = Choose each.choice; count = each.times; line = line } ∷ lines_from (suc line) repeats
+abbrev pub schedule_lines_from : ℕ → List Repeat → List ScheduleLine
+schedule_lines_from line [] = []
+schedule_lines_from line (each ∷ repeats) = record { what = Choose each.choice; count = each.times; line = line } ∷ schedule_lines_from (suc line) repeats
 
 -- the printed lines of choices, as a schedule that was read
 abbrev pub printed_schedule : List Choice → ReadSchedule
-printed_schedule choices = record { lines = lines_from 1 (repeats_of choices); bad = None }
+printed_schedule choices = record { lines = schedule_lines_from 1 (repeats_of choices); bad = None }

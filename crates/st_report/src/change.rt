@@ -47,11 +47,11 @@ fn append_named(
 }
 
 // Appends a word without a blank, and a text.
-fn append_told(text: &mut Text, word: &[u8], told: &Text) -> Result<(), AllocError>
-    ensures { OnOk result (text.new ≡ text.old ++ word.now ++ text_field told.now) }
+fn append_printed(text: &mut Text, word: &[u8], printed: &Text) -> Result<(), AllocError>
+    ensures { OnOk result (text.new ≡ text.old ++ word.now ++ text_field printed.now) }
 {
     text.append(word)?;
-    append_text(text, told.bytes())
+    append_text(text, printed.bytes())
 }
 
 // Appends what is written: a word without a blank, where it is written, and the bytes.
@@ -131,14 +131,14 @@ fn append_change(alloc: Global, text: &mut Text, change: &Change) -> Result<(), 
             &[u64::from(*pid), u64::from(*space), u64::from(*tid)],
         ),
         Change::Execed { binary, space } => {
-            append_told(text, b"execed", binary)?;
+            append_printed(text, b"execed", binary)?;
             append_numbers(text, &[u64::from(*space)])
         }
         Change::SetIds(ids) => append_ids(text, b"setids", *ids),
         Change::Cwd(name) => append_named(alloc, text, b"cwd", name),
         Change::Dying(pid) => append_numbered(text, b"dying", &[u64::from(*pid)]),
         Change::Renewed { old, new } => append_numbered(text, b"renewed", &[*old, *new]),
-        Change::Policy(binary) => append_told(text, b"policy", binary),
+        Change::Policy(binary) => append_printed(text, b"policy", binary),
     }
 }
 

@@ -11,7 +11,7 @@ use Rattle.std.proofs.lemmas.List.Elements.{All-append, All-cons}
 use Rattle.st_trace.specs.declared.entry.Change.{Change}
 use Rattle.st_trace.specs.declared.entry.Change.TheVariants.{Made, Linked, Removed, Renamed, Written, Cut, Moded, Owned, Put, Forked, Execed, SetIds, Cwd, Dying, Renewed, Policy}
 use Rattle.st_effects.specs.Changes.{tree_after, tree_after_change}
-use Rattle.st_request.specs.Ready.{IsReal, IsRealFile, KeepsObjects}
+use Rattle.st_request.specs.Ready.{AreValidOpenFiles, IsValidOpenFile, KeepsObjects}
 use Rattle.st_request.proofs.Real.{kept_objects}
 
 kind_of : Node → Kind
@@ -63,12 +63,12 @@ changes_keep tree (change ∷ changes) = λ number made.
     let rest = changes_keep (tree_after_change tree change) changes number first.0 in
     (rest.0, rest.1 ∙ first.1)
 
-pub stay_real : (tree : Tree) (table : Table) (changes : List Change) → IsReal tree table → IsReal (tree_after tree changes) table
+pub stay_real : (tree : Tree) (table : Table) (changes : List Change) → AreValidOpenFiles tree table → AreValidOpenFiles (tree_after tree changes) table
 stay_real tree table changes real = kept_objects tree (tree_after tree changes) table (changes_keep tree changes) real
 
 -- the console isn't an object
-pub started_real : (tree : Tree) (table : Table) (pid : ℕ) → IsReal tree table → IsReal tree (table_after_start table pid)
+pub started_real : (tree : Tree) (table : Table) (pid : ℕ) → AreValidOpenFiles tree table → AreValidOpenFiles tree (table_after_start table pid)
 started_real tree table pid real =
-    let Is = IsRealFile tree in
+    let Is = IsValidOpenFile tree in
     let third = All-cons Is console [] tt (λ k d inside. absurd (omega (arith, inside))) in
     All-append Is table.files (console ∷ console ∷ console ∷ []) real (All-cons Is console (console ∷ console ∷ []) tt (All-cons Is console (console ∷ []) tt third))

@@ -2,7 +2,7 @@
 use Rattle.std.specs.Prelude.{Result, Ok, Err}
 use Rattle.st_base.specs.declared.errno.Errno.{Errno}
 use Rattle.st_model.specs.Descriptors.{Table}
-use Rattle.st_model.specs.Processes.{Processes, process_at, is_live, next_pid}
+use Rattle.st_model.specs.Processes.{Processes, process_at, is_process_live, next_pid}
 use Rattle.st_model.specs.Tree.{Tree}
 use Rattle.st_memory.specs.Memory.{Memories, byte_in, next_space}
 use Rattle.st_effects.specs.System as effects
@@ -19,15 +19,15 @@ with_descriptors system descriptors = record system { descriptors = descriptors 
 -- a system with these processes
 abbrev pub with_processes : effects.System → Processes → effects.System
 with_processes system processes =
-    record system { processes = process_at processes; is_live = is_live processes; next_process = next_pid processes }
+    record system { processes = process_at processes; is_live = is_process_live processes; next_process = next_pid processes }
 
 -- a system with these memories
 abbrev pub with_memories : effects.System → Memories → effects.System
 with_memories system memories = record system { memory = byte_in memories; next_space = next_space memories }
 
 -- a system with all of these parts; what is left are the held calls and the number of the next message
-abbrev pub system_of : effects.System → Tree → Table → Processes → Memories → effects.System
-system_of system tree descriptors processes memories =
+abbrev pub assembled_system : effects.System → Tree → Table → Processes → Memories → effects.System
+assembled_system system tree descriptors processes memories =
     with_tree (with_descriptors (with_processes (with_memories system memories) processes) descriptors) tree
 
 -- the whole outcome, from a call's result and changes and the descriptors after it

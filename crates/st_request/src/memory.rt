@@ -1,6 +1,6 @@
 // What calls put into memory.
 ghost use Rattle.std.specs.Prelude.{◌≡◌, ◌+◌, ◌≤◌, ℕ, [], ◌∷◌, length, true, IfOk, OnOk, OnErr};
-ghost use Rattle.st_memory.specs.Memory.{byte_in, is_live, KeepsSpaces};
+ghost use Rattle.st_memory.specs.Memory.{byte_in, is_space_live, KeepsSpaces};
 ghost use Rattle.st_model.specs.Memory.{memory_after_put};
 ghost use Rattle.st_trace.specs.declared.entry.CallResult.TheVariants.{Value};
 ghost use Rattle.st_model.specs.declared.limits.TheConstants.{SPACE_BYTES};
@@ -21,7 +21,7 @@ pub fn put_bytes(
     bytes: &[u8],
     value: u64,
 ) -> Result<Outcome, AllocError>
-    requires live { is_live spaces.old space ≡ true }
+    requires live { is_space_live spaces.old space ≡ true }
     requires inside { at + length bytes.now ≤ SPACE_BYTES }
     ensures result { IfOk result (λ outcome. outcome.result ≡ Value value) }
     ensures changes { IfOk result (λ outcome. outcome.changes ≡ Change.Put space at bytes.now ∷ []) }

@@ -2,7 +2,7 @@
 use Rattle.std.proofs.Common.{◌≡◌, Bool, true, false, cond, nat_eq, List, [], ◌∷◌, codes, Some, None, ℕ, refl, ap, sym, subst, ◌∙◌}
 use Rattle.std.specs.List.{starts_with}
 use Rattle.st_lex.specs.declared.token.TokenKind.TheVariants as kind
-use Rattle.st_grammar.proofs.Common.{AreBytes, binary_of, is_word_text, IsHeader, Piece, PlainWord, Quoted, QuotedText, Sign, Space, StandWell, Symbol, unquoted, Word}
+use Rattle.st_grammar.proofs.Common.{AreBytes, binary_of, is_word_text, IsHeader, Piece, PlainWord, Quoted, QuotedText, Sign, Space, CanBeReadBack, Symbol, unquoted, Word}
 use Rattle.st_grammar.specs.declared.env.Env.{Env}
 use Rattle.st_lex.specs.Quote.{quoted}
 use Rattle.st_lex.proofs.Unquotes.{unquoted-quoted}
@@ -50,9 +50,9 @@ is_header_by env false binary e r = record {
 pub is_header : (env : Env) (binary : List ℕ) → IsReadableBinary binary → IsHeader env (piece_symbols (header_pieces binary)) binary
 is_header env binary r = is_header_by env (is_word_text binary) binary refl r
 
-well_header_by : (b : Bool) (binary : List ℕ) → is_word_text binary ≡ b → IsReadableBinary binary → StandWell (header_by b binary)
+well_header_by : (b : Bool) (binary : List ℕ) → is_word_text binary ≡ b → IsReadableBinary binary → CanBeReadBack (header_by b binary)
 well_header_by true binary e r = (refl, tt, (refl, (e, tt, (refl, (refl, tt, (refl, (refl, tt, tt)))))))
 well_header_by false binary e r = (refl, tt, (refl, (r.bytes e, (refl, (refl, tt, (refl, (refl, tt, tt)))))))
 
-pub well_header : (binary : List ℕ) → IsReadableBinary binary → StandWell (header_pieces binary)
+pub well_header : (binary : List ℕ) → IsReadableBinary binary → CanBeReadBack (header_pieces binary)
 well_header binary r = well_header_by (is_word_text binary) binary refl r

@@ -11,7 +11,7 @@ use Rattle.st_grammar.proofs.Common.{id_in, index_in}
 use Rattle.st_grammar.specs.declared.env.NamedId.{NamedId}
 use Rattle.st_base.specs.Number.{is_numeral, numeral_up_to, is_hexadecimal, number_in}
 use Rattle.st_base.proofs.Digits.{numeral_up_to-some}
-use Rattle.st_grammar.specs.Words.{if_small, has_name, id_by}
+use Rattle.st_grammar.specs.Words.{if_small, is_id_named, id_by}
 use Rattle.st_reread.specs.Readable.{AreSmallIds}
 
 pub numeral_up_to-decimal : (most n : ℕ) → n < 2 ^ 64 → n < most + 1 → numeral_up_to most 10 (decimal n) ≡ Some n
@@ -63,9 +63,9 @@ found_by : (b : Bool) (row : NamedId) (o : Option NamedId) (id : ℕ) → row.id
 found_by true row o id h others e = let same : row.id ≡ id = cc in omega (arith, same, h)
 found_by false row o id h others e = others e
 
-found : (rows : List NamedId) (word : List ℕ) (id : ℕ) → AllByRecursion (λ row. row.id < 2 ^ 32) rows → option_map (λ row. row.id) (find (has_name word) rows) ≡ Some id → id < 2 ^ 32
+found : (rows : List NamedId) (word : List ℕ) (id : ℕ) → AllByRecursion (λ row. row.id < 2 ^ 32) rows → option_map (λ row. row.id) (find (is_id_named word) rows) ≡ Some id → id < 2 ^ 32
 found [] word id a e = absurd (cc)
-found (row ∷ rows) word id a e = found_by (has_name word row) row (find (has_name word) rows) id a.0 (found rows word id a.1) e
+found (row ∷ rows) word id a e = found_by (is_id_named word row) row (find (is_id_named word) rows) id a.0 (found rows word id a.1) e
 
 id_by-small : (rows : List NamedId) (word : List ℕ) (o : Option ℕ) (id : ℕ) → AreSmallIds rows → numeral_up_to (2 ^ 32 - 1) 10 word ≡ o → id_by rows word o ≡ Some id → id < 2 ^ 32
 id_by-small rows word (Some n) id small e is =

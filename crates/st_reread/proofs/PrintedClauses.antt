@@ -1,8 +1,8 @@
 -- The clauses of a filter, read and printed: its condition, its action and what follows.
 use Rattle.std.proofs.Common.{◌≡◌, ℕ, ◌^◌, ◌<◌, ◌≤◌, Bool, true, false, List, [], ◌∷◌, ◌++◌, codes, decimal, sum_by, Option, Some, None, refl, sym, subst, arith, append_assoc, append-nil}
-use Rattle.st_grammar.proofs.Common.{Action, Ask, Asks, Cmp, Denies, DeniesWith, Deny, EPERM, Errno, FilterName, Formula, Grant, Grants, GrantsAndLogs, If, is_join, is_word_text, IsAction, IsCondition, IsGrant, IsPredicate, IsTail, Logs, LogsAndGrants, MayGrant, most_joins, names_for, OfBoth, OfGroup, OfUser, Permit, Permits, Piece, Plain, PlainWord, Predicate, Short, Space, StandWell, Symbol, Then, True, Who, who_named, Whoever, Word}
+use Rattle.st_grammar.proofs.Common.{Action, Ask, Asks, Cmp, Denies, DeniesWith, Deny, EPERM, Errno, FilterName, Formula, Grant, Grants, GrantsAndLogs, If, is_join, is_word_text, IsAction, IsCondition, IsGrant, IsPredicate, IsTail, Logs, LogsAndGrants, MayGrant, most_joins, names_for, OfBoth, OfGroup, OfUser, Permit, Permits, Piece, Plain, PlainWord, Predicate, Short, Space, CanBeReadBack, Symbol, Then, True, Who, who_named, Whoever, Word}
 use Rattle.st_grammar.specs.declared.env.Env.{Env}
-use Rattle.st_lex.specs.Pieces.{StandApart}
+use Rattle.st_lex.specs.Pieces.{BeginsWithoutWord}
 use Rattle.st_lex.proofs.Pieces.{StandWell-append}
 use Rattle.st_lex.proofs.Words.{is_word_text-decimal}
 use Rattle.st_filter.specs.declared.filter.Cmp.TheVariants as cmp
@@ -37,13 +37,13 @@ pub is_condition : (env : Env) (name : FilterName) (f : Formula) → IsReadableC
 is_condition env name True r = Short
 is_condition env name f r = with_then env name f r
 
-before_then : (name : FilterName) (f : Formula) (qs : List Piece) → IsReadableCondition name f → StandWell qs → StandWell ((expression_pieces f ++ Space ∷ PlainWord (codes "then") ∷ Space ∷ []) ++ qs)
+before_then : (name : FilterName) (f : Formula) (qs : List Piece) → IsReadableCondition name f → CanBeReadBack qs → CanBeReadBack ((expression_pieces f ++ Space ∷ PlainWord (codes "then") ∷ Space ∷ []) ++ qs)
 before_then name f qs r q =
-    subst StandWell (sym (append_assoc (expression_pieces f) (Space ∷ PlainWord (codes "then") ∷ Space ∷ []) qs))
+    subst CanBeReadBack (sym (append_assoc (expression_pieces f) (Space ∷ PlainWord (codes "then") ∷ Space ∷ []) qs))
     (StandWell-append (expression_pieces f) (Space ∷ PlainWord (codes "then") ∷ Space ∷ qs) (well_expression name f r.formula) (refl, tt, q) tt)
 
 -- pieces that can be read back can be read back after a condition
-pub well_condition : (name : FilterName) (f : Formula) (qs : List Piece) → IsReadableCondition name f → StandWell qs → StandWell (condition_pieces f ++ qs)
+pub well_condition : (name : FilterName) (f : Formula) (qs : List Piece) → IsReadableCondition name f → CanBeReadBack qs → CanBeReadBack (condition_pieces f ++ qs)
 well_condition name True qs r q = q
 well_condition name f qs r q = before_then name f qs r q
 
@@ -69,11 +69,11 @@ is_action env Permit r = Permits
 is_action env (Deny errno) r = is_denial env errno
 is_action env Ask r = Asks r
 
-well_denial : (errno : Errno) → StandWell (deny_pieces errno)
+well_denial : (errno : Errno) → CanBeReadBack (deny_pieces errno)
 well_denial EPERM = (refl, tt, tt)
 well_denial _ = (refl, tt, (refl, (refl, tt, (refl, tt))))
 
-pub well_action : (action : Action) → StandWell (action_pieces action)
+pub well_action : (action : Action) → CanBeReadBack (action_pieces action)
 well_action Permit = (refl, tt, tt)
 well_action (Deny errno) = well_denial errno
 well_action Ask = (refl, tt, tt)
@@ -101,7 +101,7 @@ is_grant env (Some u) (Some g) a = OfBoth (id_in-decimal env.users u a.0) (id_in
 well_id : (n : ℕ) → n < 2 ^ 32 → is_word_text (decimal n) ≡ true
 well_id n h = is_word_text-decimal n (omega (arith, h))
 
-well_ids : (user group : Option ℕ) → AreIds user group → StandWell (user_pieces user ++ group_pieces group)
+well_ids : (user group : Option ℕ) → AreIds user group → CanBeReadBack (user_pieces user ++ group_pieces group)
 well_ids None None a = absurd a
 well_ids (Some u) None a = (well_id u a, tt, tt)
 well_ids None (Some g) a = (refl, (well_id g a, tt, tt))
@@ -162,7 +162,7 @@ pub is_predicate : (env : Env) (predicate : Option Predicate) → IsReadablePred
 is_predicate env None r = Whoever
 is_predicate env (Some p) r = asks_for env p.who p.cmp p.id r
 
-well_cmp : (c : Cmp) (id : ℕ) → id < 2 ^ 32 → StandWell (cmp_piece c ∷ Space ∷ PlainWord (decimal id) ∷ [])
+well_cmp : (c : Cmp) (id : ℕ) → id < 2 ^ 32 → CanBeReadBack (cmp_piece c ∷ Space ∷ PlainWord (decimal id) ∷ [])
 well_cmp cmp.Same id h = (refl, (well_id id h, tt, tt))
 well_cmp cmp.Other id h = (refl, (well_id id h, tt, tt))
 well_cmp cmp.Below id h = (refl, (well_id id h, tt, tt))
@@ -170,26 +170,26 @@ well_cmp cmp.Above id h = (refl, (well_id id h, tt, tt))
 
 -- ---- what follows an action can be read back, and begins with no Word
 
-pub well_grant : (env : Env) (name : FilterName) (action : Action) (grant : Option Grant) → IsReadableGrant env name action grant → StandWell (grant_pieces grant)
+pub well_grant : (env : Env) (name : FilterName) (action : Action) (grant : Option Grant) → IsReadableGrant env name action grant → CanBeReadBack (grant_pieces grant)
 well_grant env name action None r = tt
 well_grant env name action (Some g) r = (refl, tt, well_ids g.user g.group r.1)
 
-pub apart_grant : (grant : Option Grant) → StandApart (grant_pieces grant)
+pub apart_grant : (grant : Option Grant) → BeginsWithoutWord (grant_pieces grant)
 apart_grant None = tt
 apart_grant (Some g) = tt
 
-pub well_log : (log : Bool) → StandWell (log_pieces log)
+pub well_log : (log : Bool) → CanBeReadBack (log_pieces log)
 well_log false = tt
 well_log true = (refl, tt, tt)
 
-pub apart_log : (log : Bool) → StandApart (log_pieces log)
+pub apart_log : (log : Bool) → BeginsWithoutWord (log_pieces log)
 apart_log false = tt
 apart_log true = tt
 
-pub well_predicate : (predicate : Option Predicate) → IsReadablePredicate predicate → StandWell (predicate_pieces predicate)
+pub well_predicate : (predicate : Option Predicate) → IsReadablePredicate predicate → CanBeReadBack (predicate_pieces predicate)
 well_predicate None r = tt
 well_predicate (Some p) r = (refl, (refl, tt, (is_word_text-who p.who, tt, well_cmp p.cmp p.id r)))
 
-pub apart_predicate : (predicate : Option Predicate) → StandApart (predicate_pieces predicate)
+pub apart_predicate : (predicate : Option Predicate) → BeginsWithoutWord (predicate_pieces predicate)
 apart_predicate None = tt
 apart_predicate (Some p) = tt

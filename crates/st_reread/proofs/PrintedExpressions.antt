@@ -1,7 +1,7 @@
 -- Canonical expressions are spelled as the grammar requires.
 use Rattle.std.proofs.Common.{◌≡◌, ℕ, ◌^◌, ◌<◌, Bool, true, false, cond, nat_eq, List, [], ◌∷◌, ◌++◌, codes, decimal, Some, refl, sym, subst, arith, eqb-true}
 use Rattle.st_lex.specs.declared.token.TokenKind.TheVariants as kind
-use Rattle.st_grammar.proofs.Common.{Always, And, AreBytes, Both, Close, CloseBracket, Conjunction, Disjunction, Either, FilterName, First, Formula, Grouped, Indexed, is_label, is_word_text, Level, may_test, Negated, Not, OneConjunction, OneOperand, Op, op_named, Open, OpenBracket, Operand, Or, Piece, PlainWord, Quoted, QuotedText, Sign, Space, Spells, StandWell, Symbol, Test, True, Word}
+use Rattle.st_grammar.proofs.Common.{Always, And, AreBytes, Both, Close, CloseBracket, Conjunction, Disjunction, Either, FilterName, First, Formula, Grouped, Indexed, is_label, is_word_text, Level, may_test, Negated, Not, OneConjunction, OneOperand, Op, op_named, Open, OpenBracket, Operand, Or, Piece, PlainWord, Quoted, QuotedText, Sign, Space, Spells, CanBeReadBack, Symbol, Test, True, Word}
 use Rattle.st_grammar.specs.declared.env.Env.{Env}
 use Rattle.st_lex.specs.Quote.{quoted}
 use Rattle.st_lex.proofs.Pieces.{StandWell-append}
@@ -75,7 +75,7 @@ spells_test env name label index o text false e r =
     subst (λ (t : List ℕ). Spells env name Operand symbols (Test label index o t)) (unquoted-quoted env.dollars text r.4)
     (Indexed r.1 (index_in-decimal index r.3) r.2 (op_named-word o))
 
-well_test : (name : FilterName) (label : List ℕ) (index : ℕ) (o : Op) (text : List ℕ) (b : Bool) → IsReadableFormula name (Test label index o text) → StandWell (pieces_by b label index o text)
+well_test : (name : FilterName) (label : List ℕ) (index : ℕ) (o : Op) (text : List ℕ) (b : Bool) → IsReadableFormula name (Test label index o text) → CanBeReadBack (pieces_by b label index o text)
 well_test name label index o text true r = (r.0, tt, (is_word_text-op o, tt, (r.4, tt)))
 well_test name label index o text false r =
     (r.0, tt, (refl, (is_word_text-decimal index (omega (arith, r.3)), tt, (refl, (is_word_text-op o, tt, (r.4, tt))))))
@@ -143,14 +143,14 @@ spells_expression env name f r =
 
 -- ---- and their pieces can be read back
 
-well_parens : (b : Bool) (ps : List Piece) → StandWell ps → StandWell (in_parens b ps)
+well_parens : (b : Bool) (ps : List Piece) → CanBeReadBack ps → CanBeReadBack (in_parens b ps)
 well_parens true ps w = w
 well_parens false ps w = (refl, StandWell-append ps (Sign kind.Close ∷ []) w (refl, tt) tt)
 
-well_joined : (ps qs : List Piece) (word : List ℕ) → is_word_text word ≡ true → StandWell ps → StandWell qs → StandWell (ps ++ Space ∷ PlainWord word ∷ Space ∷ qs)
+well_joined : (ps qs : List Piece) (word : List ℕ) → is_word_text word ≡ true → CanBeReadBack ps → CanBeReadBack qs → CanBeReadBack (ps ++ Space ∷ PlainWord word ∷ Space ∷ qs)
 well_joined ps qs word is p q = StandWell-append ps (Space ∷ PlainWord word ∷ Space ∷ qs) p (is, tt, q) tt
 
-pub well_expression : (name : FilterName) (f : Formula) → IsReadableFormula name f → StandWell (expression_pieces f)
+pub well_expression : (name : FilterName) (f : Formula) → IsReadableFormula name f → CanBeReadBack (expression_pieces f)
 well_expression name True r = (refl, tt, tt)
 well_expression name (Test label index o text) r = well_test name label index o text (nat_eq index 0) r
 well_expression name (Not f) r = (refl, tt, well_parens (needs_no_parens Operand f) (expression_pieces f) (well_expression name f r))

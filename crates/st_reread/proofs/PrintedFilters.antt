@@ -1,6 +1,6 @@
 -- Filters, read and printed.
 use Rattle.std.proofs.Common.{◌≡◌, List, ◌∷◌, ◌++◌, codes, refl, ap, subst, ◌∙◌, append_assoc}
-use Rattle.st_grammar.proofs.Common.{Colon, FilterValue, IsFilter, Piece, StandWell, Symbol, Word}
+use Rattle.st_grammar.proofs.Common.{Colon, FilterValue, IsFilter, Piece, CanBeReadBack, Symbol, Word}
 use Rattle.st_grammar.specs.declared.env.Env.{Env}
 use Rattle.st_lex.proofs.Pieces.{StandWell-append}
 use Rattle.st_printing.specs.Canon.{condition_pieces, action_pieces, grant_pieces, log_pieces, predicate_pieces, call_word, filter_pieces}
@@ -54,9 +54,9 @@ is_filter env f r = record {
   predicate_is = is_predicate env f.predicate r.predicate;
 }
 
-pub well_filter : (env : Env) (f : FilterValue) → IsReadableFilter env f → StandWell (filter_pieces f)
+pub well_filter : (env : Env) (f : FilterValue) → IsReadableFilter env f → CanBeReadBack (filter_pieces f)
 well_filter env f r =
-    let a : StandWell (condition_pieces f.formula ++ action_pieces f.action) = well_condition f.name f.formula (action_pieces f.action) r.condition (well_action f.action) in
+    let a : CanBeReadBack (condition_pieces f.formula ++ action_pieces f.action) = well_condition f.name f.formula (action_pieces f.action) r.condition (well_action f.action) in
     let g = StandWell-append (condition_pieces f.formula ++ action_pieces f.action) (grant_pieces f.grant) a (well_grant env f.name f.action f.grant r.grant) (apart_grant f.grant) in
     let l = StandWell-append (condition_pieces f.formula ++ action_pieces f.action ++ grant_pieces f.grant) (log_pieces f.log) g (well_log f.log) (apart_log f.log) in
     let p = StandWell-append (condition_pieces f.formula ++ action_pieces f.action ++ grant_pieces f.grant ++ log_pieces f.log) (predicate_pieces f.predicate) l (well_predicate f.predicate r.predicate) (apart_predicate f.predicate) in

@@ -2,7 +2,7 @@
 use Rattle.std.proofs.Common.{◌≡◌, ◌<◌, true, List, [], ◌∷◌, map, ℕ, refl, ap, ◌∙◌}
 use Rattle.std.specs.List.{AllByRecursion}
 use Rattle.std.proofs.lemmas.List.Elements.{recursion_from_All}
-use Rattle.st_grammar.proofs.Common.{AreBytes, is_word_text, lexed_text, Piece, print, spelled_tokens, StandWell, Symbol, symbol_by, symbol_of, symbols_in, Token, TokenKind, unquoted}
+use Rattle.st_grammar.proofs.Common.{AreBytes, is_word_text, lexed_text, Piece, print, spelled_tokens, CanBeReadBack, Symbol, symbol_by, symbol_of, symbols_in, Token, TokenKind, unquoted}
 use Rattle.st_grammar.specs.declared.env.Env.{Env}
 use Rattle.st_lex.specs.declared.token.TokenKind.TheVariants as kind
 use Rattle.st_lex.specs.Text.{text_of_token, inside}
@@ -17,7 +17,7 @@ spelled-symbols text [] = refl
 spelled-symbols text (t ∷ ts) = ap (λ (us : List Symbol). symbol_of text t ∷ us) (spelled-symbols text ts)
 
 -- pieces that are printed have the symbols that they are read as
-pub symbols_in-print : (pieces : List Piece) → StandWell pieces → symbols_in (print pieces) ≡ piece_symbols pieces
+pub symbols_in-print : (pieces : List Piece) → CanBeReadBack pieces → symbols_in (print pieces) ≡ piece_symbols pieces
 symbols_in-print pieces well = spelled-symbols (print pieces) (lexed_text (print pieces)).tokens ∙ ap (map spelled_symbol) (print_is_read pieces well).in_order
 
 -- ---- the symbols of a text can be printed

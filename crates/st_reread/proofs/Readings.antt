@@ -1,11 +1,11 @@
 -- Canonical text is read again as the same set.
 use Rattle.std.proofs.Common.{◌≤◌, List, [], ◌∷◌, ◌++◌, refl, sym, subst, append_assoc, append-nil, ℕ, arith}
 use Rattle.st_base.proofs.Each.{each-append}
-use Rattle.st_grammar.proofs.Common.{AreNew, AreRows, BinaryPolicy, filters_in, Line, MOST_FILTERS, Reads, StandWell, Symbol, symbols_in}
+use Rattle.st_grammar.proofs.Common.{AreNew, AreRows, BinaryPolicy, filters_in, Line, MOST_FILTERS, Reads, CanBeReadBack, Symbol, symbols_in}
 use Rattle.st_grammar.specs.declared.env.Env.{Env}
 use Rattle.st_lex.proofs.Pieces.{print_is_read}
 use Rattle.st_printing.specs.Canon.{set_pieces, canon}
-use Rattle.st_reread.specs.Readable.{WasRead, Nothing, Behind, HasPlainDollars, HasSmallIds}
+use Rattle.st_reread.specs.Readable.{WasRead, Nothing, After, HasPlainDollars, HasSmallIds}
 use Rattle.st_reread.proofs.Rows.{IsReadablePolicy, AreReadable, readable_rows, are_rows, well_set}
 use Rattle.st_reread.proofs.Symbols.{ArePrintable, ArePrintable-append}
 use Rattle.st_reread.proofs.PrintedTexts.{symbols_in-print, printable_symbols}
@@ -32,13 +32,13 @@ more_read env text old set small printable known reads =
 
 pub readable_set : (env : Env) {set : List BinaryPolicy} → HasSmallIds env → HasPlainDollars env → WasRead env set → IsReadable env set
 readable_set env small plain Nothing = record { each = tt; new = tt; few = omega arith }
-readable_set env small plain (Behind text old set bytes was reads) =
+readable_set env small plain (After text old set bytes was reads) =
     more_read env text old set small (printable_symbols env text plain bytes) (readable_set env small plain was) reads
 
 -- the canonical text of a readable set is read as this set
 pub readable-reads : (env : Env) (set : List BinaryPolicy) → IsReadable env set → Reads (canon set) env [] set
 readable-reads env set r =
-    let well : StandWell (set_pieces set) = well_set env set r.each in
+    let well : CanBeReadBack (set_pieces set) = well_set env set r.each in
     record {
       whole = (print_is_read (set_pieces set) well).faultless;
       policies = set;

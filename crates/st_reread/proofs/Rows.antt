@@ -3,7 +3,7 @@ use Rattle.std.proofs.Common.{◌≡◌, List, [], ◌∷◌, ◌++◌, flat_map
 use Rattle.std.specs.List.{AllByRecursion}
 use Rattle.st_base.proofs.Each.{each-append, each-parts}
 use Rattle.st_lex.specs.declared.token.TokenKind.TheVariants as kind
-use Rattle.st_grammar.proofs.Common.{AreRows, BinaryPolicy, Blank, FilterRow, FilterValue, Header, Line, NoRow, Piece, Sign, StandWell, Symbol, with_filter}
+use Rattle.st_grammar.proofs.Common.{AreRows, BinaryPolicy, Blank, FilterRow, FilterValue, Header, Line, NoRow, Piece, Sign, CanBeReadBack, Symbol, with_filter}
 use Rattle.st_grammar.specs.declared.env.Env.{Env}
 use Rattle.st_lex.proofs.Pieces.{StandWell-append, StandWell-after}
 use Rattle.st_printing.specs.Canon.{filter_pieces, header_pieces, row_pieces, set_pieces}
@@ -88,18 +88,18 @@ are_rows env set r = Blank (piece_symbols (set_pieces set)) set (set_rows env []
 -- ---- and their pieces can be read back
 
 -- a row and its end can be read back before pieces that can
-well_row : (row qs : List Piece) → StandWell row → StandWell qs → StandWell (row_pieces row ++ qs)
+well_row : (row qs : List Piece) → CanBeReadBack row → CanBeReadBack qs → CanBeReadBack (row_pieces row ++ qs)
 well_row row qs w q = StandWell-after row qs (Sign kind.Line) (StandWell-append row (Sign kind.Line ∷ []) w (refl, tt) tt) tt q
 
-well_filters : (env : Env) (fs : List FilterValue) (qs : List Piece) → AllByRecursion (IsReadableFilter env) fs → StandWell qs → StandWell (rows_of fs ++ qs)
+well_filters : (env : Env) (fs : List FilterValue) (qs : List Piece) → AllByRecursion (IsReadableFilter env) fs → CanBeReadBack qs → CanBeReadBack (rows_of fs ++ qs)
 well_filters env [] qs r q = q
 well_filters env (f ∷ fs) qs r q =
-    subst StandWell (sym (append_assoc (row_pieces (filter_pieces f)) (rows_of fs) qs))
+    subst CanBeReadBack (sym (append_assoc (row_pieces (filter_pieces f)) (rows_of fs) qs))
     (well_row (filter_pieces f) (rows_of fs ++ qs) (well_filter env f r.0) (well_filters env fs qs r.1 q))
 
-pub well_set : (env : Env) (set : List BinaryPolicy) → AreReadable env set → StandWell (set_pieces set)
+pub well_set : (env : Env) (set : List BinaryPolicy) → AreReadable env set → CanBeReadBack (set_pieces set)
 well_set env [] r = tt
 well_set env (p ∷ ps) r =
-    subst StandWell (sym (append_assoc (row_pieces (header_pieces p.binary)) (rows_of p.filters) (set_pieces ps)))
+    subst CanBeReadBack (sym (append_assoc (row_pieces (header_pieces p.binary)) (rows_of p.filters) (set_pieces ps)))
     (well_row (header_pieces p.binary) (rows_of p.filters ++ set_pieces ps) (well_header p.binary r.0.binary)
     (well_filters env p.filters (set_pieces ps) r.0.filters (well_set env ps r.1)))

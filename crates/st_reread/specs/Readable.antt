@@ -13,7 +13,7 @@ AreTextBytes text = All (λ b. b < 256) text
 -- texts that were read one after the other gave this set
 pub data WasRead (env : Env) : List BinaryPolicy → Type 0 where
   Nothing : WasRead env []
-  Behind : (text : List ℕ) (old set : List BinaryPolicy) → AreTextBytes text → WasRead env old → Reads text env old set → WasRead env set
+  After : (text : List ℕ) (old set : List BinaryPolicy) → AreTextBytes text → WasRead env old → Reads text env old set → WasRead env set
 
 -- the three texts consist of bytes that a quoted text can hold
 pub record HasPlainDollars (env : Env) : Type 0 where

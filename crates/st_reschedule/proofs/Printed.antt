@@ -3,7 +3,7 @@ use Rattle.std.proofs.Common.{◌≡◌, ℕ, ◌≤◌, ◌==◌, Bool, true, f
 use Rattle.std.specs.List.{flat_map, AllByRecursion}
 use Rattle.st_base.proofs.Each.{each-parts}
 use Rattle.st_lex.specs.declared.token.TokenKind.TheVariants.{Line}
-use Rattle.st_lex.specs.Pieces.{Piece, PlainWord, Sign, Space, print, StandWell}
+use Rattle.st_lex.specs.Pieces.{Piece, PlainWord, Sign, Space, print, CanBeReadBack}
 use Rattle.st_lex.proofs.Pieces.{print-append, StandWell-after}
 use Rattle.st_lex.proofs.Words.{is_word_text-decimal}
 use Rattle.st_trace.specs.declared.entry.Choice.{Choice}
@@ -60,12 +60,12 @@ repeats_printed (each ∷ repeats) =
 -- ---- the pieces can be read
 
 -- a line can be printed: its number is small, and its choice is made at least once, and not too often
-pub record IsTold (each : Repeat) : Type 0 where
+pub record IsReportedOf (each : Repeat) : Type 0 where
   pub small : HasSmallNumber each.choice
   pub some : 1 ≤ each.times
   pub few : each.times ≤ MOST_TIMES
 
-well_line : (once : Bool) (c : Choice) (n : ℕ) → HasSmallNumber c → n ≤ MOST_TIMES → StandWell (line_pieces once c n)
+well_line : (once : Bool) (c : Choice) (n : ℕ) → HasSmallNumber c → n ≤ MOST_TIMES → CanBeReadBack (line_pieces once c n)
 well_line true (Thread t) n small few = (refl, tt, (is_word_text-decimal t (omega (arith, small)), tt, (refl, tt)))
 well_line true (Worker w) n small few = (refl, tt, (is_word_text-decimal w (omega (arith, small)), tt, (refl, tt)))
 well_line true Operator n small few = (refl, tt, (refl, tt))
@@ -73,11 +73,11 @@ well_line false (Thread t) n small few = (refl, tt, (is_word_text-decimal t (ome
 well_line false (Worker w) n small few = (refl, tt, (is_word_text-decimal w (omega (arith, small)), tt, (is_word_text-decimal n (omega (arith, few)), tt, (refl, tt))))
 well_line false Operator n small few = (refl, tt, (is_word_text-decimal n (omega (arith, few)), tt, (refl, tt)))
 
-pub well_repeats : (repeats : List Repeat) → AllByRecursion IsTold repeats → StandWell (repeats_pieces repeats)
-well_repeats [] told = tt
-well_repeats (each ∷ repeats) told =
+pub well_repeats : (repeats : List Repeat) → AllByRecursion IsReportedOf repeats → CanBeReadBack (repeats_pieces repeats)
+well_repeats [] reported = tt
+well_repeats (each ∷ repeats) reported =
     StandWell-after (choice_pieces each.choice ++ times_pieces (each.times == 1) each.times) (repeats_pieces repeats) (Sign Line)
-    (well_line (each.times == 1) each.choice each.times told.0.small told.0.few) tt (well_repeats repeats told.1)
+    (well_line (each.times == 1) each.choice each.times reported.0.small reported.0.few) tt (well_repeats repeats reported.1)
 
 -- ---- joined neighbours can be printed
 
@@ -85,12 +85,12 @@ first_of_many : (n : ℕ) (c : Choice) → 1 ≤ n → AllByRecursion HasSmallNu
 first_of_many zero c some small = absurd (omega (arith, some))
 first_of_many (suc n) c some small = small.0
 
-one_told : (each : Repeat) → 1 ≤ each.times → each.times ≤ MOST_TIMES → AllByRecursion HasSmallNumber (replicate each.times each.choice) → IsTold each
-one_told each some few small = record { small = first_of_many each.times each.choice some small; some = some; few = few }
+one_reported : (each : Repeat) → 1 ≤ each.times → each.times ≤ MOST_TIMES → AllByRecursion HasSmallNumber (replicate each.times each.choice) → IsReportedOf each
+one_reported each some few small = record { small = first_of_many each.times each.choice some small; some = some; few = few }
 
-pub all_told : (repeats : List Repeat) → AreJoined repeats → AllByRecursion HasSmallNumber (spelled_choices repeats) → AllByRecursion IsTold repeats
-all_told [] joined small = tt
-all_told (each ∷ []) joined small = (one_told each joined.0 joined.1 (each-parts HasSmallNumber (replicate each.times each.choice) [] small).0, tt)
-all_told (each ∷ next ∷ repeats) joined small =
+pub all_reported : (repeats : List Repeat) → AreJoined repeats → AllByRecursion HasSmallNumber (spelled_choices repeats) → AllByRecursion IsReportedOf repeats
+all_reported [] joined small = tt
+all_reported (each ∷ []) joined small = (one_reported each joined.0 joined.1 (each-parts HasSmallNumber (replicate each.times each.choice) [] small).0, tt)
+all_reported (each ∷ next ∷ repeats) joined small =
     let parts : AllByRecursion HasSmallNumber (replicate each.times each.choice) × AllByRecursion HasSmallNumber (spelled_choices (next ∷ repeats)) = each-parts HasSmallNumber (replicate each.times each.choice) (spelled_choices (next ∷ repeats)) small in
-    (one_told each joined.0 joined.1 parts.0, all_told (next ∷ repeats) joined.3 parts.1)
+    (one_reported each joined.0 joined.1 parts.0, all_reported (next ∷ repeats) joined.3 parts.1)

@@ -20,16 +20,16 @@ use Rattle.st_law.specs.Inputs.{IsStartable}
 use Rattle.st_law.specs.Machine.{run}
 use Rattle.st_law.specs.Schedules.{Choices, played}
 use Rattle.st_law.proofs.Playing.{enabled_at_its_turn}
-use Rattle.st_report.specs.ScheduleText.{lines_from, printed_schedule, repeat_of, repeats_of, schedule_text, spelled_choices}
+use Rattle.st_report.specs.ScheduleText.{schedule_lines_from, printed_schedule, repeat_of, repeats_of, schedule_text, spelled_choices}
 use Rattle.st_report.specs.declared.schedule.Repeat.{Repeat}
 use Rattle.st_report.proofs.PlayedAgain.{played_again}
 use Rattle.st_report.proofs.Repeats.{joined, spelled_again}
 use Rattle.st_schedule.specs.Schedule.{schedule_in, schedule_lines, with_line}
-use Rattle.st_statements.specs.Lines.{line_of_fault, looked_at}
+use Rattle.st_statements.specs.Lines.{line_of_fault, tokens_before_fault_line}
 use Rattle.st_trace.specs.declared.entry.Choice.{Choice}
 use Rattle.st_trace.specs.declared.entry.Choice.TheVariants.{Thread, Worker, Operator}
-use Rattle.st_reschedule.specs.Asked.{HasSmallNumber, HaveSmallNumbers, asked_by, choices_asked, line_of}
-use Rattle.st_reschedule.proofs.Printed.{IsTold, all_told, line_pieces, repeat_pieces, repeats_pieces, repeats_printed, well_repeats}
+use Rattle.st_reschedule.specs.Asked.{HasSmallNumber, HaveSmallNumbers, asked_by, choices_asked, asked_line}
+use Rattle.st_reschedule.proofs.Printed.{IsReportedOf, all_reported, line_pieces, repeat_pieces, repeats_pieces, repeats_printed, well_repeats}
 use Rattle.st_reschedule.proofs.Reading.{often_read, once_read, operator_read, thread_read, worker_read}
 use Rattle.st_reschedule.proofs.SmallNumbers.{small_numbers}
 
@@ -101,43 +101,43 @@ module _ (front : List ℕ) (line : ℕ) (rest : List Piece) where
   abbrev with_read : Bool → Choice → ℕ → Option ScheduleLine → ReadSchedule
   with_read once c n read = with_line line read (schedule_lines (whole once c n) None (rows (later once c n)))
 
-  row_read : (once : Bool) (c : Choice) (n : ℕ) → IsTold (repeat_of c n) → (n == 1) ≡ once → schedule_lines (whole once c n) None (rows (tokens_at (length front) line (line_pieces once c n) ++ later once c n)) ≡ with_read once c n (Some (line_of (Choose c) n line))
-  row_read true (Thread t) n told e =
+  row_read : (once : Bool) (c : Choice) (n : ℕ) → IsReportedOf (repeat_of c n) → (n == 1) ≡ once → schedule_lines (whole once c n) None (rows (tokens_at (length front) line (line_pieces once c n) ++ later once c n)) ≡ with_read once c n (Some (asked_line (Choose c) n line))
+  row_read true (Thread t) n reported e =
       let all = spelled true (Thread t) n in
       ap (with_read true (Thread t) n) (thread_read (whole true (Thread t) n) (first (codes "thread")) (second (codes "thread") (decimal t)) [] t n
-      (record { kind = refl; bytes = ap text_first all }) (record { kind = refl; bytes = ap (λ ts. text_first (after_first ts)) all }) told.small (once_read (whole true (Thread t) n) n (eqb-true n 1 e)))
-  row_read true (Worker w) n told e =
+      (record { kind = refl; bytes = ap text_first all }) (record { kind = refl; bytes = ap (λ ts. text_first (after_first ts)) all }) reported.small (once_read (whole true (Thread t) n) n (eqb-true n 1 e)))
+  row_read true (Worker w) n reported e =
       let all = spelled true (Worker w) n in
       ap (with_read true (Worker w) n) (worker_read (whole true (Worker w) n) (first (codes "worker")) (second (codes "worker") (decimal w)) [] w n
-      (record { kind = refl; bytes = ap text_first all }) (record { kind = refl; bytes = ap (λ ts. text_first (after_first ts)) all }) told.small (once_read (whole true (Worker w) n) n (eqb-true n 1 e)))
-  row_read true Operator n told e =
+      (record { kind = refl; bytes = ap text_first all }) (record { kind = refl; bytes = ap (λ ts. text_first (after_first ts)) all }) reported.small (once_read (whole true (Worker w) n) n (eqb-true n 1 e)))
+  row_read true Operator n reported e =
       let all = spelled true Operator n in
       ap (with_read true Operator n) (operator_read (whole true Operator n) (first (codes "operator")) [] n
       (record { kind = refl; bytes = ap text_first all }) (once_read (whole true Operator n) n (eqb-true n 1 e)))
-  row_read false (Thread t) n told e =
+  row_read false (Thread t) n reported e =
       let all = spelled false (Thread t) n in
       let last = third (codes "thread") (decimal t) (decimal n) in
       ap (with_read false (Thread t) n) (thread_read (whole false (Thread t) n) (first (codes "thread")) (second (codes "thread") (decimal t)) (last ∷ []) t n
-      (record { kind = refl; bytes = ap text_first all }) (record { kind = refl; bytes = ap (λ ts. text_first (after_first ts)) all }) told.small
-      (often_read (whole false (Thread t) n) last n (record { kind = refl; bytes = ap (λ ts. text_first (after_first (after_first ts))) all }) told.some told.few))
-  row_read false (Worker w) n told e =
+      (record { kind = refl; bytes = ap text_first all }) (record { kind = refl; bytes = ap (λ ts. text_first (after_first ts)) all }) reported.small
+      (often_read (whole false (Thread t) n) last n (record { kind = refl; bytes = ap (λ ts. text_first (after_first (after_first ts))) all }) reported.some reported.few))
+  row_read false (Worker w) n reported e =
       let all = spelled false (Worker w) n in
       let last = third (codes "worker") (decimal w) (decimal n) in
       ap (with_read false (Worker w) n) (worker_read (whole false (Worker w) n) (first (codes "worker")) (second (codes "worker") (decimal w)) (last ∷ []) w n
-      (record { kind = refl; bytes = ap text_first all }) (record { kind = refl; bytes = ap (λ ts. text_first (after_first ts)) all }) told.small
-      (often_read (whole false (Worker w) n) last n (record { kind = refl; bytes = ap (λ ts. text_first (after_first (after_first ts))) all }) told.some told.few))
-  row_read false Operator n told e =
+      (record { kind = refl; bytes = ap text_first all }) (record { kind = refl; bytes = ap (λ ts. text_first (after_first ts)) all }) reported.small
+      (often_read (whole false (Worker w) n) last n (record { kind = refl; bytes = ap (λ ts. text_first (after_first (after_first ts))) all }) reported.some reported.few))
+  row_read false Operator n reported e =
       let all = spelled false Operator n in
       let last = second (codes "operator") (decimal n) in
       ap (with_read false Operator n) (operator_read (whole false Operator n) (first (codes "operator")) (last ∷ []) n
-      (record { kind = refl; bytes = ap text_first all }) (often_read (whole false Operator n) last n (record { kind = refl; bytes = ap (λ ts. text_first (after_first ts)) all }) told.some told.few))
+      (record { kind = refl; bytes = ap text_first all }) (often_read (whole false Operator n) last n (record { kind = refl; bytes = ap (λ ts. text_first (after_first ts)) all }) reported.some reported.few))
 
-  line_read : (once : Bool) (c : Choice) (n : ℕ) → IsTold (repeat_of c n) → (n == 1) ≡ once → schedule_lines (whole once c n) None (rows (tokens_at (length front) line (line_pieces once c n ++ rest))) ≡ with_read once c n (Some (line_of (Choose c) n line))
-  line_read once c n told e =
+  line_read : (once : Bool) (c : Choice) (n : ℕ) → IsReportedOf (repeat_of c n) → (n == 1) ≡ once → schedule_lines (whole once c n) None (rows (tokens_at (length front) line (line_pieces once c n ++ rest))) ≡ with_read once c n (Some (asked_line (Choose c) n line))
+  line_read once c n reported e =
       let place : ℕ = length front + length (print (line_pieces once c n)) in
       ap (λ (ts : List Token). schedule_lines (whole once c n) None (rows ts)) (tokens_at-append (length front) line (line_pieces once c n) rest
       ∙ ap (λ (l : ℕ). tokens_at (length front) line (line_pieces once c n) ++ tokens_at place l rest) (one_line_further line once c n))
-      ∙ row_read once c n told e
+      ∙ row_read once c n reported e
 
 -- ---- all lines
 
@@ -151,31 +151,31 @@ after_line front row line rest schedule e =
     ∙ ap (λ (l : ℕ). schedule_lines ((front ++ row) ++ print rest) None (rows (tokens_at (length (front ++ row)) l rest))) next
     ∙ e
 
-repeats_read : (front : List ℕ) (line : ℕ) (repeats : List Repeat) → AllByRecursion IsTold repeats → schedule_lines (front ++ print (repeats_pieces repeats)) None (rows (tokens_at (length front) line (repeats_pieces repeats))) ≡ record { lines = lines_from line repeats; bad = None }
-repeats_read front line [] told = refl
-repeats_read front line (each ∷ repeats) told =
+repeats_read : (front : List ℕ) (line : ℕ) (repeats : List Repeat) → AllByRecursion IsReportedOf repeats → schedule_lines (front ++ print (repeats_pieces repeats)) None (rows (tokens_at (length front) line (repeats_pieces repeats))) ≡ record { lines = schedule_lines_from line repeats; bad = None }
+repeats_read front line [] reported = refl
+repeats_read front line (each ∷ repeats) reported =
     let row : List Piece = repeat_pieces each in
     let rest : List Piece = repeats_pieces repeats in
-    let read : ReadSchedule = record { lines = lines_from (suc line) repeats; bad = None } in
+    let read : ReadSchedule = record { lines = schedule_lines_from (suc line) repeats; bad = None } in
     let later : schedule_lines (front ++ (print row ++ print rest)) None (rows (tokens_at (length front + length (print row)) (line + 1) rest)) ≡ read =
-    after_line front (print row) line rest read (repeats_read (front ++ print row) (suc line) repeats told.1) in
-    line_read front line rest (each.times == 1) each.choice each.times told.0 refl
-    ∙ ap (λ (text : List ℕ). with_line line (Some (line_of (Choose each.choice) each.times line)) (schedule_lines (front ++ text) None (rows (tokens_at (length front + length (print row)) (line + 1) rest)))) (print-append row rest)
-    ∙ ap (with_line line (Some (line_of (Choose each.choice) each.times line))) later
+    after_line front (print row) line rest read (repeats_read (front ++ print row) (suc line) repeats reported.1) in
+    line_read front line rest (each.times == 1) each.choice each.times reported.0 refl
+    ∙ ap (λ (text : List ℕ). with_line line (Some (asked_line (Choose each.choice) each.times line)) (schedule_lines (front ++ text) None (rows (tokens_at (length front + length (print row)) (line + 1) rest)))) (print-append row rest)
+    ∙ ap (with_line line (Some (asked_line (Choose each.choice) each.times line))) later
 
 -- the text of choices is read as their lines
 pub lines_read : (choices : List Choice) → HaveSmallNumbers choices → schedule_in (schedule_text choices) ≡ printed_schedule choices
 lines_read choices small =
     let repeats : List Repeat = repeats_of choices in
     let pieces : List Piece = repeats_pieces repeats in
-    let told : AllByRecursion IsTold repeats = all_told repeats (joined choices) (subst (AllByRecursion HasSmallNumber) (sym (spelled_again choices)) (recursion_from_All HasSmallNumber choices small)) in
+    let reported : AllByRecursion IsReportedOf repeats = all_reported repeats (joined choices) (subst (AllByRecursion HasSmallNumber) (sym (spelled_again choices)) (recursion_from_All HasSmallNumber choices small)) in
     ap schedule_in (sym (repeats_printed repeats))
-    ∙ ap (λ (lexed : Lexed). schedule_lines (print pieces) (line_of_fault (print pieces) lexed.fault) (rows (looked_at lexed))) (tokens_from-print pieces 0 1 (well_repeats repeats told))
-    ∙ repeats_read [] 1 repeats told
+    ∙ ap (λ (lexed : Lexed). schedule_lines (print pieces) (line_of_fault (print pieces) lexed.fault) (rows (tokens_before_fault_line lexed))) (tokens_from-print pieces 0 1 (well_repeats repeats reported))
+    ∙ repeats_read [] 1 repeats reported
 
 -- ---- the choices that the lines ask for
 
-asked_again : (line : ℕ) (repeats : List Repeat) → asked_by (lines_from line repeats) ≡ Some (spelled_choices repeats)
+asked_again : (line : ℕ) (repeats : List Repeat) → asked_by (schedule_lines_from line repeats) ≡ Some (spelled_choices repeats)
 asked_again line [] = refl
 asked_again line (each ∷ repeats) = ap (option_map (λ choices. replicate each.times each.choice ++ choices)) (asked_again (suc line) repeats)
 

@@ -39,8 +39,8 @@ choices_asked schedule = unless_bad schedule.bad (asked_by schedule.lines)
 -- ---- schedules written out
 
 -- the line with this number, which asks for this so often
-abbrev pub line_of : What → ℕ → ℕ → ScheduleLine
-line_of what count line = record { what = what; count = count; line = line }
+abbrev pub asked_line : What → ℕ → ℕ → ScheduleLine
+asked_line what count line = record { what = what; count = count; line = line }
 
 -- the schedule of these lines, without a bad line
 abbrev pub schedule_of : List ScheduleLine → ReadSchedule

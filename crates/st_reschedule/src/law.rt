@@ -7,7 +7,7 @@ ghost use Rattle.st_law.specs.declared.input.ReadSchedule.{ReadSchedule};
 ghost use Rattle.st_law.specs.declared.input.TheConstants.{MOST_TIMES};
 ghost use Rattle.st_law.specs.declared.input.What.TheVariants.{Choose, Rest};
 ghost use Rattle.st_report.specs.ScheduleText.{printed_schedule, schedule_text};
-ghost use Rattle.st_reschedule.specs.Asked.{HaveSmallNumbers, bad_at, choices_asked, line_of, schedule_of};
+ghost use Rattle.st_reschedule.specs.Asked.{HaveSmallNumbers, bad_at, choices_asked, asked_line, schedule_of};
 ghost use Rattle.st_schedule.specs.Schedule.{schedule_in};
 ghost use Rattle.st_trace.specs.declared.entry.Choice.{Choice};
 ghost use Rattle.st_trace.specs.declared.entry.Choice.TheVariants.{Thread, Worker, Operator};
@@ -26,10 +26,10 @@ pub fn a_printed_schedule_is_read_again()
 /// What a line of a schedule says: a thread or a worker by its number, the operator, each once or up to 1,000,000 times, or the rest, once.
 pub fn what_a_line_of_a_schedule_says()
     ensures most { MOST_TIMES ≡ 1000000 }
-    ensures thread { schedule_in (codes "thread 3\nthread 3 1000000\n") ≡ schedule_of (line_of (Choose (Thread 3)) 1 1 ∷ line_of (Choose (Thread 3)) 1000000 2 ∷ []) }
-    ensures worker { schedule_in (codes "worker 2\nworker 2 7\n") ≡ schedule_of (line_of (Choose (Worker 2)) 1 1 ∷ line_of (Choose (Worker 2)) 7 2 ∷ []) }
-    ensures operator { schedule_in (codes "operator\n\noperator 1\noperator 1000000\n") ≡ schedule_of (line_of (Choose Operator) 1 1 ∷ line_of (Choose Operator) 1 3 ∷ line_of (Choose Operator) 1000000 4 ∷ []) }
-    ensures rest { schedule_in (codes "rest\n") ≡ schedule_of (line_of Rest 1 1 ∷ []) }
+    ensures thread { schedule_in (codes "thread 3\nthread 3 1000000\n") ≡ schedule_of (asked_line (Choose (Thread 3)) 1 1 ∷ asked_line (Choose (Thread 3)) 1000000 2 ∷ []) }
+    ensures worker { schedule_in (codes "worker 2\nworker 2 7\n") ≡ schedule_of (asked_line (Choose (Worker 2)) 1 1 ∷ asked_line (Choose (Worker 2)) 7 2 ∷ []) }
+    ensures operator { schedule_in (codes "operator\n\noperator 1\noperator 1000000\n") ≡ schedule_of (asked_line (Choose Operator) 1 1 ∷ asked_line (Choose Operator) 1 3 ∷ asked_line (Choose Operator) 1000000 4 ∷ []) }
+    ensures rest { schedule_in (codes "rest\n") ≡ schedule_of (asked_line Rest 1 1 ∷ []) }
     ensures none { schedule_in (codes "operator 0\n") ≡ bad_at 1 }
     ensures more { schedule_in (codes "operator 1000001\n") ≡ bad_at 1 }
 {}

@@ -5,8 +5,8 @@ use Rattle.std.proofs.lemmas.Bool.{ltb-true, true≢false}
 use Rattle.st_base.specs.declared.errno.Errno.TheVariants.{ENOENT, ENAMETOOLONG}
 use Rattle.st_names.specs.Name.{Components, components_of, has_long_part, is_component, parent, printed_name, with_slash}
 use Rattle.st_names.specs.declared.limits.TheConstants.{LONGEST_NAME}
-use Rattle.st_model.specs.Walk.{WalkState, Fault, Name, is_last, is_up, name_after_ups, rest_after_ups, start_of_name, start_walk, walk_on}
-use Rattle.st_resolve.specs.Walk.{fault_before_lookups, step_of}
+use Rattle.st_model.specs.Walk.{WalkState, Fault, Name, is_last, is_up, name_after_parents, rest_after_ups, start_of_name, start_walk, walk_components}
+use Rattle.st_resolve.specs.Walk.{fault_before_lookups, walk_step}
 use Rattle.st_resolve.proofs.Texts.{not_zero}
 use Rattle.st_resolve.specs.declared.walk.WalkStep.TheVariants as step
 
@@ -42,22 +42,22 @@ up_by : (b : Bool) (name up : Components) (most : ℕ) → length (printed_name 
 up_by true name up most short shorter = shorter
 up_by false name up most short shorter = short
 
-up_shorter : (name rest : Components) (most : ℕ) → length (printed_name name) ≤ most → length (printed_name (name_after_ups name rest)) ≤ most
+up_shorter : (name rest : Components) (most : ℕ) → length (printed_name name) ≤ most → length (printed_name (name_after_parents name rest)) ≤ most
 up_shorter name [] most short = short
 up_shorter name (part ∷ rest) most short =
-    up_by (is_up part) name (name_after_ups (parent name) rest) most short
+    up_by (is_up part) name (name_after_parents (parent name) rest) most short
     (up_shorter (parent name) rest most (let front = front_shorter name (length name - 1) in omega (arith, front, short)))
 
 start_by : (b : Bool) (cwd : Components) (most : ℕ) → 1 ≤ most → length (printed_name cwd) ≤ most → length (printed_name (cond b [] cwd)) ≤ most
 start_by true cwd most one short = one
 start_by false cwd most one short = short
 
-end_by : (b : Bool) (name : Components) → length (printed_name name) ≤ LONGEST_NAME → nat_lt LONGEST_NAME (length (printed_name name)) ≡ b → step.Name ≡ step_of (cond b (Fault ENAMETOOLONG) (Name name))
+end_by : (b : Bool) (name : Components) → length (printed_name name) ≤ LONGEST_NAME → nat_lt LONGEST_NAME (length (printed_name name)) ≡ b → step.Name ≡ walk_step (cond b (Fault ENAMETOOLONG) (Name name))
 end_by true name short is = absurd (let long = ltb-true _ _ is in omega (arith, long, short))
 end_by false name short is = refl
 
 -- a walk that needs no look has its name
-walk_up : (done rest : Components) (follow : Bool) → length (printed_name done) ≤ LONGEST_NAME → is_last rest ≡ true → step.Name ≡ step_of (walk_on done rest 0 [] follow)
+walk_up : (done rest : Components) (follow : Bool) → length (printed_name done) ≤ LONGEST_NAME → is_last rest ≡ true → step.Name ≡ walk_step (walk_components done rest 0 [] follow)
 walk_up done [] follow short none = end_by _ done short refl
 walk_up done (part ∷ rest) follow short none = absurd (true≢false (sym none ∙ sym (not_zero (length (part ∷ rest)) (omega arith))))
 
@@ -67,12 +67,12 @@ goes_by false true on none = cc
 goes_by false false on none = refl
 
 begins : (text : List ℕ) (cwd : Components) (follow : Bool) → None ≡ fault_before_lookups text →
-    start_walk text cwd follow [] ≡ walk_on (name_after_ups (start_of_name text cwd) (components_of text)) (rest_after_ups (components_of text)) 0 [] follow
+    start_walk text cwd follow [] ≡ walk_components (name_after_parents (start_of_name text cwd) (components_of text)) (rest_after_ups (components_of text)) 0 [] follow
 begins text cwd follow none = goes_by (nat_eq (length text) 0) (has_long_part text) _ none
 
 -- a text that has no component but `..` means its name before any look
 pub name_first : (text : List ℕ) (cwd : Components) (follow : Bool) → length (printed_name cwd) ≤ LONGEST_NAME → None ≡ fault_before_lookups text → is_last (rest_after_ups (components_of text)) ≡ true →
-    step.Name ≡ step_of (start_walk text cwd follow [])
+    step.Name ≡ walk_step (start_walk text cwd follow [])
 name_first text cwd follow short none up =
     walk_up _ _ follow (up_shorter (start_of_name text cwd) (components_of text) LONGEST_NAME (start_by _ cwd LONGEST_NAME (omega arith) short)) up
-    ∙ sym (ap step_of (begins text cwd follow none))
+    ∙ sym (ap walk_step (begins text cwd follow none))

@@ -5,21 +5,21 @@ use Rattle.std.proofs.lemmas.Bool.{eqb-true, eqb-false, ltb-true, ltb-false}
 use Rattle.std.proofs.lemmas.List.{drop-drop, drop_min}
 use Rattle.std.proofs.lemmas.List.Elements.{All-head}
 use Rattle.std.proofs.Math.ListN.{drop_of_length-le}
-use Rattle.st_names.specs.Name.{AreParts, Components, IsSpelled, components_of, has_slash, is_component, parts_behind}
+use Rattle.st_names.specs.Name.{AreParts, Components, IsNameText, components_of, has_slash, is_component, parts_after}
 use Rattle.st_names.proofs.Spelled.{parts_first, plain-components, spelled_begins, spelled_rest}
 use Rattle.st_resolve.specs.Cursor.{IsAtComponent, first_part, first_part_len}
 
 -- ---- the first part of a text
 
-behind_first : (rest : List ℕ) → IsSpelled rest → filter is_component (parts_behind rest) ≡ components_of (drop 1 rest)
-behind_first [] spelled = refl
-behind_first (x ∷ rest) spelled = ap (λ (y : ℕ). filter is_component (parts_behind (y ∷ rest))) (spelled_begins x rest spelled)
+later_first : (rest : List ℕ) → IsNameText rest → filter is_component (parts_after rest) ≡ components_of (drop 1 rest)
+later_first [] spelled = refl
+later_first (x ∷ rest) spelled = ap (λ (y : ℕ). filter is_component (parts_after (y ∷ rest))) (spelled_begins x rest spelled)
 
 components_first : (text : List ℕ) → components_of text ≡ cond (is_component (first_part text)) (first_part text ∷ components_of (drop (first_part_len text + 1) text)) (components_of (drop (first_part_len text + 1) text))
 components_first text =
     let n : ℕ = first_part_len text in
     ap (filter is_component) (parts_first text)
-    ∙ ap (λ (more : Components). cond (is_component (first_part text)) (first_part text ∷ more) more) (behind_first (drop n text) (spelled_rest text) ∙ ap components_of (drop-drop 1 n text))
+    ∙ ap (λ (more : Components). cond (is_component (first_part text)) (first_part text ∷ more) more) (later_first (drop n text) (spelled_rest text) ∙ ap components_of (drop-drop 1 n text))
 
 -- the same from an offset on, whose first part ends at another offset
 components_at : (text part : List ℕ) (at end : ℕ) → end ≡ at + first_part_len (drop at text) → part ≡ first_part (drop at text) →

@@ -3,9 +3,9 @@ use Rattle.std.specs.Prelude.{◌<◌, List, [], ◌∷◌, ◌++◌, length, Al
 use Rattle.st_names.specs.Name.{Components}
 
 -- the components of these texts, those of the last text first
-abbrev pub joined : List Components → Components
-joined [] = []
-joined (text ∷ texts) = joined texts ++ text
+abbrev pub joined_components : List Components → Components
+joined_components [] = []
+joined_components (text ∷ texts) = joined_components texts ++ text
 
 -- each text has a component left
 abbrev pub AreUnfinished : List Components → Type 0

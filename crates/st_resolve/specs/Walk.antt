@@ -4,7 +4,7 @@ use Rattle.st_base.specs.declared.errno.Errno.{Errno}
 use Rattle.st_base.specs.declared.errno.Errno.TheVariants.{ENOENT, ENAMETOOLONG}
 use Rattle.st_names.specs.Name.{Components, components_of, has_long_part}
 use Rattle.st_names.specs.declared.seen.SeenText.{SeenText}
-use Rattle.st_model.specs.Walk.{WalkState, Name, Next, Fault, walk_on, name_after_ups, rest_after_ups, start_of_name}
+use Rattle.st_model.specs.Walk.{WalkState, Name, Next, Fault, walk_components, name_after_parents, rest_after_ups, start_of_name}
 use Rattle.st_resolve.specs.declared.walk.WalkStep.{WalkStep}
 use Rattle.st_resolve.specs.declared.walk.WalkStep.TheVariants as step
 
@@ -19,7 +19,7 @@ pub record Walk : Type 0 where
 
 -- a walk that has ended with a fault keeps the fault
 abbrev pub walk_unless : Option Errno → Components → Components → ℕ → List SeenText → Bool → WalkState
-walk_unless None done left links lookups follow = walk_on done left links lookups follow
+walk_unless None done left links lookups follow = walk_components done left links lookups follow
 walk_unless (Some errno) done left links lookups follow = Fault errno
 
 -- the state that the walk reaches by what is seen from here on
@@ -27,10 +27,10 @@ abbrev pub walk_from : Walk → List SeenText → WalkState
 walk_from walk lookups = walk_unless walk.fault walk.done walk.left walk.links lookups walk.follow
 
 -- how far a walk is, without its name
-abbrev pub step_of : WalkState → WalkStep
-step_of (Name name) = step.Name
-step_of (Next name) = step.More
-step_of (Fault errno) = step.Fault errno
+abbrev pub walk_step : WalkState → WalkStep
+walk_step (Name name) = step.Name
+walk_step (Next name) = step.More
+walk_step (Fault errno) = step.Fault errno
 
 -- the name that is looked at next, if any
 abbrev pub asked_name : WalkState → Option Components
@@ -40,7 +40,7 @@ asked_name (Fault errno) = None
 
 -- the walk after each `..` that comes next
 abbrev pub climbed : Walk → Walk
-climbed walk = record walk { done = name_after_ups walk.done walk.left; left = rest_after_ups walk.left }
+climbed walk = record walk { done = name_after_parents walk.done walk.left; left = rest_after_ups walk.left }
 
 -- the walk after its next component, which is appended to the name
 abbrev pub entered : Walk → Walk

@@ -58,7 +58,7 @@ fn component_from(text: &[u8], from: usize) -> (usize, usize)
 
 // Where the component after one that ends at this offset begins and ends; both are the text's length if there is none.
 #[inline]
-fn component_behind(text: &[u8], end: usize) -> (usize, usize)
+fn component_after(text: &[u8], end: usize) -> (usize, usize)
     requires { end ≤ length text.now }
     ensures at { IsComponentAt text.now result.0 result.1 }
     ensures rest { (at : ℕ) → IsComponentAt text.now at end → at < length text.now → components_of (drop result.0 text.now) ≡ drop 1 (components_of (drop at text.now)) }
@@ -101,8 +101,8 @@ impl Cursor {
         ensures { result ≡ is_last (drop 1 self.now) }
     {
         let text = self.text.bytes();
-        let (behind, _) = component_behind(text, self.end);
-        behind == text.len()
+        let (following, _) = component_after(text, self.end);
+        following == text.len()
     }
 
     /// Moves past the next component.
@@ -110,6 +110,6 @@ impl Cursor {
         requires { 0 < length self.old }
         ensures { self.new ≡ drop 1 self.old }
     {
-        (self.at, self.end) = component_behind(self.text.bytes(), self.end);
+        (self.at, self.end) = component_after(self.text.bytes(), self.end);
     }
 }

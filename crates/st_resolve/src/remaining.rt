@@ -2,7 +2,7 @@
 ghost use Rattle.std.specs.Prelude.{◌≡◌, ◌↔◌, ◌+◌, ◌<◌, ◌≤◌, false, [], ◌∷◌, ◌++◌, drop, length, IsTrue, IsNone, IfSome, IfOk, OnOk, OnErr, vec_len, vec_capacity};
 ghost use Rattle.st_names.specs.Name.{components_of, has_slash};
 ghost use Rattle.st_model.specs.Walk.{is_last};
-ghost use Rattle.st_resolve.specs.Remaining.{joined, AreUnfinished};
+ghost use Rattle.st_resolve.specs.Remaining.{joined_components, AreUnfinished};
 
 use crate::cursor::Cursor;
 use std::alloc::{AllocError, Global};
@@ -17,11 +17,11 @@ pub struct Remaining {
 
 impl Model for Remaining {
     ghost use Rattle.std.specs.Prelude.{List, ℕ};
-    ghost use Rattle.st_resolve.specs.Remaining.{joined, AreUnfinished};
+    ghost use Rattle.st_resolve.specs.Remaining.{joined_components, AreUnfinished};
 
     ghost Value = { List (List ℕ) };
 
-    ghost view = { λ r. joined r.texts.items };
+    ghost view = { λ r. joined_components r.texts.items };
 
     ghost invariant = { λ r. AreUnfinished r.texts.items };
 }
@@ -91,7 +91,7 @@ impl Remaining {
 // Pushes a text, unless it has no component left.
 fn put_back(texts: &mut Vec<Cursor>, text: Cursor)
     requires { vec_len texts.old < vec_capacity texts.old }
-    ensures joined { joined texts.new.items ≡ text ++ joined texts.old.items }
+    ensures joined { joined_components texts.new.items ≡ text ++ joined_components texts.old.items }
     ensures unfinished { AreUnfinished texts.old.items → AreUnfinished texts.new.items }
     ensures room { vec_len texts.new ≤ vec_len texts.old + 1 }
     ensures capacity { vec_capacity texts.new ≡ vec_capacity texts.old }
@@ -104,7 +104,7 @@ fn put_back(texts: &mut Vec<Cursor>, text: Cursor)
 // Drops the next component of these texts, and its text if that has no other component.
 fn drop_first(texts: &mut Vec<Cursor>)
     requires { AreUnfinished texts.old.items }
-    ensures joined { joined texts.new.items ≡ drop 1 (joined texts.old.items) }
+    ensures joined { joined_components texts.new.items ≡ drop 1 (joined_components texts.old.items) }
     ensures unfinished { AreUnfinished texts.new.items }
     ensures room { vec_len texts.new ≤ vec_len texts.old }
     ensures capacity { vec_capacity texts.new ≡ vec_capacity texts.old }

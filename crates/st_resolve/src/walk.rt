@@ -6,7 +6,7 @@ ghost use Rattle.st_names.specs.declared.limits.TheConstants.{LONGEST_NAME};
 ghost use Rattle.st_names.specs.declared.seen.SeenText.{SeenText};
 ghost use Rattle.st_model.specs.Walk.{Fault, Name, start_of_name, start_walk, is_last, is_up, rest_after_ups};
 ghost use Rattle.st_model.specs.declared.limits.TheConstants.{MOST_LINKS};
-ghost use Rattle.st_resolve.specs.Walk.{asked_name, climbed, entered, followed, fault_before_lookups, step_of, walk_from};
+ghost use Rattle.st_resolve.specs.Walk.{asked_name, climbed, entered, followed, fault_before_lookups, walk_step, walk_from};
 ghost use Rattle.st_resolve.specs.declared.walk.WalkFault.TheVariants.{Os};
 ghost use Rattle.st_resolve.specs.declared.walk.WalkStep.TheVariants as step;
 
@@ -113,7 +113,7 @@ fn is_way_up(text: &[u8]) -> bool
 /// the text is empty, ENAMETOOLONG if a part of it has more than 255 bytes.
 pub fn first_step(text: &[u8], cwd: &AbsName) -> WalkStep
     requires { length (printed_name cwd.now) ≤ LONGEST_NAME }
-    ensures { (follow : Bool) → result ≡ step_of (start_walk text.now cwd.now follow []) }
+    ensures { (follow : Bool) → result ≡ walk_step (start_walk text.now cwd.now follow []) }
 {
     match first_fault(text) {
         Some(errno) => WalkStep::Fault(errno),
@@ -151,7 +151,7 @@ impl Walk {
 
     /// How far the walk is.
     pub fn step(&self) -> WalkStep
-        ensures { result ≡ step_of (walk_from self.now []) }
+        ensures { result ≡ walk_step (walk_from self.now []) }
     {
         match self.fault {
             Some(errno) => WalkStep::Fault(errno),
@@ -165,10 +165,10 @@ impl Walk {
 
     /// The name to look at next; `None` exactly when the walk has its name.
     pub fn next_look(&self, alloc: Global) -> Result<Option<AbsName>, AllocError>
-        requires { (errno : Errno) → step_of (walk_from self.now []) ≢ step.Fault errno }
+        requires { (errno : Errno) → walk_step (walk_from self.now []) ≢ step.Fault errno }
         ensures look { IfOk result (λ look. look ≡ asked_name (walk_from self.now [])) }
-        ensures none { IfOk result (λ look. IsNone look ↔ (step_of (walk_from self.now []) ≡ step.Name)) }
-        ensures some { IfOk result (λ look. IsSome look ↔ (step_of (walk_from self.now []) ≡ step.More)) }
+        ensures none { IfOk result (λ look. IsNone look ↔ (walk_step (walk_from self.now []) ≡ step.Name)) }
+        ensures some { IfOk result (λ look. IsSome look ↔ (walk_step (walk_from self.now []) ≡ step.More)) }
     {
         let Some(part) = self.left.first() else {
             return Ok(None);
@@ -181,9 +181,9 @@ impl Walk {
     /// isn't last is missing, ENOTDIR if it is a file or if NotDir was seen, ELOOP at the 33rd link, ENAMETOOLONG if the finished
     /// name has more than 1,024 bytes. If memory runs out, the walk is unchanged.
     pub fn advance(&mut self, alloc: Global, seen: Seen<'_>) -> Result<WalkStep, AllocError>
-        requires { step_of (walk_from self.old []) ≡ step.More }
+        requires { walk_step (walk_from self.old []) ≡ step.More }
         ensures walk { OnOk result ((lookups : List SeenText) → walk_from self.new lookups ≡ walk_from self.old (seen_text seen.entry ∷ lookups)) }
-        ensures step { IfOk result (λ step. step ≡ step_of (walk_from self.new [])) }
+        ensures step { IfOk result (λ step. step ≡ walk_step (walk_from self.new [])) }
         ensures err { OnErr result (self.new ≡ self.old) }
     {
         self.go(alloc, seen)?;
@@ -192,7 +192,7 @@ impl Walk {
 
     // Goes on by what was seen of the next component.
     fn go(&mut self, alloc: Global, seen: Seen<'_>) -> Result<(), AllocError>
-        requires { step_of (walk_from self.old []) ≡ step.More }
+        requires { walk_step (walk_from self.old []) ≡ step.More }
         ensures walk { OnOk result ((lookups : List SeenText) → walk_from self.new lookups ≡ walk_from self.old (seen_text seen.entry ∷ lookups)) }
         ensures err { OnErr result (self.new ≡ self.old) }
     {
@@ -210,7 +210,7 @@ impl Walk {
 
     /// The name that the walk has found.
     pub fn name(&self) -> &AbsName
-        requires { step_of (walk_from self.now []) ≡ step.Name }
+        requires { walk_step (walk_from self.now []) ≡ step.Name }
         ensures { walk_from self.now [] ≡ Name result.now }
     {
         &self.done
@@ -218,7 +218,7 @@ impl Walk {
 
     /// The name that the walk has found. Takes no memory.
     pub fn into_name(self) -> AbsName
-        requires { step_of (walk_from self []) ≡ step.Name }
+        requires { walk_step (walk_from self []) ≡ step.Name }
         ensures { walk_from self [] ≡ Name result }
     {
         self.done

@@ -13,7 +13,7 @@ use Rattle.st_law.specs.declared.input.ReadSchedule.{ReadSchedule}
 use Rattle.st_outside.specs.Files.{FileView, FileBytes, CanHold}
 use Rattle.st_outside.specs.declared.files.TheConstants.{FILE_LIMIT}
 use Rattle.st_reading.specs.Files.{ArePolicies, IsPolicy, IsScript}
-use Rattle.st_reading.specs.Meaning.{Held, Means, Runs}
+use Rattle.st_reading.specs.Meaning.{Contents, Means, Runs}
 use Rattle.st_reading.proofs.ReadFiles.{IsStepRead, input_or}
 use Rattle.st_reading.proofs.Refusals.{step_means}
 use Rattle.st_reread.specs.Readable.{WasRead}
@@ -23,7 +23,7 @@ use Rattle.st_script.specs.declared.reading.ReadScript.{ReadScript}
 use Rattle.st_script_faults.specs.Environment.{environment_of}
 use Rattle.st_statements.specs.Statements.{lines_in}
 use Rattle.st_trace.specs.declared.entry.Choice.{Choice}
-use Rattle.st_top.specs.Learning.{policies_behind}
+use Rattle.st_top.specs.Learning.{policies_after}
 use Rattle.st_top.specs.Outcome.{printed}
 use Rattle.st_round_trip.specs.RoundTrip.{HoldBytes}
 use Rattle.st_round_trip.proofs.Enforced.{WrittenIsReadAgain, read_under}
@@ -31,41 +31,41 @@ use Rattle.st_round_trip.proofs.OtherFilters.{IsComplete, IsSound}
 use Rattle.st_round_trip.proofs.OtherOptions.{script_so}
 use Rattle.st_round_trip.proofs.ReadAgain.{was_read}
 
-module _ (written : WrittenIsReadAgain) (sound : IsSound) (complete : IsComplete) (held : Held) (step : StepWords) (i : Input) (schedule : ReadSchedule) (bytes : HoldBytes held (step.script ∷ step.policies))
-    (limits : IsWithinLimits (Step step)) (learning : step.options.mode ≡ Learn) (meant : Means held (Step step) (Runs i schedule)) (choices : List Choice) (few : filters_in (policies_behind i choices) ≤ MOST_FILTERS)
-    (name : Word) (holds : held name ≡ FileBytes (printed print.Policy i choices)) (short : length (printed print.Policy i choices) ≤ FILE_LIMIT)
+module _ (written : WrittenIsReadAgain) (sound : IsSound) (complete : IsComplete) (contents : Contents) (step : StepWords) (i : Input) (schedule : ReadSchedule) (bytes : HoldBytes contents (step.script ∷ step.policies))
+    (limits : IsWithinLimits (Step step)) (learning : step.options.mode ≡ Learn) (meant : Means contents (Step step) (Runs i schedule)) (choices : List Choice) (few : filters_in (policies_after i choices) ≤ MOST_FILTERS)
+    (name : Word) (holds : contents name ≡ FileBytes (printed print.Policy i choices)) (short : length (printed print.Policy i choices) ≤ FILE_LIMIT)
     (again : StepWords) (script_is : again.script ≡ step.script) (alone : again.policies ≡ name ∷ []) (ids : again.options.ids ≡ step.options.ids) where
-  module _ (w : IsStepRead WasRead held step (Runs i schedule)) where
+  module _ (w : IsStepRead WasRead contents step (Runs i schedule)) where
     -- the script, as it is read again
     abbrev script : ReadScript
     script = record { start = w.script.start; env = environment_of again.options (lines_in w.script_text); replies = w.script.replies }
 
-    script_file : IsScript (held again.script) again.options script
+    script_file : IsScript (contents again.script) again.options script
     script_file = record {
       text = w.script_text;
-      content = subst (λ (word : Word). CanHold (held word) w.script_text) (sym script_is) w.script_held;
+      content = subst (λ (word : Word). CanHold (contents word) w.script_text) (sym script_is) w.script_held;
       within = w.script_within;
       says = script_so sound complete w.script_text step.options again.options ids w.script w.script_is;
     }
 
-    policy_file : IsPolicy (held name) script.env [] (policies_behind i choices)
+    policy_file : IsPolicy (contents name) script.env [] (policies_after i choices)
     policy_file = record {
       text = printed print.Policy i choices;
       content = subst (λ (h : FileView). CanHold h (printed print.Policy i choices)) (sym holds) refl;
       within = short;
-      says = (read_under written held step i schedule bytes limits learning meant choices few w again.options ids).reads;
+      says = (read_under written contents step i schedule bytes limits learning meant choices few w again.options ids).reads;
     }
 
-    policy_files : ArePolicies held script.env again.policies [] (policies_behind i choices)
-    policy_files = subst (λ (names : List Word). ArePolicies held script.env names [] (policies_behind i choices)) (sym alone) (policies_behind i choices, policy_file, refl)
+    policy_files : ArePolicies contents script.env again.policies [] (policies_after i choices)
+    policy_files = subst (λ (names : List Word). ArePolicies contents script.env names [] (policies_after i choices)) (sym alone) (policies_after i choices, policy_file, refl)
 
-    runs_so : (text : List ℕ) → CanHold (held again.schedule) text → length text ≤ FILE_LIMIT →
-        Means held (Step again) (Runs (record i { policies = policies_behind i choices; options = again.options }) (schedule_in text))
+    runs_so : (text : List ℕ) → CanHold (contents again.schedule) text → length text ≤ FILE_LIMIT →
+        Means contents (Step again) (Runs (record i { policies = policies_after i choices; options = again.options }) (schedule_in text))
     runs_so text there within =
         let input_is : i ≡ input_with w.policies step.options w.script = ap (input_or i) w.outcome_is in
-        subst (λ (j : Input). Means held (Step again) (Runs (record j { policies = policies_behind i choices; options = again.options }) (schedule_in text))) (sym input_is)
-        (step_means held again script (policies_behind i choices) (schedule_in text) script_file policy_files (record { text = text; content = there; within = within; says = refl }))
+        subst (λ (j : Input). Means contents (Step again) (Runs (record j { policies = policies_after i choices; options = again.options }) (schedule_in text))) (sym input_is)
+        (step_means contents again script (policies_after i choices) (schedule_in text) script_file policy_files (record { text = text; content = there; within = within; says = refl }))
 
-  pub can_be_enforced : (text : List ℕ) → CanHold (held again.schedule) text → length text ≤ FILE_LIMIT →
-      Means held (Step again) (Runs (record i { policies = policies_behind i choices; options = again.options }) (schedule_in text))
-  can_be_enforced = runs_so (was_read held step bytes i schedule meant)
+  pub can_be_enforced : (text : List ℕ) → CanHold (contents again.schedule) text → length text ≤ FILE_LIMIT →
+      Means contents (Step again) (Runs (record i { policies = policies_after i choices; options = again.options }) (schedule_in text))
+  can_be_enforced = runs_so (was_read contents step bytes i schedule meant)

@@ -16,7 +16,7 @@ use Rattle.st_law.specs.declared.input.ReadSchedule.{ReadSchedule}
 use Rattle.st_outside.specs.Files.{FileView, FileBytes, CanHold}
 use Rattle.st_grammar.specs.Grammar.{Reads}
 use Rattle.st_grammar.specs.declared.env.Env.{Env}
-use Rattle.st_reading.specs.Meaning.{Held, Meaning, Means, MeansBehindScript, MeansPolicies, MeansSchedule, Runs, SaysPolicy, SaysScript}
+use Rattle.st_reading.specs.Meaning.{Contents, Meaning, Means, MeansAfterScript, MeansPolicies, MeansSchedule, Runs, SaysPolicy, SaysScript}
 use Rattle.st_reading.specs.declared.refusal.Which.TheVariants as which
 use Rattle.st_reading.proofs.ReadFiles.{IsStepRead, fetched, input_or, script_read, text_read}
 use Rattle.st_reread.specs.Readable.{WasRead}
@@ -27,7 +27,7 @@ use Rattle.st_script.specs.declared.reading.ReadScript.{ReadScript}
 use Rattle.st_script_faults.specs.Environment.{environment_of}
 use Rattle.st_statements.specs.Statements.{lines_in}
 use Rattle.st_trace.specs.declared.entry.Choice.{Choice}
-use Rattle.st_top.specs.Learning.{PermitsWhatWasMade, policies_behind}
+use Rattle.st_top.specs.Learning.{PermitsWhatWasMade, policies_after}
 use Rattle.st_top.specs.Outcome.{printed}
 use Rattle.st_round_trip.specs.RoundTrip.{HoldBytes, IsReadAgain, IsScriptOf, enforcing}
 use Rattle.st_round_trip.proofs.OtherOptions.{env_by, env_is}
@@ -37,38 +37,38 @@ use Rattle.st_round_trip.proofs.ReadAgain.{held_once, was_read}
 
 abbrev pub WrittenIsReadAgain : Type 0
 WrittenIsReadAgain =
-    (held : Held) (step : StepWords) (input : Input) (schedule : ReadSchedule) → HoldBytes held (step.script ∷ step.policies) → IsWithinLimits (Step step) → step.options.mode ≡ Learn → Means held (Step step) (Runs input schedule) →
-    (script : ReadScript) → IsScriptOf held step script → (choices : List Choice) → filters_in (policies_behind input choices) ≤ MOST_FILTERS →
-    IsReadAgain (printed print.Policy input choices) script.env (policies_behind input choices) × IsReadAgain (printed print.Policy input choices) (enforcing script.env) (policies_behind input choices)
+    (contents : Contents) (step : StepWords) (input : Input) (schedule : ReadSchedule) → HoldBytes contents (step.script ∷ step.policies) → IsWithinLimits (Step step) → step.options.mode ≡ Learn → Means contents (Step step) (Runs input schedule) →
+    (script : ReadScript) → IsScriptOf contents step script → (choices : List Choice) → filters_in (policies_after input choices) ≤ MOST_FILTERS →
+    IsReadAgain (printed print.Policy input choices) script.env (policies_after input choices) × IsReadAgain (printed print.Policy input choices) (enforcing script.env) (policies_after input choices)
 
 abbrev pub WrittenPermits : Type 0
-WrittenPermits = (held : Held) (step : StepWords) (input : Input) (schedule : ReadSchedule) → IsWithinLimits (Step step) → step.options.mode ≡ Learn → Means held (Step step) (Runs input schedule) →
-    (choices : List Choice) → PermitsWhatWasMade input (policies_behind input choices) (reverse (run input choices))
+WrittenPermits = (contents : Contents) (step : StepWords) (input : Input) (schedule : ReadSchedule) → IsWithinLimits (Step step) → step.options.mode ≡ Learn → Means contents (Step step) (Runs input schedule) →
+    (choices : List Choice) → PermitsWhatWasMade input (policies_after input choices) (reverse (run input choices))
 
 -- ---- a text of policies under a name alone
 
 -- what `step` reads if it has one policy file
-record IsReadAlone (held : Held) (step : StepWords) (name : Word) (i : Input) : Type 0 where
+record IsReadAlone (contents : Contents) (step : StepWords) (name : Word) (i : Input) : Type 0 where
   script_text : List ℕ
-  script_held : CanHold (held step.script) script_text
+  script_held : CanHold (contents step.script) script_text
   script : ReadScript
   script_is : script_in script_text step.options ≡ Ok script
   text : List ℕ
-  text_held : CanHold (held name) text
+  text_held : CanHold (contents name) text
   policies : List BinaryPolicy
   reads : Reads text script.env [] policies
   input_is : i ≡ input_with policies step.options script
 
-read_alone : (held : Held) (step : StepWords) (name : Word) (i : Input) (schedule : ReadSchedule) → step.policies ≡ name ∷ [] → Means held (Step step) (Runs i schedule) → IsReadAlone held step name i
-read_alone held step name i schedule alone meant =
+read_alone : (contents : Contents) (step : StepWords) (name : Word) (i : Input) (schedule : ReadSchedule) → step.policies ≡ name ∷ [] → Means contents (Step step) (Runs i schedule) → IsReadAlone contents step name i
+read_alone contents step name i schedule alone meant =
     let outcome : Meaning = Runs i schedule in
-    let x = fetched held outcome tt step.script which.Script (λ text. SaysScript (script_in text step.options) (λ script. MeansBehindScript held step script outcome) outcome) meant in
-    let s = script_read held outcome tt (script_in x.text step.options) (λ script. MeansBehindScript held step script outcome) x.says in
-    let behind : List BinaryPolicy → Type 0 = λ policies. MeansSchedule held step s.0 policies outcome in
-    let p = subst (λ (names : List Word). MeansPolicies held s.0.env 1 names [] behind outcome) alone s.2 in
-    let f = fetched held outcome tt name (which.Policy 1) (λ text. SaysPolicy text s.0.env [] 1 behind outcome) p in
-    let y = text_read held outcome tt f.text s.0.env [] 1 behind f.says in
-    let z = fetched held outcome tt step.schedule which.Schedule (λ text. outcome ≡ Runs (input_with y.0 step.options s.0) (schedule_in text)) y.2 in
+    let x = fetched contents outcome tt step.script which.Script (λ text. SaysScript (script_in text step.options) (λ script. MeansAfterScript contents step script outcome) outcome) meant in
+    let s = script_read contents outcome tt (script_in x.text step.options) (λ script. MeansAfterScript contents step script outcome) x.says in
+    let following : List BinaryPolicy → Type 0 = λ policies. MeansSchedule contents step s.0 policies outcome in
+    let p = subst (λ (names : List Word). MeansPolicies contents s.0.env 1 names [] following outcome) alone s.2 in
+    let f = fetched contents outcome tt name (which.Policy 1) (λ text. SaysPolicy text s.0.env [] 1 following outcome) p in
+    let y = text_read contents outcome tt f.text s.0.env [] 1 following f.says in
+    let z = fetched contents outcome tt step.schedule which.Schedule (λ text. outcome ≡ Runs (input_with y.0 step.options s.0) (schedule_in text)) y.2 in
     record {
       script_text = x.text;
       script_held = x.content;
@@ -83,38 +83,38 @@ read_alone held step name i schedule alone meant =
 
 -- ---- the policies that were learnt
 
-module _ (written : WrittenIsReadAgain) (held : Held) (step : StepWords) (i : Input) (schedule : ReadSchedule) (bytes : HoldBytes held (step.script ∷ step.policies)) (limits : IsWithinLimits (Step step))
-    (learning : step.options.mode ≡ Learn) (meant : Means held (Step step) (Runs i schedule)) (choices : List Choice) (few : filters_in (policies_behind i choices) ≤ MOST_FILTERS) where
+module _ (written : WrittenIsReadAgain) (contents : Contents) (step : StepWords) (i : Input) (schedule : ReadSchedule) (bytes : HoldBytes contents (step.script ∷ step.policies)) (limits : IsWithinLimits (Step step))
+    (learning : step.options.mode ≡ Learn) (meant : Means contents (Step step) (Runs i schedule)) (choices : List Choice) (few : filters_in (policies_after i choices) ≤ MOST_FILTERS) where
   -- the text is read again with the environment that the same script gives under other options
-  pub read_under : (w : IsStepRead WasRead held step (Runs i schedule)) (other : Options) → other.ids ≡ step.options.ids →
-      IsReadAgain (printed print.Policy i choices) (environment_of other (lines_in w.script_text)) (policies_behind i choices)
+  pub read_under : (w : IsStepRead WasRead contents step (Runs i schedule)) (other : Options) → other.ids ≡ step.options.ids →
+      IsReadAgain (printed print.Policy i choices) (environment_of other (lines_in w.script_text)) (policies_after i choices)
   read_under w other ids =
       by (environment_of other (lines_in w.script_text)) (environment_of step.options (lines_in w.script_text)) w.script.env (env_is w.script_text step.options w.script w.script_is)
       (env_by step.options other ids (lines_in w.script_text) learning other.mode refl)
-      (written held step i schedule bytes limits learning meant w.script (record { text = w.script_text; there = w.script_held; is = w.script_is }) choices few)
+      (written contents step i schedule bytes limits learning meant w.script (record { text = w.script_text; there = w.script_held; is = w.script_is }) choices few)
     where
       by : (env before learnt : Env) → learnt ≡ before → (env ≡ before) ⊎ (env ≡ enforcing before) →
-          IsReadAgain (printed print.Policy i choices) learnt (policies_behind i choices) × IsReadAgain (printed print.Policy i choices) (enforcing learnt) (policies_behind i choices) →
-          IsReadAgain (printed print.Policy i choices) env (policies_behind i choices)
-      by env before learnt same (inl is) both = subst (λ (e : Env). IsReadAgain (printed print.Policy i choices) e (policies_behind i choices)) (same ∙ sym is) both.0
-      by env before learnt same (inr is) both = subst (λ (e : Env). IsReadAgain (printed print.Policy i choices) e (policies_behind i choices)) (ap enforcing same ∙ sym is) both.1
+          IsReadAgain (printed print.Policy i choices) learnt (policies_after i choices) × IsReadAgain (printed print.Policy i choices) (enforcing learnt) (policies_after i choices) →
+          IsReadAgain (printed print.Policy i choices) env (policies_after i choices)
+      by env before learnt same (inl is) both = subst (λ (e : Env). IsReadAgain (printed print.Policy i choices) e (policies_after i choices)) (same ∙ sym is) both.0
+      by env before learnt same (inr is) both = subst (λ (e : Env). IsReadAgain (printed print.Policy i choices) e (policies_after i choices)) (ap enforcing same ∙ sym is) both.1
 
-  module _ (permits : WrittenPermits) (name : Word) (holds : held name ≡ FileBytes (printed print.Policy i choices)) (again : StepWords) (script_is : again.script ≡ step.script) (alone : again.policies ≡ name ∷ [])
+  module _ (permits : WrittenPermits) (name : Word) (holds : contents name ≡ FileBytes (printed print.Policy i choices)) (again : StepWords) (script_is : again.script ≡ step.script) (alone : again.policies ≡ name ∷ [])
       (ids : again.options.ids ≡ step.options.ids) where
     -- these policies were read, with the environment of this script
-    same_policies : (other : Input) (x : IsReadAlone held again name other) → x.policies ≡ policies_behind i choices
+    same_policies : (other : Input) (x : IsReadAlone contents again name other) → x.policies ≡ policies_after i choices
     same_policies other x =
-        let w = was_read held step bytes i schedule meant in
-        let there : CanHold (held step.script) x.script_text = subst (λ (word : Word). CanHold (held word) x.script_text) script_is x.script_held in
-        let same_script : x.script_text ≡ w.script_text = held_once (held step.script) x.script_text w.script_text bytes.0 there w.script_held in
+        let w = was_read contents step bytes i schedule meant in
+        let there : CanHold (contents step.script) x.script_text = subst (λ (word : Word). CanHold (contents word) x.script_text) script_is x.script_held in
+        let same_script : x.script_text ≡ w.script_text = held_once (contents step.script) x.script_text w.script_text bytes.0 there w.script_held in
         let text_is : x.text ≡ printed print.Policy i choices = subst (λ (h : FileView). CanHold h x.text) holds x.text_held in
         let own : x.script.env ≡ environment_of again.options (lines_in w.script_text) =
         env_is x.script_text again.options x.script x.script_is ∙ ap (λ (text : List ℕ). environment_of again.options (lines_in text)) same_script in
         (read_under w again.options ids).alone x.policies
         (subst (λ (env : Env). Reads (printed print.Policy i choices) env [] x.policies) own (subst (λ (text : List ℕ). Reads text x.script.env [] x.policies) text_is x.reads))
 
-    pub is_enforced : (other : Input) (later : ReadSchedule) → Means held (Step again) (Runs other later) → PermitsWhatWasMade i other.policies (reverse (run i choices))
+    pub is_enforced : (other : Input) (later : ReadSchedule) → Means contents (Step again) (Runs other later) → PermitsWhatWasMade i other.policies (reverse (run i choices))
     is_enforced other later meant_again =
-        let x = read_alone held again name other later alone meant_again in
-        let is : other.policies ≡ policies_behind i choices = ap (λ (input : Input). input.policies) x.input_is ∙ same_policies other x in
-        subst (λ (policies : List BinaryPolicy). PermitsWhatWasMade i policies (reverse (run i choices))) (sym is) (permits held step i schedule limits learning meant choices)
+        let x = read_alone contents again name other later alone meant_again in
+        let is : other.policies ≡ policies_after i choices = ap (λ (input : Input). input.policies) x.input_is ∙ same_policies other x in
+        subst (λ (policies : List BinaryPolicy). PermitsWhatWasMade i policies (reverse (run i choices))) (sym is) (permits contents step i schedule limits learning meant choices)

@@ -16,7 +16,7 @@ use Rattle.st_grammar.specs.Symbol.{Symbol}
 use Rattle.st_grammar.specs.Words.{id_in, names_for}
 use Rattle.st_grammar.specs.declared.env.Env.{Env}
 use Rattle.st_grammar.specs.declared.env.NamedId.{NamedId}
-use Rattle.st_script_faults.specs.Faults.{answer_of, unless_ask}
+use Rattle.st_script_faults.specs.Faults.{reply_filter, unless_ask}
 
 -- ---- the laws that this proof uses
 
@@ -115,15 +115,15 @@ module _ (users groups : List NamedId) (dollars : Dollars) (elevate : Bool) wher
     text_so text f unasked reads = record { whole = reads.whole; row = reads.row; one_row = reads.one_row; is = filter_so reads.row f unasked reads.is }
 
     module _ (sound : IsSound) (complete : IsComplete) (text : List ℕ) where
-      answer_so : (x : FilterResult) (f : FilterValue) → filter_in text (env_with a) ≡ x → answer_of x ≡ Some f → answer_of (filter_in text (env_with b)) ≡ Some f
+      answer_so : (x : FilterResult) (f : FilterValue) → filter_in text (env_with a) ≡ x → reply_filter x ≡ Some f → reply_filter (filter_in text (env_with b)) ≡ Some f
       answer_so (Err fault) f is said = absurd (cc)
       answer_so (Ok g) f is said =
           let kept = kept_filter g f g.action said in
           let read : filter_in text (env_with b) ≡ Ok g = complete text (env_with b) g (text_so text g kept.1 (sound text (env_with a) g is)) in
-          ap answer_of read ∙ (filter_kept g g.action kept.1 ∙ ap Some kept.0)
+          ap reply_filter read ∙ (filter_kept g g.action kept.1 ∙ ap Some kept.0)
 
   -- the answer of a text doesn't depend on whether filters are learnt
-  pub same_answer : IsSound → IsComplete → (a b : Bool) (text : List ℕ) → answer_of (filter_in text (env_with a)) ≡ answer_of (filter_in text (env_with b))
+  pub same_answer : IsSound → IsComplete → (a b : Bool) (text : List ℕ) → reply_filter (filter_in text (env_with a)) ≡ reply_filter (filter_in text (env_with b))
   same_answer sound complete a b text =
-      one_option (answer_of (filter_in text (env_with a))) (answer_of (filter_in text (env_with b)))
+      one_option (reply_filter (filter_in text (env_with a))) (reply_filter (filter_in text (env_with b)))
       (λ f is. answer_so a b sound complete text (filter_in text (env_with a)) f refl is) (λ f is. answer_so b a sound complete text (filter_in text (env_with b)) f refl is)

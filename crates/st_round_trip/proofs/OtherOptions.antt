@@ -12,11 +12,11 @@ use Rattle.st_lex.specs.declared.token.LexFault.{LexFault}
 use Rattle.st_lex.specs.declared.unquoted.Dollars.{Dollars}
 use Rattle.st_grammar.specs.declared.env.Env.{Env}
 use Rattle.st_grammar.specs.declared.env.NamedId.{NamedId}
-use Rattle.st_script.specs.Reading.{read_lines, script_in, script_with, start_of, unless_faulty}
+use Rattle.st_script.specs.Reading.{read_lines, script_in, script_with, start_of, unless_fault}
 use Rattle.st_script.specs.declared.reading.ReadScript.{ReadScript}
 use Rattle.st_script.proofs.ReadTexts.{read_has}
 use Rattle.st_script_faults.specs.Environment.{dollars_by, dollars_of, environment_of, first_traced, group_id, groups_below, learns, user_id, user_of, users_below}
-use Rattle.st_script_faults.specs.Faults.{Whole, fault_by, fault_of, first_fault, first_of, lexical, line_fault, reply_for, reply_in, reply_said, script_fault, started_behind, threads_behind, whole_of}
+use Rattle.st_script_faults.specs.Faults.{WholeScript, statement_fault, row_fault, first_fault, first_of, script_lexical_fault, line_fault, reply_for, reply_in, reply_said, script_fault, started_after, threads_after, whole_of}
 use Rattle.st_script_faults.specs.Names.{Name, Names, no_names, with_says}
 use Rattle.st_script_faults.specs.declared.fault.ScriptFault.{ScriptFault}
 use Rattle.st_script_faults.specs.declared.fault.ScriptFault.TheVariants.{Expected, TooMany}
@@ -83,15 +83,15 @@ module _ (sound : IsSound) (complete : IsComplete) (users groups : List NamedId)
       ∙ ap (cons_option (reply_said (env b) line.says)) (same_replies lines)
 
   module _ (is_cut : Bool) (threads started : List Name) where
-    abbrev whole : Bool → Whole
+    abbrev whole : Bool → WholeScript
     whole learn = record { is_cut = is_cut; threads = threads; started = started; env = env learn }
 
-    same_fault : (above : Names) (below : List ScriptLine) (line : ℕ) (statement : Statement) → fault_of (whole a) above below line statement ≡ fault_of (whole b) above below line statement
+    same_fault : (above : Names) (below : List ScriptLine) (line : ℕ) (statement : Statement) → row_fault (whole a) above below line statement ≡ row_fault (whole b) above below line statement
     same_fault above below line (says.Reply binary filter) =
         ap (λ (o : Option Reply). if not (is_some o) then Some (Expected line) else if is_long (unquoted dollars binary) then Some (TooMany line) else None) (same_reply binary filter)
     same_fault above below line other = refl
 
-    fault_said : (above : Names) (below : List ScriptLine) (line : ℕ) (o : Option Statement) → fault_by (whole a) above below line o ≡ fault_by (whole b) above below line o
+    fault_said : (above : Names) (below : List ScriptLine) (line : ℕ) (o : Option Statement) → statement_fault (whole a) above below line o ≡ statement_fault (whole b) above below line o
     fault_said above below line None = refl
     fault_said above below line (Some statement) = same_fault above below line statement
 
@@ -103,8 +103,8 @@ module _ (sound : IsSound) (complete : IsComplete) (users groups : List NamedId)
 
 -- ---- scripts
 
--- a text that is whole has no lexical fault
-unbroken : (broken : Option LexFault) → is_some broken ≡ false → lexical broken ≡ None
+-- a text that is whole has no script_lexical_fault fault
+unbroken : (broken : Option LexFault) → is_some broken ≡ false → script_lexical_fault broken ≡ None
 unbroken None whole = refl
 unbroken (Some fault) whole = absurd (cc)
 
@@ -128,16 +128,16 @@ module _ (sound : IsSound) (complete : IsComplete) (options other : Options) (id
 
   other_fault : (is_cut : Bool) → first_fault (whole_of is_cut other lines) no_names lines ≡ first_fault (whole_of is_cut options lines) no_names lines
   other_fault is_cut =
-      ap (λ (e : Env). first_fault (record { is_cut = is_cut; threads = threads_behind [] lines; started = started_behind [] lines; env = e }) no_names lines) other_env
-      ∙ same_first sound complete users groups dollars (is_some options.ids) (learns other.mode) (learns options.mode) is_cut (threads_behind [] lines) (started_behind [] lines) no_names lines
+      ap (λ (e : Env). first_fault (record { is_cut = is_cut; threads = threads_after [] lines; started = started_after [] lines; env = e }) no_names lines) other_env
+      ∙ same_first sound complete users groups dollars (is_some options.ids) (learns other.mode) (learns options.mode) is_cut (threads_after [] lines) (started_after [] lines) no_names lines
 
   no_fault : (broken : Option LexFault) → is_some broken ≡ false → first_fault (whole_of (is_some broken) options lines) no_names lines ≡ None → script_fault other broken lines ≡ None
-  no_fault broken uncut none = ap (λ (o : Option ScriptFault). first_of o (lexical broken)) (other_fault (is_some broken) ∙ none) ∙ unbroken broken uncut
+  no_fault broken uncut none = ap (λ (o : Option ScriptFault). first_of o (script_lexical_fault broken)) (other_fault (is_some broken) ∙ none) ∙ unbroken broken uncut
 
   read_so : (broken : Option LexFault) → is_some broken ≡ false → first_fault (whole_of (is_some broken) options lines) no_names lines ≡ None →
       read_lines other broken lines ≡ Ok (record { start = start_of lines; env = environment_of other lines; replies = filter_map (λ line. reply_said (environment_of options lines) line.says) lines })
   read_so broken uncut none =
-      ap (λ (o : Option ScriptFault). unless_faulty o (script_with (environment_of other lines) lines)) (no_fault broken uncut none)
+      ap (λ (o : Option ScriptFault). unless_fault o (script_with (environment_of other lines) lines)) (no_fault broken uncut none)
       ∙ ap (λ (replies : List Reply). Ok (record { start = start_of lines; env = environment_of other lines; replies = replies })) other_replies
 
 -- a script that is read from a text under some options is read under others with the same ids

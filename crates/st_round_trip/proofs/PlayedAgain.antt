@@ -13,7 +13,7 @@ use Rattle.st_law.specs.declared.input.Input.{Input}
 use Rattle.st_law.specs.declared.input.ReadSchedule.{ReadSchedule}
 use Rattle.st_outside.specs.Files.{FileView, FileBytes, CanHold}
 use Rattle.st_outside.specs.declared.files.TheConstants.{FILE_LIMIT}
-use Rattle.st_reading.specs.Meaning.{Fetches, Held, Means, MeansBehindScript, MeansPolicies, MeansSchedule, Runs, SaysPolicy, SaysScript}
+use Rattle.st_reading.specs.Meaning.{Fetches, Contents, Means, MeansAfterScript, MeansPolicies, MeansSchedule, Runs, SaysPolicy, SaysScript}
 use Rattle.st_reading.specs.Runnable.{IsRunnable}
 use Rattle.st_reading.specs.declared.refusal.Which.{Which}
 use Rattle.st_reading.specs.declared.refusal.Which.TheVariants as which
@@ -29,7 +29,7 @@ use Rattle.st_round_trip.proofs.ReadAgain.{AreRunnable}
 
 -- ---- what is read before the schedule is the same
 
-module _ (held : Held) (i : Input) (before later : ReadSchedule) where
+module _ (contents : Contents) (i : Input) (before later : ReadSchedule) where
   file_again : (h : FileView) (w : Which) (Read Other : List ℕ → Type 0) → ((text : List ℕ) → Read text → Other text) → Fetches h w Read (Runs i before) → Fetches h w Other (Runs i later)
   file_again h w Read Other f (inl e) = absurd (cc)
   file_again h w Read Other f (inr (inl p)) = let e = p.1 in absurd (cc)
@@ -46,38 +46,38 @@ module _ (held : Held) (i : Input) (before later : ReadSchedule) where
   policy_again text env old n Read Other f (inr p) = let e = p.2 in absurd (cc)
 
   policies_again : (env : Env) (n : ℕ) (names : List Word) (old : List BinaryPolicy) (Read Other : List BinaryPolicy → Type 0) → ((policies : List BinaryPolicy) → Read policies → Other policies) →
-      MeansPolicies held env n names old Read (Runs i before) → MeansPolicies held env n names old Other (Runs i later)
+      MeansPolicies contents env n names old Read (Runs i before) → MeansPolicies contents env n names old Other (Runs i later)
   policies_again env n [] old Read Other f x = f old x
   policies_again env n (name ∷ names) old Read Other f x =
-      file_again (held name) (which.Policy n)
-      (λ text. SaysPolicy text env old n (λ policies. MeansPolicies held env (n + 1) names policies Read (Runs i before)) (Runs i before))
-      (λ text. SaysPolicy text env old n (λ policies. MeansPolicies held env (n + 1) names policies Other (Runs i later)) (Runs i later))
-      (λ text. policy_again text env old n (λ policies. MeansPolicies held env (n + 1) names policies Read (Runs i before)) (λ policies. MeansPolicies held env (n + 1) names policies Other (Runs i later))
+      file_again (contents name) (which.Policy n)
+      (λ text. SaysPolicy text env old n (λ policies. MeansPolicies contents env (n + 1) names policies Read (Runs i before)) (Runs i before))
+      (λ text. SaysPolicy text env old n (λ policies. MeansPolicies contents env (n + 1) names policies Other (Runs i later)) (Runs i later))
+      (λ text. policy_again text env old n (λ policies. MeansPolicies contents env (n + 1) names policies Read (Runs i before)) (λ policies. MeansPolicies contents env (n + 1) names policies Other (Runs i later))
       (λ policies. policies_again env (n + 1) names policies Read Other f))
       x
 
 -- ---- the schedule is read from its new file
 
-module _ (held : Held) (step : StepWords) (i : Input) (before : ReadSchedule) (name : Word) (text : List ℕ) (there : held name ≡ FileBytes text) (fits : length text ≤ FILE_LIMIT) where
+module _ (contents : Contents) (step : StepWords) (i : Input) (before : ReadSchedule) (name : Word) (text : List ℕ) (there : contents name ≡ FileBytes text) (fits : length text ≤ FILE_LIMIT) where
   input_same : (policies : List BinaryPolicy) (script : ReadScript) (read : ReadSchedule) → Runs i before ≡ Runs (input_with policies step.options script) read → i ≡ input_with policies step.options script
   input_same policies script read e = cc
 
-  schedule_again : (script : ReadScript) (policies : List BinaryPolicy) → MeansSchedule held step script policies (Runs i before) → MeansSchedule held (with_schedule step name) script policies (Runs i (schedule_in text))
+  schedule_again : (script : ReadScript) (policies : List BinaryPolicy) → MeansSchedule contents step script policies (Runs i before) → MeansSchedule contents (with_schedule step name) script policies (Runs i (schedule_in text))
   schedule_again script policies (inl e) = absurd (cc)
   schedule_again script policies (inr (inl p)) = let e = p.1 in absurd (cc)
   schedule_again script policies (inr (inr (inl p))) = let e = p.1 in absurd (cc)
   schedule_again script policies (inr (inr (inr p))) =
       inr (inr (inr (text, subst (λ (h : FileView). CanHold h text) (sym there) refl, fits, ap (λ (input : Input). Runs input (schedule_in text)) (input_same policies script (schedule_in p.0) p.3))))
 
-  step_again : Means held (Step step) (Runs i before) → Means held (Step (with_schedule step name)) (Runs i (schedule_in text))
+  step_again : Means contents (Step step) (Runs i before) → Means contents (Step (with_schedule step name)) (Runs i (schedule_in text))
   step_again meant =
       let later : ReadSchedule = schedule_in text in
       let again : StepWords = with_schedule step name in
-      file_again held i before later (held step.script) which.Script
-      (λ words. SaysScript (script_in words step.options) (λ script. MeansBehindScript held step script (Runs i before)) (Runs i before))
-      (λ words. SaysScript (script_in words step.options) (λ script. MeansBehindScript held again script (Runs i later)) (Runs i later))
-      (λ words. script_again held i before later (script_in words step.options) (λ script. MeansBehindScript held step script (Runs i before)) (λ script. MeansBehindScript held again script (Runs i later))
-      (λ script. policies_again held i before later script.env 1 step.policies [] (λ policies. MeansSchedule held step script policies (Runs i before)) (λ policies. MeansSchedule held again script policies (Runs i later))
+      file_again contents i before later (contents step.script) which.Script
+      (λ words. SaysScript (script_in words step.options) (λ script. MeansAfterScript contents step script (Runs i before)) (Runs i before))
+      (λ words. SaysScript (script_in words step.options) (λ script. MeansAfterScript contents again script (Runs i later)) (Runs i later))
+      (λ words. script_again contents i before later (script_in words step.options) (λ script. MeansAfterScript contents step script (Runs i before)) (λ script. MeansAfterScript contents again script (Runs i later))
+      (λ script. policies_again contents i before later script.env 1 step.policies [] (λ policies. MeansSchedule contents step script policies (Runs i before)) (λ policies. MeansSchedule contents again script policies (Runs i later))
       (λ policies. schedule_again script policies)))
       meant
 
@@ -85,12 +85,12 @@ module _ (held : Held) (step : StepWords) (i : Input) (before : ReadSchedule) (n
 abbrev pub PlayAgain : Type 0
 PlayAgain = (input : Input) → IsStartable input → (schedule : ReadSchedule) (choices : List Choice) → played input schedule ≡ Choices choices → played input (schedule_in (printed print.Schedule input choices)) ≡ Choices choices
 
-pub plays_again : AreRunnable → PlayAgain → (held : Held) (step : StepWords) (i : Input) (schedule : ReadSchedule) → IsWithinLimits (Step step) → Means held (Step step) (Runs i schedule) → (choices : List Choice) → played i schedule ≡ Choices choices →
-    (name : Word) → held name ≡ FileBytes (printed print.Schedule i choices) → length (printed print.Schedule i choices) ≤ FILE_LIMIT → Plays held (with_schedule step name) i choices
-plays_again runnable again held step i schedule limits meant choices e name there fits = record {
+pub plays_again : AreRunnable → PlayAgain → (contents : Contents) (step : StepWords) (i : Input) (schedule : ReadSchedule) → IsWithinLimits (Step step) → Means contents (Step step) (Runs i schedule) → (choices : List Choice) → played i schedule ≡ Choices choices →
+    (name : Word) → contents name ≡ FileBytes (printed print.Schedule i choices) → length (printed print.Schedule i choices) ≤ FILE_LIMIT → Plays contents (with_schedule step name) i choices
+plays_again runnable again contents step i schedule limits meant choices e name there fits = record {
   schedule = schedule_in (printed print.Schedule i choices);
-  meant = step_again held step i schedule name (printed print.Schedule i choices) there fits meant;
-  played_to = again i (startable_by (runnable held step i schedule meant)) schedule choices e;
+  meant = step_again contents step i schedule name (printed print.Schedule i choices) there fits meant;
+  played_to = again i (startable_by (runnable contents step i schedule meant)) schedule choices e;
 } where
   startable_by : IsRunnable step i → IsStartable i
   startable_by r = subst IsStartable (sym r.input_is) (r.can_start.startable r.policies step.options limits.1 limits.2)

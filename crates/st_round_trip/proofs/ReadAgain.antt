@@ -28,13 +28,13 @@ use Rattle.st_law.proofs.Laws.{run_lawful}
 use Rattle.st_learn.specs.Learnt.{learnt_policies}
 use Rattle.st_outside.specs.Files.{FileView, Unknown, Absent, FileBytes, CanHold}
 use Rattle.st_grammar.specs.Grammar.{Reads}
-use Rattle.st_reread.specs.Readable.{AreTextBytes, HasPlainDollars, HasSmallIds, WasRead, Nothing, Behind}
+use Rattle.st_reread.specs.Readable.{AreTextBytes, HasPlainDollars, HasSmallIds, WasRead, Nothing, After}
 use Rattle.st_grammar.specs.declared.env.Env.{Env}
-use Rattle.st_reading.specs.Meaning.{Held, Means, Runs}
+use Rattle.st_reading.specs.Meaning.{Contents, Means, Runs}
 use Rattle.st_reading.specs.Runnable.{IsRunnable}
 use Rattle.st_reading.proofs.ReadFiles.{AreKept, IsStepRead, input_or, step_read}
 use Rattle.st_relearn.specs.Plain.{HasPlainTexts}
-use Rattle.st_relearn.specs.Relearnt.{HasWritableReplies, IsWritableKept, policy_text}
+use Rattle.st_relearn.specs.Relearnt.{HasWritableReplies, IsWritableKept, learnt_policy_text}
 use Rattle.st_relearn.specs.Scripts.{HasPlainScript}
 use Rattle.st_relearn.specs.Writable.{AreWritable, IsWritableAction, IsWritableFilter, IsWritableGrant, IsWritablePolicy}
 use Rattle.st_script.specs.Reading.{script_in}
@@ -42,7 +42,7 @@ use Rattle.st_script.specs.Startable.{input_with}
 use Rattle.st_script.specs.declared.reading.ReadScript.{ReadScript}
 use Rattle.st_trace.specs.declared.entry.Choice.{Choice}
 use Rattle.st_round_trip.specs.RoundTrip.{HoldsBytes, HoldBytes, IsReadAgain, IsScriptOf, enforcing}
-use Rattle.st_top.specs.Learning.{policies_behind}
+use Rattle.st_top.specs.Learning.{policies_after}
 
 -- ---- policies that can be written while filters are learnt can be written while they aren't
 
@@ -87,7 +87,7 @@ held_once (FileBytes content) a b bytes here there = here ∙ sym there
 -- ---- the laws that this proof uses
 
 abbrev pub AreRunnable : Type 0
-AreRunnable = (held : Held) (step : StepWords) (input : Input) (schedule : ReadSchedule) → Means held (Step step) (Runs input schedule) → IsRunnable step input
+AreRunnable = (contents : Contents) (step : StepWords) (input : Input) (schedule : ReadSchedule) → Means contents (Step step) (Runs input schedule) → IsRunnable step input
 
 abbrev pub AreExactlyWritable : Type 0
 AreExactlyWritable = (env : Env) (set : List BinaryPolicy) → HasPlainDollars env → HasSmallIds env → WasRead env set ↔ AreWritable env set
@@ -100,7 +100,7 @@ AddsWritable = (env : Env) (input : Input) → IsStartable input → HasPlainTex
 
 abbrev pub TextsAreReadAgain : Type 0
 TextsAreReadAgain = (env : Env) (policies : List BinaryPolicy) (session : List SessionFilter) → AreWritable env policies → All (IsWritableKept env) session → filters_in (learnt_policies policies session) ≤ MOST_FILTERS →
-    Reads (policy_text policies session) env [] (learnt_policies policies session)
+    Reads (learnt_policy_text policies session) env [] (learnt_policies policies session)
 
 abbrev pub ReadsOnce : Type 0
 ReadsOnce = (text : List ℕ) (env : Env) (old a b : List BinaryPolicy) → Reads text env old a → Reads text env old b → a ≡ b
@@ -108,18 +108,18 @@ ReadsOnce = (text : List ℕ) (env : Env) (old a b : List BinaryPolicy) → Read
 -- ---- what `step` has read
 
 -- policies of files that consist of bytes were read from texts of bytes
-read_kept : (held : Held) (names : List Word) → HoldBytes held names → AreKept WasRead held names
-read_kept held [] bytes = tt
-read_kept held (name ∷ names) bytes = (λ env text old set there reads was. Behind text old set (held_bytes (held name) text bytes.0 there) was reads, read_kept held names bytes.1)
+read_kept : (contents : Contents) (names : List Word) → HoldBytes contents names → AreKept WasRead contents names
+read_kept contents [] bytes = tt
+read_kept contents (name ∷ names) bytes = (λ env text old set there reads was. After text old set (held_bytes (contents name) text bytes.0 there) was reads, read_kept contents names bytes.1)
 
-module _ (held : Held) (step : StepWords) (bytes : HoldBytes held (step.script ∷ step.policies)) where
-  pub was_read : (i : Input) (schedule : ReadSchedule) → Means held (Step step) (Runs i schedule) → IsStepRead WasRead held step (Runs i schedule)
-  was_read i schedule meant = step_read WasRead (λ env. Nothing) held step (read_kept held step.policies bytes.1) (Runs i schedule) tt meant
+module _ (contents : Contents) (step : StepWords) (bytes : HoldBytes contents (step.script ∷ step.policies)) where
+  pub was_read : (i : Input) (schedule : ReadSchedule) → Means contents (Step step) (Runs i schedule) → IsStepRead WasRead contents step (Runs i schedule)
+  was_read i schedule meant = step_read WasRead (λ env. Nothing) contents step (read_kept contents step.policies bytes.1) (Runs i schedule) tt meant
 
   -- there is only one script
-  pub one_script : (script other : ReadScript) → IsScriptOf held step script → IsScriptOf held step other → script ≡ other
+  pub one_script : (script other : ReadScript) → IsScriptOf contents step script → IsScriptOf contents step other → script ≡ other
   one_script script other a b =
-      let same : a.text ≡ b.text = held_once (held step.script) a.text b.text bytes.0 a.there b.there in
+      let same : a.text ≡ b.text = held_once (contents step.script) a.text b.text bytes.0 a.there b.there in
       let read : script_in b.text step.options ≡ Ok script = subst (λ (text : List ℕ). script_in text step.options ≡ Ok script) same a.is in
       let both : Ok script ≡ Ok other = sym read ∙ b.is in
       cc
@@ -133,23 +133,23 @@ no_replies env i learns asks = absurd (clash (sym learns ∙ asks)) where
 
 module _ (runnable : AreRunnable) (exactly : AreExactlyWritable) (plain : ScriptsArePlain) (adds : AddsWritable) (again : TextsAreReadAgain) (once : ReadsOnce) where
   module _ (env : Env) (i : Input) (startable : IsStartable i) (texts : HasPlainTexts i.start) (learns : i.options.mode ≡ Learn) (w : AreWritable env i.policies) (choices : List Choice) where
-    run_read_again : filters_in (policies_behind i choices) ≤ MOST_FILTERS → IsReadAgain (policy_text i.policies (session_at i (reverse (run i choices)))) env (policies_behind i choices)
+    run_read_again : filters_in (policies_after i choices) ≤ MOST_FILTERS → IsReadAgain (learnt_policy_text i.policies (session_at i (reverse (run i choices)))) env (policies_after i choices)
     run_read_again few =
         let h : History = reverse (run i choices) in
-        let reads : Reads (policy_text i.policies (session_at i h)) env [] (policies_behind i choices) =
+        let reads : Reads (learnt_policy_text i.policies (session_at i h)) env [] (policies_after i choices) =
         again env i.policies (session_at i h) w (adds env i startable texts (no_replies env i learns) h (run_lawful i startable choices)) few in
-        record { reads = reads; alone = λ other twice. once (policy_text i.policies (session_at i h)) env [] other (policies_behind i choices) twice reads }
+        record { reads = reads; alone = λ other twice. once (learnt_policy_text i.policies (session_at i h)) env [] other (policies_after i choices) twice reads }
 
-  module _ (held : Held) (step : StepWords) (i : Input) (schedule : ReadSchedule) (bytes : HoldBytes held (step.script ∷ step.policies)) (limits : IsWithinLimits (Step step)) (learns : step.options.mode ≡ Learn)
-      (meant : Means held (Step step) (Runs i schedule)) (script : ReadScript) (is_script : IsScriptOf held step script) (choices : List Choice) (few : filters_in (policies_behind i choices) ≤ MOST_FILTERS) where
-    pub read_again : IsReadAgain (policy_text i.policies (session_at i (reverse (run i choices)))) script.env (policies_behind i choices)
-        × IsReadAgain (policy_text i.policies (session_at i (reverse (run i choices)))) (enforcing script.env) (policies_behind i choices)
+  module _ (contents : Contents) (step : StepWords) (i : Input) (schedule : ReadSchedule) (bytes : HoldBytes contents (step.script ∷ step.policies)) (limits : IsWithinLimits (Step step)) (learns : step.options.mode ≡ Learn)
+      (meant : Means contents (Step step) (Runs i schedule)) (script : ReadScript) (is_script : IsScriptOf contents step script) (choices : List Choice) (few : filters_in (policies_after i choices) ≤ MOST_FILTERS) where
+    pub read_again : IsReadAgain (learnt_policy_text i.policies (session_at i (reverse (run i choices)))) script.env (policies_after i choices)
+        × IsReadAgain (learnt_policy_text i.policies (session_at i (reverse (run i choices)))) (enforcing script.env) (policies_after i choices)
     read_again =
-        let x = was_read held step bytes i schedule meant in
-        let same : script ≡ x.script = one_script held step bytes script x.script is_script (record { text = x.script_text; there = x.script_held; is = x.script_is }) in
+        let x = was_read contents step bytes i schedule meant in
+        let same : script ≡ x.script = one_script contents step bytes script x.script is_script (record { text = x.script_text; there = x.script_held; is = x.script_is }) in
         let input_is : i ≡ input_with x.policies step.options x.script = ap (input_or i) x.outcome_is in
-        let said : HasPlainScript x.script = plain x.script_text step.options x.script (held_bytes (held step.script) x.script_text bytes.0 x.script_held) x.script_is in
-        let start : IsStartable i = startable_by (runnable held step i schedule meant) in
+        let said : HasPlainScript x.script = plain x.script_text step.options x.script (held_bytes (contents step.script) x.script_text bytes.0 x.script_held) x.script_is in
+        let start : IsStartable i = startable_by (runnable contents step i schedule meant) in
         let texts : HasPlainTexts i.start = subst (λ (other : Input). HasPlainTexts other.start) (sym input_is) said.texts in
         let learning : i.options.mode ≡ Learn = subst (λ (other : Input). other.options.mode ≡ Learn) (sym input_is) learns in
         let w : AreWritable x.script.env x.policies = (exactly x.script.env x.policies said.dollars said.ids).0 x.kept in

@@ -11,7 +11,7 @@ use Rattle.st_grammar.specs.declared.env.Env.{Env}
 use Rattle.st_law.specs.Schedules.{Choices, played}
 use Rattle.st_law.specs.declared.input.Input.{Input}
 use Rattle.st_law.specs.declared.input.ReadSchedule.{ReadSchedule}
-use Rattle.st_reading.specs.Meaning.{Held, Means, Runs}
+use Rattle.st_reading.specs.Meaning.{Contents, Means, Runs}
 use Rattle.st_script.specs.Reading.{script_in}
 use Rattle.st_script.specs.declared.reading.ReadScript.{ReadScript}
 use Rattle.st_trace.specs.declared.entry.Choice.{Choice}
@@ -23,14 +23,14 @@ HoldsBytes Absent = Unit {0}
 HoldsBytes (FileBytes text) = AreTextBytes text
 
 -- the same holds of each of some names
-abbrev pub HoldBytes : Held → List Word → Type 0
-HoldBytes held [] = Unit {0}
-HoldBytes held (name ∷ names) = HoldsBytes (held name) × HoldBytes held names
+abbrev pub HoldBytes : Contents → List Word → Type 0
+HoldBytes contents [] = Unit {0}
+HoldBytes contents (name ∷ names) = HoldsBytes (contents name) × HoldBytes contents names
 
 -- the script that `step` reads
-pub record IsScriptOf (held : Held) (step : StepWords) (script : ReadScript) : Type 0 where
+pub record IsScriptOf (contents : Contents) (step : StepWords) (script : ReadScript) : Type 0 where
   pub text : List ℕ
-  pub there : CanHold (held step.script) text
+  pub there : CanHold (contents step.script) text
   pub is : script_in text step.options ≡ Ok script
 
 -- the environment that policies were read with, but for filters that aren't learnt
@@ -47,7 +47,7 @@ abbrev pub with_schedule : StepWords → Word → StepWords
 with_schedule step name = record { policies = step.policies; script = step.script; schedule = name; options = step.options; print = step.print }
 
 -- `step` means to run this input, by a schedule that is played as these choices
-pub record Plays (held : Held) (step : StepWords) (input : Input) (choices : List Choice) : Type 0 where
+pub record Plays (contents : Contents) (step : StepWords) (input : Input) (choices : List Choice) : Type 0 where
   pub schedule : ReadSchedule
-  pub meant : Means held (Step step) (Runs input schedule)
+  pub meant : Means contents (Step step) (Runs input schedule)
   pub played_to : played input schedule ≡ Choices choices

@@ -13,15 +13,15 @@ ghost use Rattle.st_law.specs.declared.input.Mode.TheVariants.{Learn};
 ghost use Rattle.st_law.specs.declared.input.ReadSchedule.{ReadSchedule};
 ghost use Rattle.st_outside.specs.Files.{CanHold, FileBytes};
 ghost use Rattle.st_outside.specs.declared.files.TheConstants.{FILE_LIMIT};
-ghost use Rattle.st_reading.specs.Meaning.{Held, Means, Runs};
+ghost use Rattle.st_reading.specs.Meaning.{Contents, Means, Runs};
 ghost use Rattle.st_round_trip.specs.RoundTrip.{HoldBytes, IsReadAgain, IsScriptOf, Plays, enforcing, with_schedule};
 ghost use Rattle.st_schedule.specs.Schedule.{schedule_in};
 ghost use Rattle.st_script.specs.declared.reading.ReadScript.{ReadScript};
-ghost use Rattle.st_top.specs.Learning.{PermitsWhatWasMade, policies_behind};
+ghost use Rattle.st_top.specs.Learning.{PermitsWhatWasMade, policies_after};
 ghost use Rattle.st_top.specs.Outcome.{printed};
 ghost use Rattle.st_trace.specs.declared.entry.Choice.{Choice};
 
-use st_first_fault::what_is_a_filter_is_read;
+use st_fault_laws::what_is_a_filter_is_read;
 use st_grammar::{reading_is_one, what_is_read_is_a_filter};
 use st_reading::law::what_is_meant_to_run_can_run;
 use st_relearn::law::{
@@ -34,9 +34,9 @@ use st_top::law::what_was_made_is_permitted_by_what_is_written;
 /// If `step` is asked for the policies of a run that learns, what it writes is read again with the script's environment, both while filters
 /// are learnt and while they aren't. It is read as the policies after the run, and as no others, unless these have too many filters.
 pub fn what_is_written_is_read_again()
-    ensures { (held : Held) (step : StepWords) (input : Input) (schedule : ReadSchedule) → HoldBytes held (step.script ∷ step.policies) → IsWithinLimits (Step step) → step.options.mode ≡ Learn → Means held (Step step) (Runs input schedule) →
-        (script : ReadScript) → IsScriptOf held step script → (choices : List Choice) → filters_in (policies_behind input choices) ≤ MOST_FILTERS →
-        IsReadAgain (printed print.Policy input choices) script.env (policies_behind input choices) × IsReadAgain (printed print.Policy input choices) (enforcing script.env) (policies_behind input choices) }
+    ensures { (contents : Contents) (step : StepWords) (input : Input) (schedule : ReadSchedule) → HoldBytes contents (step.script ∷ step.policies) → IsWithinLimits (Step step) → step.options.mode ≡ Learn → Means contents (Step step) (Runs input schedule) →
+        (script : ReadScript) → IsScriptOf contents step script → (choices : List Choice) → filters_in (policies_after input choices) ≤ MOST_FILTERS →
+        IsReadAgain (printed print.Policy input choices) script.env (policies_after input choices) × IsReadAgain (printed print.Policy input choices) (enforcing script.env) (policies_after input choices) }
 {
     what_is_meant_to_run_can_run();
     what_was_read_is_what_can_be_written();
@@ -49,9 +49,9 @@ pub fn what_is_written_is_read_again()
 /// Learnt, then enforced: if a name holds what `step` has written of a run that learnt, `step` with that policy alone, the same script and
 /// the same ids runs under policies that permit each held call that was made, under the ids that it was made under.
 pub fn what_was_learnt_is_enforced()
-    ensures { (held : Held) (step : StepWords) (input : Input) (schedule : ReadSchedule) → HoldBytes held (step.script ∷ step.policies) → IsWithinLimits (Step step) → step.options.mode ≡ Learn → Means held (Step step) (Runs input schedule) →
-        (choices : List Choice) → filters_in (policies_behind input choices) ≤ MOST_FILTERS → (name : Word) → held name ≡ FileBytes (printed print.Policy input choices) →
-        (again : StepWords) → again.script ≡ step.script → again.policies ≡ name ∷ [] → again.options.ids ≡ step.options.ids → (other : Input) (later : ReadSchedule) → Means held (Step again) (Runs other later) →
+    ensures { (contents : Contents) (step : StepWords) (input : Input) (schedule : ReadSchedule) → HoldBytes contents (step.script ∷ step.policies) → IsWithinLimits (Step step) → step.options.mode ≡ Learn → Means contents (Step step) (Runs input schedule) →
+        (choices : List Choice) → filters_in (policies_after input choices) ≤ MOST_FILTERS → (name : Word) → contents name ≡ FileBytes (printed print.Policy input choices) →
+        (again : StepWords) → again.script ≡ step.script → again.policies ≡ name ∷ [] → again.options.ids ≡ step.options.ids → (other : Input) (later : ReadSchedule) → Means contents (Step again) (Runs other later) →
         PermitsWhatWasMade input other.policies (reverse (run input choices)) }
 {
     what_is_written_is_read_again();
@@ -62,8 +62,8 @@ pub fn what_was_learnt_is_enforced()
 /// longer than a file may be, `step` with this schedule and otherwise the same words means to run the same input, and the schedule is
 /// played as the same choices.
 pub fn what_is_written_is_played_again()
-    ensures { (held : Held) (step : StepWords) (input : Input) (schedule : ReadSchedule) → IsWithinLimits (Step step) → Means held (Step step) (Runs input schedule) → (choices : List Choice) → played input schedule ≡ Choices choices →
-        (name : Word) → held name ≡ FileBytes (printed print.Schedule input choices) → length (printed print.Schedule input choices) ≤ FILE_LIMIT → Plays held (with_schedule step name) input choices }
+    ensures { (contents : Contents) (step : StepWords) (input : Input) (schedule : ReadSchedule) → IsWithinLimits (Step step) → Means contents (Step step) (Runs input schedule) → (choices : List Choice) → played input schedule ≡ Choices choices →
+        (name : Word) → contents name ≡ FileBytes (printed print.Schedule input choices) → length (printed print.Schedule input choices) ≤ FILE_LIMIT → Plays contents (with_schedule step name) input choices }
 {
     what_is_meant_to_run_can_run();
     a_printed_schedule_is_read_again();
@@ -73,10 +73,10 @@ pub fn what_is_written_is_played_again()
 /// that policy alone, the same script and the same ids means a run of the same script under exactly the policies after that run, by any
 /// schedule that can be fetched and with any other options.
 pub fn what_was_learnt_can_be_enforced()
-    ensures { (held : Held) (step : StepWords) (input : Input) (schedule : ReadSchedule) → HoldBytes held (step.script ∷ step.policies) → IsWithinLimits (Step step) → step.options.mode ≡ Learn → Means held (Step step) (Runs input schedule) →
-        (choices : List Choice) → filters_in (policies_behind input choices) ≤ MOST_FILTERS → (name : Word) → held name ≡ FileBytes (printed print.Policy input choices) → length (printed print.Policy input choices) ≤ FILE_LIMIT →
-        (again : StepWords) → again.script ≡ step.script → again.policies ≡ name ∷ [] → again.options.ids ≡ step.options.ids → (text : List ℕ) → CanHold (held again.schedule) text → length text ≤ FILE_LIMIT →
-        Means held (Step again) (Runs (record input { policies = policies_behind input choices; options = again.options }) (schedule_in text)) }
+    ensures { (contents : Contents) (step : StepWords) (input : Input) (schedule : ReadSchedule) → HoldBytes contents (step.script ∷ step.policies) → IsWithinLimits (Step step) → step.options.mode ≡ Learn → Means contents (Step step) (Runs input schedule) →
+        (choices : List Choice) → filters_in (policies_after input choices) ≤ MOST_FILTERS → (name : Word) → contents name ≡ FileBytes (printed print.Policy input choices) → length (printed print.Policy input choices) ≤ FILE_LIMIT →
+        (again : StepWords) → again.script ≡ step.script → again.policies ≡ name ∷ [] → again.options.ids ≡ step.options.ids → (text : List ℕ) → CanHold (contents again.schedule) text → length text ≤ FILE_LIMIT →
+        Means contents (Step again) (Runs (record input { policies = policies_after input choices; options = again.options }) (schedule_in text)) }
 {
     what_is_written_is_read_again();
     what_is_read_is_a_filter();

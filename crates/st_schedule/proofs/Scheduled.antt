@@ -4,5 +4,5 @@ use Rattle.st_law.specs.declared.input.ReadSchedule.{ReadSchedule}
 use Rattle.st_law.specs.declared.input.ScheduleLine.{ScheduleLine}
 
 -- lines, followed by a schedule
-abbrev pub behind : List ScheduleLine → ReadSchedule → ReadSchedule
-behind lines schedule = record { lines = lines ++ schedule.lines; bad = schedule.bad }
+abbrev pub following : List ScheduleLine → ReadSchedule → ReadSchedule
+following lines schedule = record { lines = lines ++ schedule.lines; bad = schedule.bad }

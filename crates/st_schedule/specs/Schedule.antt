@@ -10,34 +10,34 @@ use Rattle.st_lex.specs.Rows.{rows}
 use Rattle.st_lex.specs.Text.{is_keyword}
 use Rattle.st_lex.specs.Tokens.{lexed_text}
 use Rattle.st_trace.specs.declared.entry.Choice.TheVariants.{Thread, Worker, Operator}
-use Rattle.st_statements.specs.Lines.{saturated, looked_at, line_of_fault, line_of_row}
-use Rattle.st_statements.specs.Values.{number_at}
+use Rattle.st_statements.specs.Lines.{saturated, tokens_before_fault_line, line_of_fault, line_of_row}
+use Rattle.st_statements.specs.Values.{number_token}
 
 -- a number that says how often: 1 to 1,000,000
 abbrev pub times : ℕ → Option ℕ
 times n = if nat_le 1 n && nat_le n MOST_TIMES then Some n else None
 
 -- [COUNT]: once, if there is none
-abbrev pub count_in : List ℕ → List Token → Option ℕ
-count_in text [] = Some 1
-count_in text (count ∷ []) = option_and_then times (number_at text count)
-count_in text _ = None
+abbrev pub schedule_count : List ℕ → List Token → Option ℕ
+schedule_count text [] = Some 1
+schedule_count text (count ∷ []) = option_and_then times (number_token text count)
+schedule_count text _ = None
 
 -- a line that chooses this, as often as the tokens after it say
 abbrev pub asked : List ℕ → ℕ → What → List Token → Option ScheduleLine
-asked text line what count = option_map (λ n. record { what = what; count = n; line = line }) (count_in text count)
+asked text line what count = option_map (λ n. record { what = what; count = n; line = line }) (schedule_count text count)
 
 -- N [COUNT] of a thread; a number of more than 32 bits is no thread's
 abbrev pub thread_line : List ℕ → ℕ → List Token → Option ScheduleLine
 thread_line text line [] = None
 thread_line text line (number ∷ count) =
-    option_and_then (λ n. asked text line (Choose (Thread (saturated n))) count) (number_at text number)
+    option_and_then (λ n. asked text line (Choose (Thread (saturated n))) count) (number_token text number)
 
 -- N [COUNT] of a worker
 abbrev pub worker_line : List ℕ → ℕ → List Token → Option ScheduleLine
 worker_line text line [] = None
 worker_line text line (number ∷ count) =
-    option_and_then (λ n. asked text line (Choose (Worker (saturated n))) count) (number_at text number)
+    option_and_then (λ n. asked text line (Choose (Worker (saturated n))) count) (number_token text number)
 
 -- nothing may follow `rest`
 abbrev pub rest_line : ℕ → List Token → Option ScheduleLine
@@ -66,4 +66,4 @@ schedule_lines text bad (row ∷ rows) = with_line (line_of_row row) (schedule_l
 
 -- the schedule that a text spells; a line with a lexical fault isn't in the grammar
 abbrev pub schedule_in : List ℕ → ReadSchedule
-schedule_in text = schedule_lines text (line_of_fault text (lexed_text text).fault) (rows (looked_at (lexed_text text)))
+schedule_in text = schedule_lines text (line_of_fault text (lexed_text text).fault) (rows (tokens_before_fault_line (lexed_text text)))

@@ -1,6 +1,6 @@
 ghost use Rattle.std.specs.Prelude.{◌≡◌, ◌^◌, ◌<◌, length, IfOk};
 ghost use Rattle.st_lex.specs.Rows.{rows};
-ghost use Rattle.st_schedule.specs.Schedule.{times, count_in, asked, thread_line, worker_line, rest_line, schedule_line, schedule_lines, schedule_in};
+ghost use Rattle.st_schedule.specs.Schedule.{times, schedule_count, asked, thread_line, worker_line, rest_line, schedule_line, schedule_lines, schedule_in};
 
 use st_base::Sequence;
 use st_law::{MOST_TIMES, ReadSchedule, ScheduleLine, What};
@@ -22,7 +22,7 @@ fn times(number: u64) -> Option<u32>
 
 // The count that the tokens spell; once, if there is none.
 fn count_in(text: &[u8], count: &[Token]) -> Option<u32>
-    ensures { result ≡ count_in text.now count.now }
+    ensures { result ≡ schedule_count text.now count.now }
 {
     match count {
         [] => Some(1),
@@ -104,13 +104,13 @@ fn schedule_lines(
 {
     let mut lines = Sequence::new(alloc);
     let mut rest = tokens;
-    while let Some((row, behind)) = next_row(rest) {
+    while let Some((row, following)) = next_row(rest) {
         let Some(line) = schedule_line(text, row) else {
             let bad = Some(line_of_row(row));
             return Ok(ReadSchedule { lines, bad });
         };
         lines.push(line)?;
-        rest = behind;
+        rest = following;
     }
     Ok(ReadSchedule { lines, bad })
 }

@@ -6,14 +6,14 @@ use Rattle.st_law.specs.declared.input.Options.{Options}
 use Rattle.st_lex.specs.Rows.{rows}
 use Rattle.st_lex.specs.Tokens.{lexed_text}
 use Rattle.st_reached.specs.Scripts.{IsBounded}
-use Rattle.st_script_faults.specs.Faults.{Whole, first_fault, started_behind, threads_behind}
+use Rattle.st_script_faults.specs.Faults.{WholeScript, first_fault, started_after, threads_after}
 use Rattle.st_script_faults.specs.Names.{no_names}
 use Rattle.st_script_faults.specs.declared.limits.TheConstants.{MOST_THREADS}
-use Rattle.st_statements.specs.Lines.{looked_at}
+use Rattle.st_statements.specs.Lines.{tokens_before_fault_line}
 use Rattle.st_statements.specs.Statements.{lines_in}
 use Rattle.st_statements.specs.declared.statement.ScriptLine.{ScriptLine}
 use Rattle.st_trace.specs.declared.start.ThreadRow.{ThreadRow}
-use Rattle.st_script.specs.Reading.{processes_behind, script_in, script_with, start_of, threads_in}
+use Rattle.st_script.specs.Reading.{processes_after, script_in, script_with, start_of, threads_in}
 use Rattle.st_script.specs.declared.reading.ReadScript.{ReadScript}
 use Rattle.st_script.proofs.Counted.{none_has, threads_within, within_bounds}
 use Rattle.st_script.proofs.FewInstructions.{few_instructions}
@@ -26,11 +26,11 @@ use Rattle.st_script.proofs.StartedOnce.{starts_once}
 abbrev pub IsBoundedScript : ReadScript → Type 0
 IsBoundedScript script = IsBounded script.start
 
-bounded : (whole : Whole) (lines : List ScriptLine) → whole.is_cut ≡ false → whole.threads ≡ threads_behind [] lines → whole.started ≡ started_behind [] lines → first_fault whole no_names lines ≡ None → AreSaid lines → ArePlaced false lines → IsBounded (start_of lines)
+bounded : (whole : WholeScript) (lines : List ScriptLine) → whole.is_cut ≡ false → whole.threads ≡ threads_after [] lines → whole.started ≡ started_after [] lines → first_fault whole no_names lines ≡ None → AreSaid lines → ArePlaced false lines → IsBounded (start_of lines)
 bounded whole lines uncut threads_are started_are none said placed =
     let ok = none_has whole no_names lines none in
-    let ps = processes_behind [] lines in
-    let ts = threads_behind [] lines in
+    let ps = processes_after [] lines in
+    let ts = threads_after [] lines in
     let bounds = within_bounds whole whole.env lines (script_with whole.env lines) none refl in
     let names = threads_within ps ts [] lines in
     let rows_few : length (threads_in ps ts lines) ≤ MOST_THREADS = bounds.few_threads in
@@ -48,5 +48,5 @@ bounded whole lines uncut threads_are started_are none said placed =
 -- a script that is read is bounded
 pub script_is_bounded : (text : List ℕ) (options : Options) (script : ReadScript) → script_in text options ≡ Ok script → IsBounded script.start
 script_is_bounded text options = read_has IsBoundedScript text options (λ uncut none.
-    let lines_rows = rows (looked_at (lexed_text text)) in
+    let lines_rows = rows (tokens_before_fault_line (lexed_text text)) in
     bounded (whole_in text options) (lines_in text) uncut refl refl none (lines_said text false lines_rows) (lines_placed text false lines_rows))

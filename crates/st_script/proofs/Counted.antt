@@ -17,12 +17,12 @@ use Rattle.st_model.specs.declared.object.NewKind.{NewKind}
 use Rattle.st_model.specs.declared.object.NewKind.TheVariants as kind
 use Rattle.st_grammar.specs.OneFilter.{FilterResult, filter_in}
 use Rattle.st_grammar.specs.declared.env.Env.{Env}
-use Rattle.st_script_faults.specs.Faults.{Whole, expects_other, is_unknown, is_duplicate, is_too_many, is_large, fault_of, fault_by, first_fault, line_fault, unless_ask, answer_of, reply_in, reply_said, threads_behind, with_thread}
+use Rattle.st_script_faults.specs.Faults.{WholeScript, expects_other, is_unknown, is_duplicate, is_too_many, is_large, row_fault, statement_fault, first_fault, line_fault, unless_ask, reply_filter, reply_in, reply_said, threads_after, with_thread_name}
 use Rattle.st_script.specs.Bounds.{IsWithinBounds}
-use Rattle.st_script_faults.specs.Names.{Name, Names, no_names, has_name, with_name, number_of, with_says}
+use Rattle.st_script_faults.specs.Names.{Name, Names, no_names, is_name_among, with_new_name, name_number, with_says}
 use Rattle.st_statements.specs.Parts.{is_long, is_normal}
 use Rattle.st_trace.specs.declared.start.ThreadRow.{ThreadRow}
-use Rattle.st_script.specs.Reading.{body_in, object_said, process_said, processes_behind, script_with, thread_said, thread_with, threads_in, with_process}
+use Rattle.st_script.specs.Reading.{body_in, object_said, process_said, processes_after, script_with, thread_said, thread_with, threads_in, with_process_name}
 use Rattle.st_script_faults.specs.declared.fault.ScriptFault.{ScriptFault}
 use Rattle.st_script_faults.specs.declared.limits.TheConstants.{MOST_PROCESSES, MOST_THREADS, MOST_TREE_ROWS}
 use Rattle.st_script.specs.declared.reading.ReadScript.{ReadScript}
@@ -33,12 +33,12 @@ use Rattle.st_statements.specs.declared.statement.Statement.TheVariants as says
 -- ---- no fault
 
 -- a row has no fault
-pub record IsFaultless (whole : Whole) (above : Names) (statement : Statement) : Type 0 where
+pub record IsFaultless (whole : WholeScript) (above : Names) (statement : Statement) : Type 0 where
   pub known : is_unknown whole above statement ≡ false
   pub new : is_duplicate whole above statement ≡ false
   pub few : is_too_many whole above statement ≡ false
 
-faultless_by : (whole : Whole) (above : Names) (s : Statement) (a b c d : Bool) (w x y z : ScriptFault) → is_unknown whole above s ≡ b → is_duplicate whole above s ≡ c → is_too_many whole above s ≡ d →
+faultless_by : (whole : WholeScript) (above : Names) (s : Statement) (a b c d : Bool) (w x y z : ScriptFault) → is_unknown whole above s ≡ b → is_duplicate whole above s ≡ c → is_too_many whole above s ≡ d →
     (if a then Some w else if b then Some x else if c then Some y else if d then Some z else None) ≡ None → IsFaultless whole above s
 faultless_by whole above s true b c d w x y z p q r e = absurd (cc)
 faultless_by whole above s false true c d w x y z p q r e = absurd (cc)
@@ -46,7 +46,7 @@ faultless_by whole above s false false true d w x y z p q r e = absurd (cc)
 faultless_by whole above s false false false true w x y z p q r e = absurd (cc)
 faultless_by whole above s false false false false w x y z p q r e = record { known = p; new = q; few = r }
 
-faultless : (whole : Whole) (above : Names) (below : List ScriptLine) (line : ℕ) (s : Statement) → fault_of whole above below line s ≡ None → IsFaultless whole above s
+faultless : (whole : WholeScript) (above : Names) (below : List ScriptLine) (line : ℕ) (s : Statement) → row_fault whole above below line s ≡ None → IsFaultless whole above s
 faultless whole above below line s e = faultless_by whole above s (expects_other whole below s) (is_unknown whole above s) (is_duplicate whole above s) (is_too_many whole above s) _ _ _ _ refl refl refl e
 
 -- the fault of a line, or of those below it
@@ -58,15 +58,15 @@ no_fault (Some fault) p e = absurd (cc)
 no_fault None p e = (refl, e)
 
 -- no line has a fault
-pub data NoFault (whole : Whole) : Names → List ScriptLine → Type 0 where
+pub data NoFault (whole : WholeScript) : Names → List ScriptLine → Type 0 where
   AtEnd : (above : Names) → NoFault whole above []
-  Behind : (above : Names) (n : ℕ) (s : Statement) (lines : List ScriptLine) → IsFaultless whole above s → NoFault whole (with_says above (Some s)) lines → NoFault whole above (record { number = n; says = Some s } ∷ lines)
+  After : (above : Names) (n : ℕ) (s : Statement) (lines : List ScriptLine) → IsFaultless whole above s → NoFault whole (with_says above (Some s)) lines → NoFault whole above (record { number = n; says = Some s } ∷ lines)
 
-no_fault_by : (whole : Whole) (above : Names) (n : ℕ) (o : Option Statement) (lines : List ScriptLine) → fault_by whole above lines n o ≡ None → NoFault whole (with_says above o) lines → NoFault whole above (record { number = n; says = o } ∷ lines)
+no_fault_by : (whole : WholeScript) (above : Names) (n : ℕ) (o : Option Statement) (lines : List ScriptLine) → statement_fault whole above lines n o ≡ None → NoFault whole (with_says above o) lines → NoFault whole above (record { number = n; says = o } ∷ lines)
 no_fault_by whole above n None lines e rest = absurd (cc)
-no_fault_by whole above n (Some s) lines e rest = Behind above n s lines (faultless whole above lines n s e) rest
+no_fault_by whole above n (Some s) lines e rest = After above n s lines (faultless whole above lines n s e) rest
 
-pub none_has : (whole : Whole) (above : Names) (lines : List ScriptLine) → first_fault whole above lines ≡ None → NoFault whole above lines
+pub none_has : (whole : WholeScript) (above : Names) (lines : List ScriptLine) → first_fault whole above lines ≡ None → NoFault whole above lines
 none_has whole above [] e = AtEnd above
 none_has whole above (line ∷ lines) e =
     let parts = no_fault (line_fault whole above lines line) (first_fault whole (with_says above line.says) lines) e in
@@ -86,32 +86,32 @@ pub or_right : (a b : Bool) → (a || b) ≡ false → b ≡ false
 or_right true b e = absurd (cc)
 or_right false b e = e
 
-pub few_threads : (whole : Whole) (ps ts : List Name) (above : Names) (lines : List ScriptLine) → NoFault whole above lines → length above.threads ≤ MOST_THREADS → length above.threads + length (threads_in ps ts lines) ≤ MOST_THREADS
+pub few_threads : (whole : WholeScript) (ps ts : List Name) (above : Names) (lines : List ScriptLine) → NoFault whole above lines → length above.threads ≤ MOST_THREADS → length above.threads + length (threads_in ps ts lines) ≤ MOST_THREADS
 few_threads whole ps ts above _ (AtEnd _) few = omega (arith, few)
-few_threads whole ps ts above _ (Behind _ n (says.Thread name process) lines ok rest) few =
-    let more : length (with_name above.threads name) ≡ length above.threads + 1 = added above.threads name (has_name above.threads name) ok.new in
+few_threads whole ps ts above _ (After _ n (says.Thread name process) lines ok rest) few =
+    let more : length (with_new_name above.threads name) ≡ length above.threads + 1 = added above.threads name (is_name_among above.threads name) ok.new in
     let room : length above.threads < MOST_THREADS = leb-false MOST_THREADS (length above.threads) ok.few in
     let ih = few_threads whole ps ts (with_says above (Some (says.Thread name process))) lines rest (omega (arith, more, room)) in
     omega (arith, ih, more)
-few_threads whole ps ts above _ (Behind _ n s lines ok rest) few = few_threads whole ps ts (with_says above (Some s)) lines rest few
+few_threads whole ps ts above _ (After _ n s lines ok rest) few = few_threads whole ps ts (with_says above (Some s)) lines rest few
 
-pub few_processes : (whole : Whole) (above : Names) (lines : List ScriptLine) → NoFault whole above lines → length above.processes ≤ MOST_PROCESSES → length above.processes + length (filter_map (λ line. process_said line.says) lines) ≤ MOST_PROCESSES
+pub few_processes : (whole : WholeScript) (above : Names) (lines : List ScriptLine) → NoFault whole above lines → length above.processes ≤ MOST_PROCESSES → length above.processes + length (filter_map (λ line. process_said line.says) lines) ≤ MOST_PROCESSES
 few_processes whole above _ (AtEnd _) few = omega (arith, few)
-few_processes whole above _ (Behind _ n (says.Process process) lines ok rest) few =
-    let more : length (with_name above.processes process.name) ≡ length above.processes + 1 = added above.processes process.name (has_name above.processes process.name) ok.new in
+few_processes whole above _ (After _ n (says.Process process) lines ok rest) few =
+    let more : length (with_new_name above.processes process.name) ≡ length above.processes + 1 = added above.processes process.name (is_name_among above.processes process.name) ok.new in
     let room : length above.processes < MOST_PROCESSES = leb-false MOST_PROCESSES (length above.processes) (or_left _ _ ok.few) in
     let ih = few_processes whole (with_says above (Some (says.Process process))) lines rest (omega (arith, more, room)) in
     omega (arith, ih, more)
-few_processes whole above _ (Behind _ n s lines ok rest) few = few_processes whole (with_says above (Some s)) lines rest few
+few_processes whole above _ (After _ n s lines ok rest) few = few_processes whole (with_says above (Some s)) lines rest few
 
-pub few_objects : (whole : Whole) (above : Names) (lines : List ScriptLine) → NoFault whole above lines → length above.paths ≤ MOST_TREE_ROWS → length above.paths + length (filter_map (λ line. object_said line.says) lines) ≤ MOST_TREE_ROWS
+pub few_objects : (whole : WholeScript) (above : Names) (lines : List ScriptLine) → NoFault whole above lines → length above.paths ≤ MOST_TREE_ROWS → length above.paths + length (filter_map (λ line. object_said line.says) lines) ≤ MOST_TREE_ROWS
 few_objects whole above _ (AtEnd _) few = omega (arith, few)
-few_objects whole above _ (Behind _ n (says.Object path new) lines ok rest) few =
-    let more : length (with_name above.paths path) ≡ length above.paths + 1 = added above.paths path (has_name above.paths path) ok.new in
+few_objects whole above _ (After _ n (says.Object path new) lines ok rest) few =
+    let more : length (with_new_name above.paths path) ≡ length above.paths + 1 = added above.paths path (is_name_among above.paths path) ok.new in
     let room : length above.paths < MOST_TREE_ROWS = leb-false MOST_TREE_ROWS (length above.paths) (or_left _ _ ok.few) in
     let ih = few_objects whole (with_says above (Some (says.Object path new))) lines rest (omega (arith, more, room)) in
     omega (arith, ih, more)
-few_objects whole above _ (Behind _ n s lines ok rest) few = few_objects whole (with_says above (Some s)) lines rest few
+few_objects whole above _ (After _ n s lines ok rest) few = few_objects whole (with_says above (Some s)) lines rest few
 
 -- ---- targets
 
@@ -120,11 +120,11 @@ short_by kind.Dir e = tt
 short_by (kind.File content) e = tt
 short_by (kind.Link target) e = ltb-false LONGEST_TEXT (length target) e
 
-pub short_targets : (whole : Whole) (above : Names) (lines : List ScriptLine) → NoFault whole above lines → AllByRecursion (λ row. HasShortTarget row.new.kind) (filter_map (λ line. object_said line.says) lines)
+pub short_targets : (whole : WholeScript) (above : Names) (lines : List ScriptLine) → NoFault whole above lines → AllByRecursion (λ row. HasShortTarget row.new.kind) (filter_map (λ line. object_said line.says) lines)
 short_targets whole above _ (AtEnd _) = tt
-short_targets whole above _ (Behind _ n (says.Object path new) lines ok rest) =
+short_targets whole above _ (After _ n (says.Object path new) lines ok rest) =
     (short_by new.kind (or_right (is_long path) (is_large new.kind) (or_right (nat_le MOST_TREE_ROWS (length above.paths)) (is_long path || is_large new.kind) ok.few)), short_targets whole (with_says above (Some (says.Object path new))) lines rest)
-short_targets whole above _ (Behind _ n s lines ok rest) = short_targets whole (with_says above (Some s)) lines rest
+short_targets whole above _ (After _ n s lines ok rest) = short_targets whole (with_says above (Some s)) lines rest
 
 -- ---- replies
 
@@ -144,7 +144,7 @@ not_ask filter action.Permit e = λ is. let d : action.Permit ≡ action.Ask = s
 not_ask filter (action.Deny errno) e = λ is. let d : action.Deny errno ≡ action.Ask = sym e ∙ is in cc
 not_ask filter action.Ask e = tt
 
-answers : (r : FilterResult) → AnswersIf (answer_of r)
+answers : (r : FilterResult) → AnswersIf (reply_filter r)
 answers (Ok filter) = not_ask filter filter.action refl
 answers (Err fault) = tt
 
@@ -154,7 +154,7 @@ replies_by binary true (Some filter) h = h
 replies_by binary false o h = tt
 
 reply_answers : (env : Env) (binary filter : List ℕ) → RepliesIf (reply_in env binary filter)
-reply_answers env binary filter = replies_by (unquoted env.dollars binary) (is_normal (unquoted env.dollars binary)) (answer_of (filter_in filter env)) (answers (filter_in filter env))
+reply_answers env binary filter = replies_by (unquoted env.dollars binary) (is_normal (unquoted env.dollars binary)) (reply_filter (filter_in filter env)) (answers (filter_in filter env))
 
 said_answers : (env : Env) (o : Option Statement) → RepliesIf (reply_said env o)
 said_answers env None = tt
@@ -190,68 +190,68 @@ kept_first : (b c d : Bool) → (b || c) ≡ true → (c ≡ true → d ≡ true
 kept_first true c d h ih = refl
 kept_first false c d h ih = ih h
 
-kept_before : (names : List Name) (other name : Name) → has_name names name ≡ true → has_name (names ++ other ∷ []) name ≡ true
+kept_before : (names : List Name) (other name : Name) → is_name_among names name ≡ true → is_name_among (names ++ other ∷ []) name ≡ true
 kept_before [] other name h = absurd (cc)
-kept_before (first ∷ names) other name h = kept_first (bytes_eq name first) (has_name names name) (has_name (names ++ other ∷ []) name) h (kept_before names other name)
+kept_before (first ∷ names) other name h = kept_first (bytes_eq name first) (is_name_among names name) (is_name_among (names ++ other ∷ []) name) h (kept_before names other name)
 
-pub kept_in : (names : List Name) (other name : Name) (b : Bool) → has_name names name ≡ true → has_name (if b then names else names ++ other ∷ []) name ≡ true
+pub kept_in : (names : List Name) (other name : Name) (b : Bool) → is_name_among names name ≡ true → is_name_among (if b then names else names ++ other ∷ []) name ≡ true
 kept_in names other name true h = h
 kept_in names other name false h = kept_before names other name h
 
-kept_said : (names : List Name) (o : Option Statement) (name : Name) → has_name names name ≡ true → has_name (with_process names o) name ≡ true
+kept_said : (names : List Name) (o : Option Statement) (name : Name) → is_name_among names name ≡ true → is_name_among (with_process_name names o) name ≡ true
 kept_said names None name h = h
-kept_said names (Some (says.Process process)) name h = kept_in names process.name name (has_name names process.name) h
+kept_said names (Some (says.Process process)) name h = kept_in names process.name name (is_name_among names process.name) h
 kept_said names (Some s) name h = h
 
-still_there : (names : List Name) (lines : List ScriptLine) (name : Name) → has_name names name ≡ true → has_name (processes_behind names lines) name ≡ true
+still_there : (names : List Name) (lines : List ScriptLine) (name : Name) → is_name_among names name ≡ true → is_name_among (processes_after names lines) name ≡ true
 still_there names [] name h = h
-still_there names (line ∷ lines) name h = still_there (with_process names line.says) lines name (kept_said names line.says name h)
+still_there names (line ∷ lines) name h = still_there (with_process_name names line.says) lines name (kept_said names line.says name h)
 
 place_by : (b c : Bool) (place len : ℕ) → (b || c) ≡ true → (c ≡ true → place < len) → cond (not b) (1 + place) 0 < suc len
 place_by true c place len h ih = omega arith
 place_by false c place len h ih = let below = ih h in omega (arith, below)
 
-pub place_within : (names : List Name) (name : Name) → has_name names name ≡ true → position_or_len (bytes_eq name) names < length names
+pub place_within : (names : List Name) (name : Name) → is_name_among names name ≡ true → position_or_len (bytes_eq name) names < length names
 place_within [] name h = absurd (cc)
-place_within (first ∷ names) name h = place_by (bytes_eq name first) (has_name names name) (position_or_len (bytes_eq name) names) (length names) h (place_within names name)
+place_within (first ∷ names) name h = place_by (bytes_eq name first) (is_name_among names name) (position_or_len (bytes_eq name) names) (length names) h (place_within names name)
 
 pub at_most_one : (names : List Name) (name : Name) (b : Bool) → length (if b then names else names ++ name ∷ []) ≤ length names + 1
 at_most_one names name true = omega arith
 at_most_one names name false = let e = length-append names (name ∷ []) in omega (arith, e)
 
-behind_by : (names : List Name) (o : Option Statement) (lines : List ScriptLine) → length (processes_behind (with_process names o) lines) ≤ length (with_process names o) + length (filter_map (λ line. process_said line.says) lines) →
-    length (processes_behind (with_process names o) lines) ≤ length names + length (cons_option (process_said o) (filter_map (λ line. process_said line.says) lines))
-behind_by names None lines ih = ih
-behind_by names (Some (says.Process process)) lines ih = let one = at_most_one names process.name (has_name names process.name) in omega (arith, ih, one)
-behind_by names (Some s) lines ih = ih
+after_by : (names : List Name) (o : Option Statement) (lines : List ScriptLine) → length (processes_after (with_process_name names o) lines) ≤ length (with_process_name names o) + length (filter_map (λ line. process_said line.says) lines) →
+    length (processes_after (with_process_name names o) lines) ≤ length names + length (cons_option (process_said o) (filter_map (λ line. process_said line.says) lines))
+after_by names None lines ih = ih
+after_by names (Some (says.Process process)) lines ih = let one = at_most_one names process.name (is_name_among names process.name) in omega (arith, ih, one)
+after_by names (Some s) lines ih = ih
 
-names_within : (names : List Name) (lines : List ScriptLine) → length (processes_behind names lines) ≤ length names + length (filter_map (λ line. process_said line.says) lines)
+names_within : (names : List Name) (lines : List ScriptLine) → length (processes_after names lines) ≤ length names + length (filter_map (λ line. process_said line.says) lines)
 names_within names [] = omega arith
-names_within names (line ∷ lines) = behind_by names line.says lines (names_within (with_process names line.says) lines)
+names_within names (line ∷ lines) = after_by names line.says lines (names_within (with_process_name names line.says) lines)
 
-pub numbered_within : (names : List Name) (name : Name) (count : ℕ) → has_name names name ≡ true → length names ≤ count → (1 ≤ number_of names name) × (number_of names name ≤ count)
+pub numbered_within : (names : List Name) (name : Name) (count : ℕ) → is_name_among names name ≡ true → length names ≤ count → (1 ≤ name_number names name) × (name_number names name ≤ count)
 numbered_within names name count h few =
     let place = place_within names name h in
     let most = min-le_left (position_or_len (bytes_eq name) names + 1) (2 ^ 32 - 1) in
     (le-min (omega arith) (omega arith), omega (arith, most, place, few))
 
-behind_is : (above : Names) (s : Statement) → (with_says above (Some s)).processes ≡ with_process above.processes (Some s)
-behind_is above (says.Process process) = refl
-behind_is above s = refl
+later_is : (above : Names) (s : Statement) → (with_says above (Some s)).processes ≡ with_process_name above.processes (Some s)
+later_is above (says.Process process) = refl
+later_is above s = refl
 
-pub threads_have_processes : (whole : Whole) (ps ts : List Name) (count : ℕ) → length ps ≤ count → (above : Names) (lines : List ScriptLine) → NoFault whole above lines → processes_behind above.processes lines ≡ ps →
+pub threads_have_processes : (whole : WholeScript) (ps ts : List Name) (count : ℕ) → length ps ≤ count → (above : Names) (lines : List ScriptLine) → NoFault whole above lines → processes_after above.processes lines ≡ ps →
     AllByRecursion (λ row. HasProcess count row.process) (threads_in ps ts lines)
 threads_have_processes whole ps ts count few above _ (AtEnd _) is = tt
-threads_have_processes whole ps ts count few above _ (Behind _ n (says.Thread name None) lines ok rest) is =
+threads_have_processes whole ps ts count few above _ (After _ n (says.Thread name None) lines ok rest) is =
     (tt, threads_have_processes whole ps ts count few (with_says above (Some (says.Thread name None))) lines rest is)
-threads_have_processes whole ps ts count few above _ (Behind _ n (says.Thread name (Some process)) lines ok rest) is =
-    let there : has_name above.processes process ≡ true = not_false (has_name above.processes process) ok.known in
-    let still : has_name ps process ≡ true = ap (λ names. has_name names process) (sym is) ∙ still_there above.processes lines process there in
+threads_have_processes whole ps ts count few above _ (After _ n (says.Thread name (Some process)) lines ok rest) is =
+    let there : is_name_among above.processes process ≡ true = not_false (is_name_among above.processes process) ok.known in
+    let still : is_name_among ps process ≡ true = ap (λ names. is_name_among names process) (sym is) ∙ still_there above.processes lines process there in
     (numbered_within ps process count still few, threads_have_processes whole ps ts count few (with_says above (Some (says.Thread name (Some process)))) lines rest is)
-threads_have_processes whole ps ts count few above _ (Behind _ n s lines ok rest) is =
-    threads_have_processes whole ps ts count few (with_says above (Some s)) lines rest (ap (λ names. processes_behind names lines) (behind_is above s) ∙ is)
+threads_have_processes whole ps ts count few above _ (After _ n s lines ok rest) is =
+    threads_have_processes whole ps ts count few (with_says above (Some s)) lines rest (ap (λ names. processes_after names lines) (later_is above s) ∙ is)
 
-pub processes_within : (lines : List ScriptLine) → length (processes_behind [] lines) ≤ length (filter_map (λ line. process_said line.says) lines)
+pub processes_within : (lines : List ScriptLine) → length (processes_after [] lines) ≤ length (filter_map (λ line. process_said line.says) lines)
 processes_within lines = let e = names_within [] lines in omega (arith, e)
 
 -- ---- names of threads
@@ -261,34 +261,34 @@ abbrev pub threads_with : List Name → List Name → List ScriptLine → Option
 threads_with ps ts lines (Some process) = thread_with ps process (body_in ts lines) ∷ threads_in ps ts lines
 threads_with ps ts lines None = threads_in ps ts lines
 
-threads_by : (ps ts names : List Name) (o : Option Statement) (lines : List ScriptLine) → length (threads_behind (with_thread names o) lines) ≤ length (with_thread names o) + length (threads_in ps ts lines) →
-    length (threads_behind (with_thread names o) lines) ≤ length names + length (threads_with ps ts lines (thread_said o))
+threads_by : (ps ts names : List Name) (o : Option Statement) (lines : List ScriptLine) → length (threads_after (with_thread_name names o) lines) ≤ length (with_thread_name names o) + length (threads_in ps ts lines) →
+    length (threads_after (with_thread_name names o) lines) ≤ length names + length (threads_with ps ts lines (thread_said o))
 threads_by ps ts names None lines ih = ih
-threads_by ps ts names (Some (says.Thread name process)) lines ih = let one = at_most_one names name (has_name names name) in omega (arith, ih, one)
+threads_by ps ts names (Some (says.Thread name process)) lines ih = let one = at_most_one names name (is_name_among names name) in omega (arith, ih, one)
 threads_by ps ts names (Some s) lines ih = ih
 
-pub threads_within : (ps ts names : List Name) (lines : List ScriptLine) → length (threads_behind names lines) ≤ length names + length (threads_in ps ts lines)
+pub threads_within : (ps ts names : List Name) (lines : List ScriptLine) → length (threads_after names lines) ≤ length names + length (threads_in ps ts lines)
 threads_within ps ts names [] = omega arith
-threads_within ps ts names (line ∷ lines) = threads_by ps ts names line.says lines (threads_within ps ts (with_thread names line.says) lines)
+threads_within ps ts names (line ∷ lines) = threads_by ps ts names line.says lines (threads_within ps ts (with_thread_name names line.says) lines)
 
 -- ---- all bounds together
 
-pub within_bounds : (whole : Whole) (env : Env) (lines : List ScriptLine) (script : ReadScript) → first_fault whole no_names lines ≡ None → script ≡ script_with env lines → IsWithinBounds script
+pub within_bounds : (whole : WholeScript) (env : Env) (lines : List ScriptLine) (script : ReadScript) → first_fault whole no_names lines ≡ None → script ≡ script_with env lines → IsWithinBounds script
 within_bounds whole env lines script none is =
     let ok = none_has whole no_names lines none in
-    let ps = processes_behind [] lines in
-    let threads = few_threads whole ps (threads_behind [] lines) no_names lines ok (omega arith) in
+    let ps = processes_after [] lines in
+    let threads = few_threads whole ps (threads_after [] lines) no_names lines ok (omega arith) in
     let processes = few_processes whole no_names lines ok (omega arith) in
     let objects = few_objects whole no_names lines ok (omega arith) in
     subst IsWithinBounds (sym is) (record {
       few_threads = omega (arith, threads);
       few_processes = omega (arith, processes);
       few_objects = omega (arith, objects);
-      processes = threads_have_processes whole ps (threads_behind [] lines) (length (filter_map (λ line. process_said line.says) lines)) (processes_within lines) no_names lines ok refl;
+      processes = threads_have_processes whole ps (threads_after [] lines) (length (filter_map (λ line. process_said line.says) lines)) (processes_within lines) no_names lines ok refl;
       targets = short_targets whole no_names lines ok;
       replies = no_reply_asks env lines;
     })
 
-pub result_within : {E : Type 0} (whole : Whole) (env : Env) (lines : List ScriptLine) → first_fault whole no_names lines ≡ None → (r : Result ReadScript E) → IfOk r (λ script. script ≡ script_with env lines) → IfOk r IsWithinBounds
+pub result_within : {E : Type 0} (whole : WholeScript) (env : Env) (lines : List ScriptLine) → first_fault whole no_names lines ≡ None → (r : Result ReadScript E) → IfOk r (λ script. script ≡ script_with env lines) → IfOk r IsWithinBounds
 result_within whole env lines none (Ok script) is = within_bounds whole env lines script none is
 result_within whole env lines none (Err error) is = tt

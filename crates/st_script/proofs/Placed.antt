@@ -4,7 +4,7 @@ use Rattle.std.specs.List.{flat_map}
 use Rattle.std.specs.Prelude.{IfSome}
 use Rattle.st_script_faults.specs.Faults.{is_end}
 use Rattle.st_script_faults.specs.Names.{Name}
-use Rattle.st_statements.specs.Statements.{is_inside_behind}
+use Rattle.st_statements.specs.Statements.{is_inside_after}
 use Rattle.st_statements.specs.declared.statement.ScriptLine.{ScriptLine}
 use Rattle.st_statements.specs.declared.statement.Statement.{Statement}
 use Rattle.st_statements.specs.declared.statement.Statement.TheVariants as says
@@ -30,7 +30,7 @@ inside_by : (here body others below : List Instr) → body ++ others ≡ below �
 inside_by here body others below ih = append_assoc here body others ∙ ap (λ xs. here ++ xs) ih
 
 placed_by : (ps ts : List Name) (inside : Bool) (o : Option Statement) (lines : List ScriptLine) → IfSome o (λ s. is_of_body s ≡ inside) →
-    begun (is_inside_behind inside o) (body_in ts lines) ++ all_bodies (threads_in ps ts lines) ≡ all_said ts lines →
+    begun (is_inside_after inside o) (body_in ts lines) ++ all_bodies (threads_in ps ts lines) ≡ all_said ts lines →
     begun inside (if is_end o then [] else instructions_said ts o ++ body_in ts lines) ++ all_bodies (threads_with ps ts lines (thread_said o)) ≡ instructions_said ts o ++ all_said ts lines
 placed_by ps ts true None lines is ih = ih
 placed_by ps ts true (Some (says.Store place word)) lines is ih = inside_by (instructions_said ts (Some (says.Store place word))) (body_in ts lines) (all_bodies (threads_in ps ts lines)) (all_said ts lines) ih
@@ -51,7 +51,7 @@ placed_by ps ts false (Some s) lines is ih = ih
 bodies_from : (ps ts : List Name) (inside : Bool) (lines : List ScriptLine) → ArePlaced inside lines → begun inside (body_in ts lines) ++ all_bodies (threads_in ps ts lines) ≡ all_said ts lines
 bodies_from ps ts true [] placed = refl
 bodies_from ps ts false [] placed = refl
-bodies_from ps ts inside (line ∷ lines) placed = placed_by ps ts inside line.says lines placed.0 (bodies_from ps ts (is_inside_behind inside line.says) lines placed.1)
+bodies_from ps ts inside (line ∷ lines) placed = placed_by ps ts inside line.says lines placed.0 (bodies_from ps ts (is_inside_after inside line.says) lines placed.1)
 
 -- the instructions of all bodies, in order, are those of all lines
 pub bodies_are_said : (ps ts : List Name) (lines : List ScriptLine) → ArePlaced false lines → all_bodies (threads_in ps ts lines) ≡ all_said ts lines

@@ -12,7 +12,7 @@ use Rattle.st_lex.specs.Unquote.{unquoted}
 use Rattle.st_grammar.specs.OneFilter.{FilterResult, ReadsFilter, filter_in}
 use Rattle.st_grammar.specs.declared.env.Env.{Env}
 use Rattle.st_reached.specs.Grants.{IsUngrantedForSetting, RepliesUngranted}
-use Rattle.st_script_faults.specs.Faults.{answer_of, reply_in, reply_said, unless_ask}
+use Rattle.st_script_faults.specs.Faults.{reply_filter, reply_in, reply_said, unless_ask}
 use Rattle.st_script_faults.specs.Names.{Name}
 use Rattle.st_statements.specs.Parts.{is_normal}
 use Rattle.st_statements.specs.Statements.{lines_in}
@@ -46,13 +46,13 @@ with_reply None replies clean all = all
 with_reply (Some reply) replies clean all = (clean, all)
 
 module _ (sound : IsSound) where
-  answer_ungranted : (text : List ℕ) (env : Env) (r : FilterResult) → filter_in text env ≡ r → IfSome (answer_of r) IsUngrantedForSetting
+  answer_ungranted : (text : List ℕ) (env : Env) (r : FilterResult) → filter_in text env ≡ r → IfSome (reply_filter r) IsUngrantedForSetting
   answer_ungranted text env (Ok filter) is = let read = sound text env filter is in unless_it_asks filter filter.action (filter_ungranted env read.row filter read.is)
   answer_ungranted text env (Err fault) is = tt
 
   reply_ungranted : (env : Env) (binary filter : List ℕ) → IfSome (reply_in env binary filter) IsUngrantedReply
   reply_ungranted env binary filter =
-      for_binary (unquoted env.dollars binary) (is_normal (unquoted env.dollars binary)) (answer_of (filter_in filter env)) (answer_ungranted filter env (filter_in filter env) refl)
+      for_binary (unquoted env.dollars binary) (is_normal (unquoted env.dollars binary)) (reply_filter (filter_in filter env)) (answer_ungranted filter env (filter_in filter env) refl)
 
   said_ungranted : (env : Env) (o : Option Statement) → IfSome (reply_said env o) IsUngrantedReply
   said_ungranted env None = tt

@@ -14,11 +14,11 @@ use Rattle.st_model.specs.declared.object.NewKind.TheVariants as kind
 use Rattle.st_model.specs.declared.object.NewNode.{NewNode}
 use Rattle.st_statements.specs.Accounts.{user_row, group_row}
 use Rattle.st_statements.specs.Instructions.{call_at, call_row, end_row, fork_row, put_at, put_place, put_row, registers, store_row, unless_fork, word_place_at}
-use Rattle.st_statements.specs.Objects.{dir_row, file_node, file_row, link_at, link_row, node_of, object_of}
+use Rattle.st_statements.specs.Objects.{dir_row, file_node, file_row, link_at, link_row, new_node, object_statement}
 use Rattle.st_statements.specs.Parts.{if_normal, is_normal, path_at, place_at, quoted_at, unless_root, word_at}
-use Rattle.st_statements.specs.Statements.{inner_row, is_inside_behind, lines_from, outer_row, statement_of}
+use Rattle.st_statements.specs.Statements.{inner_row, is_inside_after, script_lines_from, outer_row, statement_of}
 use Rattle.st_statements.specs.Tasks.{process_row, reply_row, thread_row, traced_at}
-use Rattle.st_statements.specs.Values.{id_at, mode_at, number_at, number_below}
+use Rattle.st_statements.specs.Values.{id_at, mode_at, number_token, number_below}
 use Rattle.st_statements.specs.declared.objects.TheConstants.{LINK_MODE}
 use Rattle.st_statements.specs.declared.statement.ScriptLine.{ScriptLine}
 use Rattle.st_statements.specs.declared.statement.Statement.{Statement}
@@ -49,7 +49,7 @@ is_of_body _ = false
 -- the statements of lines, the first of which is inside a body or outside, are where they may be
 abbrev pub ArePlaced : Bool → List ScriptLine → Type 0
 ArePlaced inside [] = Unit {0}
-ArePlaced inside (line ∷ lines) = IfSome line.says (λ s. is_of_body s ≡ inside) × ArePlaced (is_inside_behind inside line.says) lines
+ArePlaced inside (line ∷ lines) = IfSome line.says (λ s. is_of_body s ≡ inside) × ArePlaced (is_inside_after inside line.says) lines
 
 -- what a row may say inside a body, or outside
 abbrev IsSaidIn : Bool → Statement → Type 0
@@ -108,11 +108,11 @@ IsSaidOutside s = IsSaidIn false s
 abbrev IsSaidInside : Statement → Type 0
 IsSaidInside s = IsSaidIn true s
 
-object_said : (path : Option (List ℕ)) (new : Option NewNode) → IfSome path IsNormal → IfSome (object_of path new) IsSaidOutside
+object_said : (path : Option (List ℕ)) (new : Option NewNode) → IfSome path IsNormal → IfSome (object_statement path new) IsSaidOutside
 object_said path new is = if_then IsNormal IsSaidOutside (λ p. option_map (says.Object p) new) path is (λ p normal. map_any IsSaidOutside (says.Object p) new (λ n. (normal, refl)))
 
 dir_said : (text : List ℕ) (row : List Token) → IfSome (dir_row text row) IsSaidOutside
-dir_said text (path ∷ uid ∷ gid ∷ mode ∷ []) = object_said (place_at text path) (node_of (Some kind.Dir) (id_at text uid) (id_at text gid) (mode_at text mode)) (normal_place text path)
+dir_said text (path ∷ uid ∷ gid ∷ mode ∷ []) = object_said (place_at text path) (new_node (Some kind.Dir) (id_at text uid) (id_at text gid) (mode_at text mode)) (normal_place text path)
 dir_said text _ = tt
 
 file_said : (text : List ℕ) (row : List Token) → IfSome (file_row text row) IsSaidOutside
@@ -120,7 +120,7 @@ file_said text (path ∷ uid ∷ gid ∷ mode ∷ content ∷ []) = object_said 
 file_said text _ = tt
 
 link_said : (text : List ℕ) (row : List Token) → IfSome (link_row text row) IsSaidOutside
-link_said text (path ∷ uid ∷ gid ∷ target ∷ []) = object_said (place_at text path) (node_of (link_at text target) (id_at text uid) (id_at text gid) (Some LINK_MODE)) (normal_place text path)
+link_said text (path ∷ uid ∷ gid ∷ target ∷ []) = object_said (place_at text path) (new_node (link_at text target) (id_at text uid) (id_at text gid) (Some LINK_MODE)) (normal_place text path)
 link_said text _ = tt
 
 process_said : (text : List ℕ) (row : List Token) → IfSome (process_row text row) IsSaidOutside
@@ -153,12 +153,12 @@ below_bound bound n true is = ltb-true n bound is
 below_bound bound n false is = tt
 
 word_within : (text : List ℕ) (token : Token) → IfSome (word_place_at text token) (λ p. p < SPACE_WORDS)
-word_within text token = then_any (λ p. p < SPACE_WORDS) (number_below SPACE_WORDS) (number_at text token) (λ n. below_bound SPACE_WORDS n (nat_lt n SPACE_WORDS) refl)
+word_within text token = then_any (λ p. p < SPACE_WORDS) (number_below SPACE_WORDS) (number_token text token) (λ n. below_bound SPACE_WORDS n (nat_lt n SPACE_WORDS) refl)
 
 store_said : (text : List ℕ) (row : List Token) → IfSome (store_row text row) IsSaidInside
 store_said text (place ∷ word ∷ []) =
-    if_then (λ p. p < SPACE_WORDS) IsSaidInside (λ p. option_map (says.Store p) (number_at text word)) (word_place_at text place) (word_within text place)
-    (λ p within. map_any IsSaidInside (says.Store p) (number_at text word) (λ w. (within, refl)))
+    if_then (λ p. p < SPACE_WORDS) IsSaidInside (λ p. option_map (says.Store p) (number_token text word)) (word_place_at text place) (word_within text place)
+    (λ p within. map_any IsSaidInside (says.Store p) (number_token text word) (λ w. (within, refl)))
 store_said text _ = tt
 
 abbrev IsTextWithin : List ℕ → ℕ → Type 0
@@ -170,7 +170,7 @@ text_within bytes at true false is = tt
 text_within bytes at false b is = tt
 
 put_said : (text : List ℕ) (row : List Token) → IfSome (put_row text row) IsSaidInside
-put_said text (at ∷ quoted ∷ []) = then_any IsSaidInside _ (quoted_at text quoted) (λ bytes. then_any IsSaidInside (put_at bytes) (number_at text at)
+put_said text (at ∷ quoted ∷ []) = then_any IsSaidInside _ (quoted_at text quoted) (λ bytes. then_any IsSaidInside (put_at bytes) (number_token text at)
     (λ n. if_map (IsTextWithin bytes) IsSaidInside (λ p. says.Put p bytes) (put_place bytes n) (text_within bytes n (n % 8 == 0) (nat_lt (n + length bytes) SPACE_BYTES) refl) (λ p within. (within, refl))))
 put_said text _ = tt
 
@@ -224,13 +224,13 @@ if_second P Q None is = tt
 if_second P Q (Some a) is = is.1
 
 -- each line of a script says such a statement, or nothing
-pub lines_said : (text : List ℕ) (inside : Bool) (rows : List (List Token)) → AreSaid (lines_from text inside rows)
+pub lines_said : (text : List ℕ) (inside : Bool) (rows : List (List Token)) → AreSaid (script_lines_from text inside rows)
 lines_said text inside [] = tt
 lines_said text inside (row ∷ rows) =
-    (if_first IsSaid (λ s. is_of_body s ≡ inside) (statement_of text inside row) (row_said text inside row), lines_said text (is_inside_behind inside (statement_of text inside row)) rows)
+    (if_first IsSaid (λ s. is_of_body s ≡ inside) (statement_of text inside row) (row_said text inside row), lines_said text (is_inside_after inside (statement_of text inside row)) rows)
 
 -- and the statement is where it may be
-pub lines_placed : (text : List ℕ) (inside : Bool) (rows : List (List Token)) → ArePlaced inside (lines_from text inside rows)
+pub lines_placed : (text : List ℕ) (inside : Bool) (rows : List (List Token)) → ArePlaced inside (script_lines_from text inside rows)
 lines_placed text inside [] = tt
 lines_placed text inside (row ∷ rows) =
-    (if_second IsSaid (λ s. is_of_body s ≡ inside) (statement_of text inside row) (row_said text inside row), lines_placed text (is_inside_behind inside (statement_of text inside row)) rows)
+    (if_second IsSaid (λ s. is_of_body s ≡ inside) (statement_of text inside row) (row_said text inside row), lines_placed text (is_inside_after inside (statement_of text inside row)) rows)

@@ -7,7 +7,7 @@ use Rattle.std.proofs.lemmas.Slice.Eq.{starts_is}
 use Rattle.std.specs.List.{filter, flat_map, starts_with}
 use Rattle.std.specs.Prelude.{codes, nat_eq, slice_index}
 use Rattle.st_names.proofs.Spelled.{has_slash_drop, is_last_slash, slashed-parts, spelled_after}
-use Rattle.st_names.specs.Name.{Components, IsLastSlash, components_of, has_slash, is_component, parent, parts_behind, printed_name, slash, split_at_slashes, with_slash}
+use Rattle.st_names.specs.Name.{Components, IsLastSlash, components_of, has_slash, is_component, parent, parts_after, printed_name, slash, split_at_slashes, with_slash}
 use Rattle.st_script_faults.specs.Names.{directory_of, last_slash}
 use Rattle.st_statements.specs.Parts.{is_normal}
 use Rattle.st_script.specs.Reading.{object_name}
@@ -21,8 +21,8 @@ pub normal_slashed : (name : List ℕ) → is_normal name ≡ true → IsSlashed
 normal_slashed name e = (starts_is Decides-eqb name (codes "/") (starts_with nat_eq name (codes "/")) refl).0 (and_parts _ _ e).0
 
 -- the parts of a name, one by one
-pub slashed_parts : (text : List ℕ) → IsSlashed text → parts_behind text ≡ object_name text
-slashed_parts text is = ap parts_behind is
+pub slashed_parts : (text : List ℕ) → IsSlashed text → parts_after text ≡ object_name text
+slashed_parts text is = ap parts_after is
 
 -- the parts between its slashes determine a name
 pub same_text : (a b : List ℕ) → IsSlashed a → IsSlashed b → object_name a ≡ object_name b → a ≡ b
@@ -42,12 +42,12 @@ last_is rest (suc n) within plain =
     let one : suc n ≡ n + 1 = omega arith in
     last_by rest n (slice_index (slash ∷ rest) n == slash) refl (omega (arith, within)) (subst (λ m. has_slash (drop m (slash ∷ rest)) ≡ false) one plain) (last_is rest n (omega (arith, within)))
 
-last_slashed : (rest : List ℕ) → parts_behind (directory_of (slash ∷ rest)) ≡ parent (split_at_slashes rest)
+last_slashed : (rest : List ℕ) → parts_after (directory_of (slash ∷ rest)) ≡ parent (split_at_slashes rest)
 last_slashed rest = (last_is rest (length (slash ∷ rest)) (omega arith) (ap has_slash (drop-length (slash ∷ rest)))).front
 
 -- the path of its directory has the parts of its parent
-pub directory_parts : (path : List ℕ) → IsSlashed path → parts_behind (directory_of path) ≡ parent (object_name path)
-directory_parts path is = ap (λ p. parts_behind (directory_of p)) is ∙ last_slashed (drop 1 path)
+pub directory_parts : (path : List ℕ) → IsSlashed path → parts_after (directory_of path) ≡ parent (object_name path)
+directory_parts path is = ap (λ p. parts_after (directory_of p)) is ∙ last_slashed (drop 1 path)
 
 -- ---- the length of a name
 

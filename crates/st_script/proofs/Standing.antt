@@ -19,11 +19,11 @@ use Rattle.st_model.specs.declared.object.NewKind.{NewKind}
 use Rattle.st_model.specs.declared.object.NewKind.TheVariants as kind
 use Rattle.st_model.specs.declared.object.NewNode.{NewNode}
 use Rattle.st_names.proofs.Spelled.{parts_some}
-use Rattle.st_names.specs.Name.{Components, last_part, parent, parts_behind}
+use Rattle.st_names.specs.Name.{Components, last_part, parent, parts_after}
 use Rattle.st_names.specs.declared.seen.SeenText.{SeenText}
 use Rattle.st_names.specs.declared.seen.SeenText.TheVariants.{NotDir, Dir}
-use Rattle.st_script_faults.specs.Faults.{Whole}
-use Rattle.st_script_faults.specs.Names.{Name, Names, directory_of, has_name, is_directory, no_names, with_object, with_says}
+use Rattle.st_script_faults.specs.Faults.{WholeScript}
+use Rattle.st_script_faults.specs.Names.{Name, Names, directory_of, is_name_among, is_known_directory, no_names, with_object, with_says}
 use Rattle.st_script_faults.specs.declared.limits.TheConstants.{MOST_TREE_ROWS}
 use Rattle.st_statements.specs.declared.statement.ScriptLine.{ScriptLine}
 use Rattle.st_statements.specs.declared.statement.Statement.TheVariants as says
@@ -32,7 +32,7 @@ use Rattle.st_tree.proofs.Reasons.{parent-last_part}
 use Rattle.st_tree.specs.Refusals.{add_refused, is_missing, is_no_directory}
 use Rattle.st_script.proofs.Said.{AreSaid}
 use Rattle.st_script.specs.Reading.{object_name, object_said}
-use Rattle.st_script.proofs.Counted.{NoFault, AtEnd, Behind, added, not_false, or_left, or_right}
+use Rattle.st_script.proofs.Counted.{NoFault, AtEnd, After, added, not_false, or_left, or_right}
 use Rattle.st_script.proofs.Slashes.{IsSlashed, directory_parts, normal_slashed, same_text, slashed_parts}
 
 -- ---- what is seen of a name after one more object
@@ -41,7 +41,7 @@ use Rattle.st_script.proofs.Slashes.{IsSlashed, directory_parts, normal_slashed,
 pub record IsSeen (o : Option Node) (rest : SeenText) : Type 0 where
   pub node : Node
   pub there : o ≡ Some node
-  pub behind : rest ≡ Dir
+  pub following : rest ≡ Dir
   pub passes : (x : SeenText) → seen_through o x ≡ x
 
 seen_here : (o : Option Node) → seen_of o ≡ Dir → (node : Node) × (o ≡ Some node)
@@ -58,12 +58,12 @@ passes None x e = absurd (cc)
 passes (Some node) x e = passes_kind node.kind node.content x e
 
 through_by : (node : Node) (rest : SeenText) (b : Bool) → is_directory_kind node.kind ≡ b → (if b then rest else NotDir) ≡ Dir → IsSeen (Some node) rest
-through_by node rest true is e = record { node = node; there = refl; behind = e; passes = λ x. ap (λ b. if b then x else NotDir) is }
+through_by node rest true is e = record { node = node; there = refl; following = e; passes = λ x. ap (λ b. if b then x else NotDir) is }
 through_by node rest false is e = absurd (cc)
 
-seen_behind : (o : Option Node) (rest : SeenText) → seen_through o rest ≡ Dir → IsSeen o rest
-seen_behind None rest e = absurd (cc)
-seen_behind (Some node) rest e = through_by node rest (is_directory_kind node.kind) refl e
+seen_after : (o : Option Node) (rest : SeenText) → seen_through o rest ≡ Dir → IsSeen o rest
+seen_after None rest e = absurd (cc)
+seen_after (Some node) rest e = through_by node rest (is_directory_kind node.kind) refl e
 
 -- a name that no object has is given to a new object
 module _ (tree : Tree) (name : Components) (node : Node) (free : object_of tree name ≡ None) where
@@ -83,17 +83,17 @@ module _ (tree : Tree) (name : Components) (node : Node) (free : object_of tree 
       let here = seen_here (node_of tree done) is in
       ap seen_of (node_kept done here.0 here.1) ∙ sym (ap seen_of here.1) ∙ is
   look_kept done (part ∷ rest) is =
-      let s = seen_behind (node_of tree done) (look_along tree (done ++ part ∷ []) rest) is in
+      let s = seen_after (node_of tree done) (look_along tree (done ++ part ∷ []) rest) is in
       let still : node_of more done ≡ node_of tree done = node_kept done s.node s.there ∙ sym s.there in
-      ap (λ o. seen_through o (look_along more (done ++ part ∷ []) rest)) still ∙ s.passes (look_along more (done ++ part ∷ []) rest) ∙ look_kept (done ++ part ∷ []) rest s.behind
+      ap (λ o. seen_through o (look_along more (done ++ part ∷ []) rest)) still ∙ s.passes (look_along more (done ++ part ∷ []) rest) ∙ look_kept (done ++ part ∷ []) rest s.following
 
 -- what is seen of a name in a directory is the name's object
 look_pushed : (tree : Tree) (done front : Components) (part : List ℕ) → look_along tree done front ≡ Dir → look_along tree done (front ++ part ∷ []) ≡ seen_of (node_of tree ((done ++ front) ++ part ∷ []))
 look_pushed tree done [] part is =
     passes (node_of tree done) (seen_of (node_of tree (done ++ part ∷ []))) is ∙ ap (λ (d : Components). seen_of (node_of tree (d ++ part ∷ []))) (sym (append-nil done))
 look_pushed tree done (first ∷ front) part is =
-    let s = seen_behind (node_of tree done) (look_along tree (done ++ first ∷ []) front) is in
-    s.passes (look_along tree (done ++ first ∷ []) (front ++ part ∷ [])) ∙ look_pushed tree (done ++ first ∷ []) front part s.behind
+    let s = seen_after (node_of tree done) (look_along tree (done ++ first ∷ []) front) is in
+    s.passes (look_along tree (done ++ first ∷ []) (front ++ part ∷ [])) ∙ look_pushed tree (done ++ first ∷ []) front part s.following
     ∙ ap (λ (d : Components). seen_of (node_of tree (d ++ part ∷ []))) (append_assoc done (first ∷ []) front)
 
 look_made : (tree : Tree) (name : Components) (node : Node) → 0 < length name → look tree (parent name) ≡ Dir → object_of tree name ≡ None → look (add_object tree name node) name ≡ seen_of (Some node)
@@ -115,8 +115,8 @@ not_refused tree name is free few =
 record Stands (above : Names) (tree : Tree) : Type 0 where
   pub objects : length tree.objects ≡ suc (length above.paths)
   pub root : look tree [] ≡ Dir
-  pub free : (path : List ℕ) → IsSlashed path → has_name above.paths path ≡ false → object_of tree (object_name path) ≡ None
-  pub directories : (path : List ℕ) → has_name above.directories path ≡ true → look tree (parts_behind path) ≡ Dir
+  pub free : (path : List ℕ) → IsSlashed path → is_name_among above.paths path ≡ false → object_of tree (object_name path) ≡ None
+  pub directories : (path : List ℕ) → is_name_among above.directories path ≡ true → look tree (parts_after path) ≡ Dir
 
 none_yet : (name : Components) → 0 < length name → object_of root_only name ≡ None
 none_yet [] some = absurd (omega (arith, some))
@@ -130,37 +130,37 @@ stands_first = record {
   directories = λ path has. absurd (cc);
 }
 
-there : (above : Names) (tree : Tree) → Stands above tree → (path : List ℕ) → is_directory above.directories path ≡ true → look tree (parts_behind path) ≡ Dir
+there : (above : Names) (tree : Tree) → Stands above tree → (path : List ℕ) → is_known_directory above.directories path ≡ true → look tree (parts_after path) ≡ Dir
 there above tree s [] has = s.root
 there above tree s (byte ∷ bytes) has = s.directories (byte ∷ bytes) has
 
-parent_there : (above : Names) (tree : Tree) → Stands above tree → (path : List ℕ) → IsSlashed path → is_directory above.directories (directory_of path) ≡ true → look tree (parent (object_name path)) ≡ Dir
+parent_there : (above : Names) (tree : Tree) → Stands above tree → (path : List ℕ) → IsSlashed path → is_known_directory above.directories (directory_of path) ≡ true → look tree (parent (object_name path)) ≡ Dir
 parent_there above tree s path is has = ap (look tree) (sym (directory_parts path is)) ∙ there above tree s (directory_of path) has
 
-told_by : (b c : Bool) → (b || (c || false)) ≡ true → (b ≡ true) ⊎ (c ≡ true)
-told_by true c e = inl refl
-told_by false true e = inr refl
-told_by false false e = absurd (cc)
+recorded_by : (b c : Bool) → (b || (c || false)) ≡ true → (b ≡ true) ⊎ (c ≡ true)
+recorded_by true c e = inl refl
+recorded_by false true e = inr refl
+recorded_by false false e = absurd (cc)
 
-told_in : (names : List Name) (name other : Name) (b : Bool) → has_name (if b then names else names ++ name ∷ []) other ≡ true → (has_name names other ≡ true) ⊎ (other ≡ name)
-told_in names name other true has = inl has
-told_in names name other false has =
-    elim (told_by (has_name names other) (bytes_eq other name) (sym (list_any-append (bytes_eq other) names (name ∷ [])) ∙ has)) [
+recorded_in : (names : List Name) (name other : Name) (b : Bool) → is_name_among (if b then names else names ++ name ∷ []) other ≡ true → (is_name_among names other ≡ true) ⊎ (other ≡ name)
+recorded_in names name other true has = inl has
+recorded_in names name other false has =
+    elim (recorded_by (is_name_among names other) (bytes_eq other name) (sym (list_any-append (bytes_eq other) names (name ∷ [])) ∙ has)) [
       | inl old ↦ inl old
       | inr same ↦ inr ((bytes_eq-Decides other name).0 same)
     ]
 
-untold_in : (names : List Name) (name other : Name) (b : Bool) → b ≡ false → has_name (if b then names else names ++ name ∷ []) other ≡ false → (has_name names other ≡ false) × (other ≢ name)
-untold_in names name other true e none = absurd (cc)
-untold_in names name other false e none =
-    let both : (has_name names other || (bytes_eq other name || false)) ≡ false = sym (list_any-append (bytes_eq other) names (name ∷ [])) ∙ none in
-    let differs : bytes_eq other name ≡ false = or_left (bytes_eq other name) false (or_right (has_name names other) (bytes_eq other name || false) both) in
-    (or_left (has_name names other) (bytes_eq other name || false) both, λ same. let is = (bytes_eq-Decides other name).1 same in let clash : true ≡ false = sym is ∙ differs in cc)
+unrecorded_in : (names : List Name) (name other : Name) (b : Bool) → b ≡ false → is_name_among (if b then names else names ++ name ∷ []) other ≡ false → (is_name_among names other ≡ false) × (other ≢ name)
+unrecorded_in names name other true e none = absurd (cc)
+unrecorded_in names name other false e none =
+    let both : (is_name_among names other || (bytes_eq other name || false)) ≡ false = sym (list_any-append (bytes_eq other) names (name ∷ [])) ∙ none in
+    let differs : bytes_eq other name ≡ false = or_left (bytes_eq other name) false (or_right (is_name_among names other) (bytes_eq other name || false) both) in
+    (or_left (is_name_among names other) (bytes_eq other name || false) both, λ same. let is = (bytes_eq-Decides other name).1 same in let clash : true ≡ false = sym is ∙ differs in cc)
 
 seen_new : (new : NewNode) (k : NewKind) → new.kind ≡ k → k ≡ kind.Dir → seen_of (Some (node_of_new new)) ≡ Dir
 seen_new new k is dir = let e : new.kind ≡ kind.Dir = is ∙ dir in ap (λ (made : NewKind). seen_of (Some (node_of_new (record { kind = made; uid = new.uid; gid = new.gid; mode = new.mode })))) e
 
-module _ (above : Names) (tree : Tree) (path : List ℕ) (new : NewNode) (s : Stands above tree) (is : IsSlashed path) (has : is_directory above.directories (directory_of path) ≡ true) (none : has_name above.paths path ≡ false) where
+module _ (above : Names) (tree : Tree) (path : List ℕ) (new : NewNode) (s : Stands above tree) (is : IsSlashed path) (has : is_known_directory above.directories (directory_of path) ≡ true) (none : is_name_among above.paths path ≡ false) where
   abbrev name : Components
   name = object_name path
 
@@ -173,24 +173,24 @@ module _ (above : Names) (tree : Tree) (path : List ℕ) (new : NewNode) (s : St
   seen_in : look tree (parent name) ≡ Dir
   seen_in = parent_there above tree s path is has
 
-  kept_there : (other : List ℕ) → has_name above.directories other ≡ true → look grown (parts_behind other) ≡ Dir
-  kept_there other told = look_kept tree name (node_of_new new) is_free [] (parts_behind other) (s.directories other told)
+  kept_there : (other : List ℕ) → is_name_among above.directories other ≡ true → look grown (parts_after other) ≡ Dir
+  kept_there other recorded = look_kept tree name (node_of_new new) is_free [] (parts_after other) (s.directories other recorded)
 
-  directories_more : (k : NewKind) → new.kind ≡ k → (other : List ℕ) → has_name (with_object above.directories path k) other ≡ true → look grown (parts_behind other) ≡ Dir
-  directories_more kind.Dir kind_is other told =
-      elim (told_in above.directories path other (has_name above.directories path) told) [
+  directories_more : (k : NewKind) → new.kind ≡ k → (other : List ℕ) → is_name_among (with_object above.directories path k) other ≡ true → look grown (parts_after other) ≡ Dir
+  directories_more kind.Dir kind_is other recorded =
+      elim (recorded_in above.directories path other (is_name_among above.directories path) recorded) [
         | inl old ↦ kept_there other old
-        | inr same ↦ ap (λ (p : List ℕ). look grown (parts_behind p)) same ∙ ap (look grown) (slashed_parts path is) ∙ look_made tree name (node_of_new new) (parts_some (drop 1 path)) seen_in is_free ∙ seen_new new kind.Dir kind_is refl
+        | inr same ↦ ap (λ (p : List ℕ). look grown (parts_after p)) same ∙ ap (look grown) (slashed_parts path is) ∙ look_made tree name (node_of_new new) (parts_some (drop 1 path)) seen_in is_free ∙ seen_new new kind.Dir kind_is refl
       ]
-  directories_more (kind.File content) kind_is other told = kept_there other told
-  directories_more (kind.Link target) kind_is other told = kept_there other told
+  directories_more (kind.File content) kind_is other recorded = kept_there other recorded
+  directories_more (kind.Link target) kind_is other recorded = kept_there other recorded
 
   stands_more : Stands (with_says above (Some (says.Object path new))) grown
   stands_more = record {
-    objects = let one = length-append tree.objects (node_of_new new ∷ []) in let count = added above.paths path (has_name above.paths path) none in let so_far = s.objects in omega (arith, one, count, so_far);
+    objects = let one = length-append tree.objects (node_of_new new ∷ []) in let count = added above.paths path (is_name_among above.paths path) none in let so_far = s.objects in omega (arith, one, count, so_far);
     root = look_kept tree name (node_of_new new) is_free [] [] s.root;
-    free = λ other slashed untold.
-        let apart = untold_in above.paths path other (has_name above.paths path) none untold in
+    free = λ other slashed unrecorded.
+        let apart = unrecorded_in above.paths path other (is_name_among above.paths path) none unrecorded in
         names_kept tree name (object_name other) (node_of_new new) (λ same. apart.1 (same_text other path slashed is same)) ∙ s.free other slashed apart.0;
     directories = directories_more new.kind refl;
   }
@@ -205,15 +205,15 @@ abbrev StandAlong : Tree → List TreeRow → Type 0
 StandAlong tree [] = Unit {0}
 StandAlong tree (row ∷ rows) = (add_refused tree row.name ≡ None) × StandAlong (tree_with_row tree row) rows
 
-stand : (whole : Whole) (above : Names) (lines : List ScriptLine) → NoFault whole above lines → AreSaid lines → (tree : Tree) → Stands above tree → StandAlong tree (filter_map (λ line. object_said line.says) lines)
+stand : (whole : WholeScript) (above : Names) (lines : List ScriptLine) → NoFault whole above lines → AreSaid lines → (tree : Tree) → Stands above tree → StandAlong tree (filter_map (λ line. object_said line.says) lines)
 stand whole above _ (AtEnd _) said tree s = tt
-stand whole above _ (Behind _ n (says.Object path new) lines ok rest) said tree s =
+stand whole above _ (After _ n (says.Object path new) lines ok rest) said tree s =
     let slashed : IsSlashed path = normal_slashed path said.0 in
-    let has : is_directory above.directories (directory_of path) ≡ true = not_false (is_directory above.directories (directory_of path)) ok.known in (
+    let has : is_known_directory above.directories (directory_of path) ≡ true = not_false (is_known_directory above.directories (directory_of path)) ok.known in (
       can_be_made above tree path new s slashed has ok.new (or_left _ _ ok.few),
       stand whole (with_says above (Some (says.Object path new))) lines rest said.1 (add_object tree (object_name path) (node_of_new new)) (stands_more above tree path new s slashed has ok.new),
     )
-stand whole above _ (Behind _ n t lines ok rest) said tree s =
+stand whole above _ (After _ n t lines ok rest) said tree s =
     stand whole (with_says above (Some t)) lines rest said.1 tree (record { objects = s.objects; root = s.root; free = s.free; directories = s.directories })
 
 along : (tree : Tree) (rows : List TreeRow) → StandAlong tree rows → (k : ℕ) (row : TreeRow) → slice_get rows k ≡ Some row → add_refused (fold tree_with_row tree (take k rows)) row.name ≡ None
@@ -221,6 +221,6 @@ along tree [] all k row is = absurd (cc)
 along tree (first ∷ rows) all zero row is = let same : first ≡ row = cc in subst (λ (r : TreeRow). add_refused tree r.name ≡ None) same all.0
 along tree (first ∷ rows) all (suc k) row is = along (tree_with_row tree first) rows all.1 k row is
 
-pub objects_stand : (whole : Whole) (lines : List ScriptLine) → NoFault whole no_names lines → AreSaid lines →
+pub objects_stand : (whole : WholeScript) (lines : List ScriptLine) → NoFault whole no_names lines → AreSaid lines →
     (k : ℕ) (row : TreeRow) → slice_get (filter_map (λ line. object_said line.says) lines) k ≡ Some row → add_refused (fold tree_with_row root_only (take k (filter_map (λ line. object_said line.says) lines))) row.name ≡ None
 objects_stand whole lines ok said = along root_only (filter_map (λ line. object_said line.says) lines) (stand whole no_names lines ok said root_only stands_first)

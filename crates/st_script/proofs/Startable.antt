@@ -15,19 +15,19 @@ use Rattle.st_names.specs.declared.limits.TheConstants.{LONGEST_NAME}
 use Rattle.st_lex.specs.Rows.{rows}
 use Rattle.st_lex.specs.Tokens.{lexed_text}
 use Rattle.st_base.proofs.Each.{each-append}
-use Rattle.st_script_faults.specs.Faults.{Whole, first_fault, threads_behind}
-use Rattle.st_script_faults.specs.Names.{Name, Names, has_name, no_names, with_says}
-use Rattle.st_statements.specs.Lines.{looked_at}
+use Rattle.st_script_faults.specs.Faults.{WholeScript, first_fault, threads_after}
+use Rattle.st_script_faults.specs.Names.{Name, Names, is_name_among, no_names, with_says}
+use Rattle.st_statements.specs.Lines.{tokens_before_fault_line}
 use Rattle.st_statements.specs.Parts.{is_long}
 use Rattle.st_statements.specs.Statements.{lines_in}
 use Rattle.st_statements.specs.declared.statement.ScriptLine.{ScriptLine}
 use Rattle.st_statements.specs.declared.statement.Statement.TheVariants as says
 use Rattle.st_trace.specs.declared.start.ThreadRow.{ThreadRow}
 use Rattle.st_script.specs.Bounds.{IsWithinBounds}
-use Rattle.st_script.specs.Reading.{body_in, process_said, processes_behind, script_in, script_with, store_of, stores, threads_in}
-use Rattle.st_script.specs.Startable.{CanStart, input_with}
+use Rattle.st_script.specs.Reading.{body_in, process_said, processes_after, script_in, script_with, store_of, stores, threads_in}
+use Rattle.st_script.specs.Startable.{IsRunnableScript, input_with}
 use Rattle.st_script.specs.declared.reading.ReadScript.{ReadScript}
-use Rattle.st_script.proofs.Counted.{NoFault, AtEnd, Behind, known_by, none_has, numbered_within, or_left, or_right, threads_within, within_bounds}
+use Rattle.st_script.proofs.Counted.{NoFault, AtEnd, After, known_by, none_has, numbered_within, or_left, or_right, threads_within, within_bounds}
 use Rattle.st_script.proofs.ReadTexts.{read_has, whole_in}
 use Rattle.st_script.proofs.Said.{AreSaid, lines_said}
 use Rattle.st_script.proofs.Slashes.{normal_slashed, printed_short}
@@ -39,27 +39,27 @@ all_map : {A B : Type 0} (P : B → Type 0) (f : A → B) (xs : List A) → ((x 
 all_map P f [] all = tt
 all_map P f (x ∷ xs) all = (all x, all_map P f xs all)
 
-module _ (i : Input) (whole : Whole) (threads : List Name) (uncut : whole.is_cut ≡ false) (threads_are : whole.threads ≡ threads) (few : length threads ≤ length i.start.threads) where
+module _ (i : Input) (whole : WholeScript) (threads : List Name) (uncut : whole.is_cut ≡ false) (threads_are : whole.threads ≡ threads) (few : length threads ≤ length i.start.threads) where
   bodies_are : (above : Names) (lines : List ScriptLine) → NoFault whole above lines → AreSaid lines → AllByRecursion (IsInstruction i) (body_in threads lines)
   bodies_are above _ (AtEnd _) said = tt
-  bodies_are above _ (Behind _ n (says.Store place word) lines ok rest) said = (tt, bodies_are (with_says above (Some (says.Store place word))) lines rest said.1)
-  bodies_are above _ (Behind _ n (says.Call call regs) lines ok rest) said = (said.0, bodies_are (with_says above (Some (says.Call call regs))) lines rest said.1)
-  bodies_are above _ (Behind _ n (says.Fork name) lines ok rest) said =
-      let there : has_name whole.threads name ≡ true = known_by whole.is_cut (has_name whole.threads name) uncut ok.known in
-      let among : has_name threads name ≡ true = ap (λ names. has_name names name) (sym threads_are) ∙ there in
+  bodies_are above _ (After _ n (says.Store place word) lines ok rest) said = (tt, bodies_are (with_says above (Some (says.Store place word))) lines rest said.1)
+  bodies_are above _ (After _ n (says.Call call regs) lines ok rest) said = (said.0, bodies_are (with_says above (Some (says.Call call regs))) lines rest said.1)
+  bodies_are above _ (After _ n (says.Fork name) lines ok rest) said =
+      let there : is_name_among whole.threads name ≡ true = known_by whole.is_cut (is_name_among whole.threads name) uncut ok.known in
+      let among : is_name_among threads name ≡ true = ap (λ names. is_name_among names name) (sym threads_are) ∙ there in
       (numbered_within threads name (length i.start.threads) among few, bodies_are (with_says above (Some (says.Fork name))) lines rest said.1)
-  bodies_are above _ (Behind _ n (says.Put place bytes) lines ok rest) said =
+  bodies_are above _ (After _ n (says.Put place bytes) lines ok rest) said =
       each-append (IsInstruction i) (stores place bytes) (body_in threads lines) (all_map (IsInstruction i) (store_of place bytes) _ (λ k. tt)) (bodies_are (with_says above (Some (says.Put place bytes))) lines rest said.1)
-  bodies_are above _ (Behind _ n says.End lines ok rest) said = tt
-  bodies_are above _ (Behind _ n s lines ok rest) said = bodies_are (with_says above (Some s)) lines rest said.1
+  bodies_are above _ (After _ n says.End lines ok rest) said = tt
+  bodies_are above _ (After _ n s lines ok rest) said = bodies_are (with_says above (Some s)) lines rest said.1
 
   threads_have_bodies : (processes : List Name) (above : Names) (lines : List ScriptLine) → NoFault whole above lines → AreSaid lines → AllByRecursion (λ row. All (IsInstruction i) row.body) (threads_in processes threads lines)
   threads_have_bodies processes above _ (AtEnd _) said = tt
-  threads_have_bodies processes above _ (Behind _ n (says.Thread name process) lines ok rest) said = (
+  threads_have_bodies processes above _ (After _ n (says.Thread name process) lines ok rest) said = (
     All-from_recursion (IsInstruction i) (body_in threads lines) (bodies_are (with_says above (Some (says.Thread name process))) lines rest said.1),
     threads_have_bodies processes (with_says above (Some (says.Thread name process))) lines rest said.1,
   )
-  threads_have_bodies processes above _ (Behind _ n s lines ok rest) said = threads_have_bodies processes (with_says above (Some s)) lines rest said.1
+  threads_have_bodies processes above _ (After _ n s lines ok rest) said = threads_have_bodies processes (with_says above (Some s)) lines rest said.1
 
 -- ---- owners
 
@@ -77,23 +77,23 @@ owners_within count rows all (suc k) = owner_by count rows all k
 
 -- ---- directories
 
-directories_short : (whole : Whole) (above : Names) (lines : List ScriptLine) → NoFault whole above lines → AreSaid lines → AllByRecursion (λ row. length (printed_name row.cwd) ≤ LONGEST_NAME) (filter_map (λ line. process_said line.says) lines)
+directories_short : (whole : WholeScript) (above : Names) (lines : List ScriptLine) → NoFault whole above lines → AreSaid lines → AllByRecursion (λ row. length (printed_name row.cwd) ≤ LONGEST_NAME) (filter_map (λ line. process_said line.says) lines)
 directories_short whole above _ (AtEnd _) said = tt
-directories_short whole above _ (Behind _ n (says.Process process) lines ok rest) said =
+directories_short whole above _ (After _ n (says.Process process) lines ok rest) said =
     let short : is_long process.cwd ≡ false = or_right (is_long process.binary) (is_long process.cwd) (or_right _ (is_long process.binary || is_long process.cwd) ok.few) in
     let few : length process.cwd ≤ LONGEST_NAME = ltb-false LONGEST_NAME (length process.cwd) (or_left (nat_lt LONGEST_NAME (length process.cwd)) _ short) in
     let printed = printed_short process.cwd (normal_slashed process.cwd said.0) in
     (omega (arith, few, printed), directories_short whole (with_says above (Some (says.Process process))) lines rest said.1)
-directories_short whole above _ (Behind _ n s lines ok rest) said = directories_short whole (with_says above (Some s)) lines rest said.1
+directories_short whole above _ (After _ n s lines ok rest) said = directories_short whole (with_says above (Some s)) lines rest said.1
 
 -- ---- all conditions together
 
-startable : (whole : Whole) (lines : List ScriptLine) → whole.is_cut ≡ false → whole.threads ≡ threads_behind [] lines → NoFault whole no_names lines → AreSaid lines → IsWithinBounds (script_with whole.env lines) →
+startable : (whole : WholeScript) (lines : List ScriptLine) → whole.is_cut ≡ false → whole.threads ≡ threads_after [] lines → NoFault whole no_names lines → AreSaid lines → IsWithinBounds (script_with whole.env lines) →
     (policies : List BinaryPolicy) (options : Options) → 1 ≤ options.workers → options.workers ≤ 8 → IsStartable (input_with policies options (script_with whole.env lines))
 startable whole lines uncut threads_are ok said bounds policies options some few =
     let i = input_with policies options (script_with whole.env lines) in
-    let processes = processes_behind [] lines in
-    let threads = threads_behind [] lines in
+    let processes = processes_after [] lines in
+    let threads = threads_after [] lines in
     let among : length threads ≤ length i.start.threads = let within = threads_within processes threads [] lines in omega (arith, within) in
     record {
       some_worker = some;
@@ -105,7 +105,7 @@ startable whole lines uncut threads_are ok said bounds policies options some few
       targets = All-from_recursion _ _ bounds.targets;
     }
 
-can_start : (whole : Whole) (lines : List ScriptLine) → whole.is_cut ≡ false → whole.threads ≡ threads_behind [] lines → first_fault whole no_names lines ≡ None → AreSaid lines → CanStart (script_with whole.env lines)
+can_start : (whole : WholeScript) (lines : List ScriptLine) → whole.is_cut ≡ false → whole.threads ≡ threads_after [] lines → first_fault whole no_names lines ≡ None → AreSaid lines → IsRunnableScript (script_with whole.env lines)
 can_start whole lines uncut threads_are none said =
     let ok = none_has whole no_names lines none in
     let bounds = within_bounds whole whole.env lines (script_with whole.env lines) none refl in
@@ -117,5 +117,5 @@ can_start whole lines uncut threads_are none said =
     }
 
 -- a run can start with a script that is read
-pub script_can_start : (text : List ℕ) (options : Options) (script : ReadScript) → script_in text options ≡ Ok script → CanStart script
-script_can_start text options = read_has CanStart text options (λ uncut none. can_start (whole_in text options) (lines_in text) uncut refl none (lines_said text false (rows (looked_at (lexed_text text)))))
+pub script_can_start : (text : List ℕ) (options : Options) (script : ReadScript) → script_in text options ≡ Ok script → IsRunnableScript script
+script_can_start text options = read_has IsRunnableScript text options (λ uncut none. can_start (whole_in text options) (lines_in text) uncut refl none (lines_said text false (rows (tokens_before_fault_line (lexed_text text)))))

@@ -17,31 +17,31 @@ use Rattle.st_law.specs.Schedules.{sets_ids as call_sets_ids}
 use Rattle.st_base.proofs.Each.{each-append, each-parts}
 use Rattle.st_grammar.specs.Grammar.{AreRows, NoRow, Blank, Header, FilterRow, IsFilter, IsTail, Plain, Logs, Grants, GrantsAndLogs, LogsAndGrants, MayGrant, Reads}
 use Rattle.st_grammar.specs.Symbol.{Symbol}
-use Rattle.st_grammar.specs.Words.{is_set_id, sets_ids}
+use Rattle.st_grammar.specs.Words.{is_set_id_call, names_set_id_call}
 use Rattle.st_grammar.specs.declared.env.Env.{Env}
 use Rattle.st_reached.specs.Grants.{IsUngrantedForSetting, SetIdsUngranted, is_for_setting}
 
 -- ---- filters
 
-call_sets : (call : SysCall) → call_sets_ids call ≡ true → is_set_id call ≡ true
+call_sets : (call : SysCall) → call_sets_ids call ≡ true → is_set_id_call call ≡ true
 call_sets calls.SetUid is = is
 call_sets calls.SetEuid is = is
 call_sets calls.SetGid is = is
 call_sets calls.SetEgid is = is
 call_sets call is = is
 
-sets : (n : FilterName) → is_for_setting n ≡ true → sets_ids n ≡ true
+sets : (n : FilterName) → is_for_setting n ≡ true → names_set_id_call n ≡ true
 sets (name.Rule (rules.Call call)) is = call_sets call is
 sets (name.Rule rules.FsRead) is = is
 sets (name.Rule rules.FsWrite) is = is
 sets (name.Other other) is = is
 
-may_not : (env : Env) (n : FilterName) (a : Action) → MayGrant env n a → sets_ids n ≡ true → ⊥
+may_not : (env : Env) (n : FilterName) (a : Action) → MayGrant env n a → names_set_id_call n ≡ true → ⊥
 may_not env n action.Permit may is = let clash : true ≡ false = sym is ∙ may.1 in cc
 may_not env n (action.Deny errno) may is = may
 may_not env n action.Ask may is = may
 
-ungranted : (env : Env) (n : FilterName) (a : Action) {ts : List Symbol} {grant : Option Grant} {log : Bool} → IsTail env n a ts grant log → sets_ids n ≡ true → grant ≡ None
+ungranted : (env : Env) (n : FilterName) (a : Action) {ts : List Symbol} {grant : Option Grant} {log : Bool} → IsTail env n a ts grant log → names_set_id_call n ≡ true → grant ≡ None
 ungranted env n a Plain is = refl
 ungranted env n a Logs is = refl
 ungranted env n a (Grants may spelled) is = absurd (may_not env n a may is)

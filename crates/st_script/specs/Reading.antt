@@ -8,10 +8,10 @@ use Rattle.st_lex.specs.declared.token.LexFault.{LexFault}
 use Rattle.st_model.specs.Memory.{word_of}
 use Rattle.st_names.specs.Name.{Components, components_of, split_at_slashes}
 use Rattle.st_grammar.specs.declared.env.Env.{Env}
-use Rattle.st_script_faults.specs.Environment.{environment_of, process_of}
-use Rattle.st_script_faults.specs.Faults.{ends_body, reply_said, script_fault, threads_behind}
+use Rattle.st_script_faults.specs.Environment.{environment_of, script_process}
+use Rattle.st_script_faults.specs.Faults.{ends_body, reply_said, script_fault, threads_after}
 use Rattle.st_statements.specs.Lines.{saturated}
-use Rattle.st_script_faults.specs.Names.{Name, number_of, store_count, with_name}
+use Rattle.st_script_faults.specs.Names.{Name, name_number, store_count, with_new_name}
 use Rattle.st_statements.specs.Statements.{lines_in}
 use Rattle.st_script_faults.specs.declared.fault.ScriptFault.{ScriptFault}
 use Rattle.st_script.specs.declared.reading.ReadScript.{ReadScript}
@@ -61,7 +61,7 @@ started_process process = record {
 
 -- the process of a line
 abbrev pub process_said : Option Statement → Option ProcessRow
-process_said statement = option_map started_process (process_of statement)
+process_said statement = option_map started_process (script_process statement)
 
 -- ---- threads
 
@@ -78,7 +78,7 @@ abbrev pub instructions_said : List Name → Option Statement → List Instr
 instructions_said threads (Some (says.Store place word)) = Store place word ∷ []
 instructions_said threads (Some (says.Put place bytes)) = stores place bytes
 instructions_said threads (Some (says.Call call regs)) = Call call regs ∷ []
-instructions_said threads (Some (says.Fork name)) = Fork (number_of threads name) ∷ []
+instructions_said threads (Some (says.Fork name)) = Fork (name_number threads name) ∷ []
 instructions_said threads _ = []
 
 -- the body of a thread: the instructions of the lines up to the next `end`
@@ -93,7 +93,7 @@ thread_said _ = None
 
 -- a thread in one of these processes, with this body
 abbrev pub thread_with : List Name → Option Name → List Instr → ThreadRow
-thread_with processes process body = record { process = option_map (number_of processes) process; body = body }
+thread_with processes process body = record { process = option_map (name_number processes) process; body = body }
 
 -- the threads of lines, given the processes and threads of the script
 abbrev pub threads_in : List Name → List Name → List ScriptLine → List ThreadRow
@@ -105,14 +105,14 @@ threads_in processes threads (line ∷ lines) =
     ]
 
 -- names, with that of a row's process added, if the row is a process's
-abbrev pub with_process : List Name → Option Statement → List Name
-with_process names (Some (says.Process process)) = with_name names process.name
-with_process names _ = names
+abbrev pub with_process_name : List Name → Option Statement → List Name
+with_process_name names (Some (says.Process process)) = with_new_name names process.name
+with_process_name names _ = names
 
 -- these processes, with those of lines added after them
-abbrev pub processes_behind : List Name → List ScriptLine → List Name
-processes_behind names [] = names
-processes_behind names (line ∷ lines) = processes_behind (with_process names line.says) lines
+abbrev pub processes_after : List Name → List ScriptLine → List Name
+processes_after names [] = names
+processes_after names (line ∷ lines) = processes_after (with_process_name names line.says) lines
 
 -- ---- scripts
 
@@ -123,7 +123,7 @@ start_of lines = record {
   groups = filter_map (λ line. group_said line.says) lines;
   tree = filter_map (λ line. object_said line.says) lines;
   processes = filter_map (λ line. process_said line.says) lines;
-  threads = threads_in (processes_behind [] lines) (threads_behind [] lines) lines;
+  threads = threads_in (processes_after [] lines) (threads_after [] lines) lines;
 }
 
 -- what lines without a fault are read as, with this environment
@@ -135,13 +135,13 @@ script_with env lines = record {
 }
 
 -- the script that was read, unless there is a fault
-abbrev pub unless_faulty : Option ScriptFault → ReadScript → Result ReadScript ScriptFault
-unless_faulty (Some fault) script = Err fault
-unless_faulty None script = Ok script
+abbrev pub unless_fault : Option ScriptFault → ReadScript → Result ReadScript ScriptFault
+unless_fault (Some fault) script = Err fault
+unless_fault None script = Ok script
 
 -- what lines are read as, if this lexical fault, or none, follows them
 abbrev pub read_lines : Options → Option LexFault → List ScriptLine → Result ReadScript ScriptFault
-read_lines options broken lines = unless_faulty (script_fault options broken lines) (script_with (environment_of options lines) lines)
+read_lines options broken lines = unless_fault (script_fault options broken lines) (script_with (environment_of options lines) lines)
 
 -- what the text of a script is read as
 abbrev pub script_in : List ℕ → Options → Result ReadScript ScriptFault

@@ -20,12 +20,12 @@ abbrev pub input_with : List BinaryPolicy → Options → ReadScript → Input
 input_with policies options script = record { policies = policies; start = script.start; replies = script.replies; options = options }
 
 -- each object of some rows can be added after the objects of the rows before it
-abbrev pub CanStand : List TreeRow → Type 0
-CanStand rows = (k : ℕ) (row : TreeRow) → slice_get rows k ≡ Some row → add_refused (fold tree_with_row root_only (take k rows)) row.name ≡ None
+abbrev pub CanBeCreated : List TreeRow → Type 0
+CanBeCreated rows = (k : ℕ) (row : TreeRow) → slice_get rows k ≡ Some row → add_refused (fold tree_with_row root_only (take k rows)) row.name ≡ None
 
 -- a run can start with a script, under any policies and with one to eight workers
-pub record CanStart (script : ReadScript) : Type 0 where
+pub record IsRunnableScript (script : ReadScript) : Type 0 where
   pub startable : (policies : List BinaryPolicy) (options : Options) → 1 ≤ options.workers → options.workers ≤ 8 → IsStartable (input_with policies options script)
-  pub tree : CanStand script.start.tree
+  pub tree : CanBeCreated script.start.tree
   pub owners : (t : ℕ) → owner_of_row (item_at_number script.start.threads t) ≤ length script.start.processes
   pub directories : All (λ row. length (printed_name row.cwd) ≤ LONGEST_NAME) script.start.processes

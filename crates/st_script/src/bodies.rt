@@ -1,7 +1,7 @@
 ghost use Rattle.std.specs.Prelude.{◌≡◌, ◌^◌, ◌<◌, ◌++◌, [], slice_index, option_map, option_copied, IfOk, OnOk};
 ghost use Rattle.st_model.specs.Memory.{word_of};
-ghost use Rattle.st_script_faults.specs.Faults.{threads_behind};
-ghost use Rattle.st_script.specs.Reading.{stores, instructions_said, body_in, thread_said, thread_with, with_process, processes_behind, threads_in};
+ghost use Rattle.st_script_faults.specs.Faults.{threads_after};
+ghost use Rattle.st_script.specs.Reading.{stores, instructions_said, body_in, thread_said, thread_with, with_process_name, processes_after, threads_in};
 
 use st_base::{Sequence, Text};
 use st_script_faults::faults::{ends_body, threads_of};
@@ -108,7 +108,7 @@ fn thread_with(processes: &NameIndex, process: Option<&Text>, body: Sequence<Ins
 }
 
 fn add_process<'a>(names: &mut NameIndex<'a>, says: &'a Option<Statement>) -> Result<(), AllocError>
-    ensures { OnOk result (names.new ≡ with_process names.old says.now) }
+    ensures { OnOk result (names.new ≡ with_process_name names.old says.now) }
 {
     match says {
         Some(Statement::Process(process)) => names.add(process.name.bytes()),
@@ -118,7 +118,7 @@ fn add_process<'a>(names: &mut NameIndex<'a>, says: &'a Option<Statement>) -> Re
 
 // The processes of lines, in order.
 fn processes_of<'a>(alloc: Global, lines: &'a [ScriptLine]) -> Result<NameIndex<'a>, AllocError>
-    ensures { IfOk result (λ names. names ≡ processes_behind [] lines.now) }
+    ensures { IfOk result (λ names. names ≡ processes_after [] lines.now) }
 {
     let mut names = NameIndex::new(alloc);
     for line in lines {
@@ -150,7 +150,7 @@ fn threads_among(
 
 /// The threads of a script's lines, each with its body.
 pub fn threads_in(alloc: Global, lines: &[ScriptLine]) -> Result<Sequence<ThreadRow>, AllocError>
-    ensures { IfOk result (λ rows. rows ≡ threads_in (processes_behind [] lines.now) (threads_behind [] lines.now) lines.now) }
+    ensures { IfOk result (λ rows. rows ≡ threads_in (processes_after [] lines.now) (threads_after [] lines.now) lines.now) }
 {
     let processes = processes_of(alloc, lines)?;
     let threads = threads_of(alloc, lines)?;

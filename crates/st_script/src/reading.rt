@@ -3,9 +3,9 @@ ghost use Rattle.std.specs.List.{filter_map};
 ghost use Rattle.st_law.specs.declared.input.Options.{Options};
 ghost use Rattle.st_reached.specs.Scripts.{IsBounded};
 ghost use Rattle.st_script.specs.Bounds.{IsWithinBounds};
-ghost use Rattle.st_script.specs.Startable.{CanStart};
+ghost use Rattle.st_script.specs.Startable.{IsRunnableScript};
 ghost use Rattle.st_script.specs.declared.reading.ReadScript.{ReadScript};
-ghost use Rattle.st_script_faults.specs.Faults.{first_fault, replies_behind};
+ghost use Rattle.st_script_faults.specs.Faults.{first_fault, replies_after};
 ghost use Rattle.st_script_faults.specs.Names.{no_names};
 ghost use Rattle.st_script.specs.Reading.{user_said, group_said, object_name, object_said, started_process, process_said, start_of, script_with, read_lines, script_in};
 
@@ -217,7 +217,7 @@ fn script_with(
     lines: &[ScriptLine],
     replies: Sequence<Reply>,
 ) -> Result<ReadScript, AllocError>
-    requires { replies ≡ replies_behind env [] lines.now }
+    requires { replies ≡ replies_after env [] lines.now }
     ensures { IfOk result (λ script. script ≡ script_with env lines.now) }
 {
     Ok(ReadScript {
@@ -235,7 +235,7 @@ fn faultless_script(
     replies: Sequence<Reply>,
 ) -> Result<ReadScript, AllocError>
     requires faultless { first_fault whole no_names lines.now ≡ None }
-    requires replies { replies ≡ replies_behind whole.env [] lines.now }
+    requires replies { replies ≡ replies_after whole.env [] lines.now }
     ensures is { IfOk result (λ script. script ≡ script_with whole.entry.env lines.now) }
     ensures bounds { IfOk result IsWithinBounds }
 {
@@ -272,7 +272,7 @@ pub fn read_script(alloc: Global, text: &[u8], options: &Options) -> Result<Read
     ensures ok { IfOk result (λ script. script_in text.now options.now ≡ Ok script) }
     ensures fault { IfErr result (λ f. f ≢ ScriptFault.NoMemory → script_in text.now options.now ≡ Err f) }
     ensures bounds { IfOk result IsWithinBounds }
-    ensures can_start { IfOk result CanStart }
+    ensures can_start { IfOk result IsRunnableScript }
     ensures bounded { IfOk result (λ script. IsBounded script.start) }
 {
     let lexed = tokens(alloc, text)?;
@@ -282,7 +282,7 @@ pub fn read_script(alloc: Global, text: &[u8], options: &Options) -> Result<Read
 
 /// A run can start with a script that was read, under any policies and with one to eight workers.
 pub fn what_is_read_can_start()
-    ensures { (text : List ℕ) (options : Options) (script : ReadScript) → script_in text options ≡ Ok script → CanStart script }
+    ensures { (text : List ℕ) (options : Options) (script : ReadScript) → script_in text options ≡ Ok script → IsRunnableScript script }
 {}
 
 /// A script that was read isn't too long, stores into memory only, and starts each thread in at most one way.

@@ -6,13 +6,13 @@ use Rattle.std.proofs.lemmas.List.Sums.{prefix_len-le-length}
 use Rattle.std.specs.List.{list_any, position, position_or_len, prefix_len}
 use Rattle.std.specs.Prelude.{unwrap_or}
 use Rattle.std.specs.Str.{bytes_eq}
-use Rattle.st_script_faults.specs.Names.{has_name, with_name}
+use Rattle.st_script_faults.specs.Names.{is_name_among, with_new_name}
 
 -- the names of an index
 abbrev pub shown : List (Bor (List ℕ)) → List (List ℕ)
 shown keys = map (λ name. name.now) keys
 
-pub has_shown : (keys : List (Bor (List ℕ))) (name : List ℕ) → list_any (λ key. bytes_eq name key.now) keys ≡ has_name (shown keys) name
+pub has_shown : (keys : List (Bor (List ℕ))) (name : List ℕ) → list_any (λ key. bytes_eq name key.now) keys ≡ is_name_among (shown keys) name
 has_shown [] name = refl
 has_shown (key ∷ keys) name = ap (λ b. bytes_eq name key.now || b) (has_shown keys name)
 
@@ -21,7 +21,7 @@ added_by keys key true = refl
 added_by keys key false = map-append (λ name. name.now) keys (key ∷ [])
 
 -- one more name
-pub added_shown : (keys : List (Bor (List ℕ))) (key : Bor (List ℕ)) → shown (if list_any (λ other. bytes_eq key.now other.now) keys then keys else keys ++ key ∷ []) ≡ with_name (shown keys) key.now
+pub added_shown : (keys : List (Bor (List ℕ))) (key : Bor (List ℕ)) → shown (if list_any (λ other. bytes_eq key.now other.now) keys then keys else keys ++ key ∷ []) ≡ with_new_name (shown keys) key.now
 added_shown keys key =
     added_by keys key (list_any (λ other. bytes_eq key.now other.now) keys) ∙
     ap (λ b. if b then shown keys else shown keys ++ key.now ∷ []) (has_shown keys key.now)

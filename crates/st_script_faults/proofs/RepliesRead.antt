@@ -4,7 +4,7 @@ use Rattle.st_filter.specs.Formula.{FilterValue}
 use Rattle.st_filter.specs.declared.set.Reply.{Reply}
 use Rattle.st_lex.specs.Unquote.{unquoted}
 use Rattle.st_grammar.specs.OneFilter.{filter_in}
-use Rattle.st_script_faults.specs.Faults.{Whole, HasBinaryOf, answer_of, reply_said, expects_other}
+use Rattle.st_script_faults.specs.Faults.{WholeScript, HasBinaryOf, reply_filter, reply_said, expects_other}
 use Rattle.st_script_faults.specs.Names.{Name}
 use Rattle.st_statements.specs.Parts.{is_normal}
 use Rattle.st_statements.specs.declared.statement.ScriptLine.{ScriptLine}
@@ -19,8 +19,8 @@ binary_by binary true None (Some r) is expected = absurd (cc)
 binary_by binary false filter (Some r) is expected = absurd (cc)
 
 -- if a row is expected, the reply that was read of it has the row's binary
-pub has_binary : (whole : Whole) (below : List ScriptLine) (statement : Statement) (reply : Option Reply) →
+pub has_binary : (whole : WholeScript) (below : List ScriptLine) (statement : Statement) (reply : Option Reply) →
     reply ≡ reply_said whole.env (Some statement) → expects_other whole below statement ≡ false → HasBinaryOf reply whole.env statement
 has_binary whole below (says.Reply binary filter) reply is expected =
-    binary_by (unquoted whole.env.dollars binary) (is_normal (unquoted whole.env.dollars binary)) (answer_of (filter_in filter whole.env)) reply is (subst (λ r. not (is_some r) ≡ false) (sym is) expected)
+    binary_by (unquoted whole.env.dollars binary) (is_normal (unquoted whole.env.dollars binary)) (reply_filter (filter_in filter whole.env)) reply is (subst (λ r. not (is_some r) ≡ false) (sym is) expected)
 has_binary whole below _ reply is expected = tt

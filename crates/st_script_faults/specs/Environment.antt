@@ -6,7 +6,7 @@ use Rattle.st_law.specs.declared.input.Options.{Options}
 use Rattle.st_lex.specs.declared.unquoted.Dollars.{Dollars}
 use Rattle.st_grammar.specs.declared.env.Env.{Env}
 use Rattle.st_grammar.specs.declared.env.NamedId.{NamedId}
-use Rattle.st_script_faults.specs.Names.{Name, has_name, with_name}
+use Rattle.st_script_faults.specs.Names.{Name, is_name_among, with_new_name}
 use Rattle.st_statements.specs.Parts.{is_long}
 use Rattle.st_script_faults.specs.declared.limits.TheConstants.{MOST_PROCESSES}
 use Rattle.st_statements.specs.declared.statement.ScriptLine.{ScriptLine}
@@ -18,7 +18,7 @@ use Rattle.st_trace.specs.declared.start.UserRow.{UserRow}
 
 -- the user that a row defines, if no row above has its name
 abbrev pub new_user : List Name → Option Statement → Option UserRow
-new_user known (Some (says.User user)) = if has_name known user.name then None else Some user
+new_user known (Some (says.User user)) = if is_name_among known user.name then None else Some user
 new_user known _ = None
 
 -- the users that lines define, below rows that define these names: of each name the first
@@ -26,13 +26,13 @@ abbrev pub users_below : List Name → List ScriptLine → List UserRow
 users_below known [] = []
 users_below known (line ∷ lines) =
     elim (new_user known line.says) [
-      | Some user ↦ user ∷ users_below (with_name known user.name) lines
+      | Some user ↦ user ∷ users_below (with_new_name known user.name) lines
       | None ↦ users_below known lines
     ]
 
 -- the group that a row defines, if no row above has its name
 abbrev pub new_group : List Name → Option Statement → Option GroupRow
-new_group known (Some (says.Group group)) = if has_name known group.name then None else Some group
+new_group known (Some (says.Group group)) = if is_name_among known group.name then None else Some group
 new_group known _ = None
 
 -- the groups that lines define, below rows that define these names: of each name the first
@@ -40,19 +40,19 @@ abbrev pub groups_below : List Name → List ScriptLine → List GroupRow
 groups_below known [] = []
 groups_below known (line ∷ lines) =
     elim (new_group known line.says) [
-      | Some group ↦ group ∷ groups_below (with_name known group.name) lines
+      | Some group ↦ group ∷ groups_below (with_new_name known group.name) lines
       | None ↦ groups_below known lines
     ]
 
 -- the process of a row, if it has one
-abbrev pub process_of : Option Statement → Option ScriptProcess
-process_of (Some (says.Process process)) = Some process
-process_of _ = None
+abbrev pub script_process : Option Statement → Option ScriptProcess
+script_process (Some (says.Process process)) = Some process
+script_process _ = None
 
 -- whether a process is refused, given the processes above: its name is taken, there are too many, or its binary or directory is too long
 abbrev pub is_refused : List Name → ScriptProcess → Bool
 is_refused known process =
-    has_name known process.name || (nat_le MOST_PROCESSES (length known) || (is_long process.binary || is_long process.cwd))
+    is_name_among known process.name || (nat_le MOST_PROCESSES (length known) || (is_long process.binary || is_long process.cwd))
 
 -- whether a process is traced and isn't refused
 abbrev pub is_given : List Name → ScriptProcess → Bool
@@ -62,8 +62,8 @@ is_given known process = process.traced && not (is_refused known process)
 abbrev pub first_traced : List Name → List ScriptLine → Option ScriptProcess
 first_traced known [] = None
 first_traced known (line ∷ lines) =
-    elim (process_of line.says) [
-      | Some process ↦ if is_given known process then Some process else first_traced (with_name known process.name) lines
+    elim (script_process line.says) [
+      | Some process ↦ if is_given known process then Some process else first_traced (with_new_name known process.name) lines
       | None ↦ first_traced known lines
     ]
 

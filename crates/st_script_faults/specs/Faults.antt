@@ -16,7 +16,7 @@ use Rattle.st_model.specs.declared.object.NewKind.TheVariants as kind
 use Rattle.st_grammar.specs.OneFilter.{FilterResult, filter_in}
 use Rattle.st_grammar.specs.declared.env.Env.{Env}
 use Rattle.st_script_faults.specs.Environment.{environment_of}
-use Rattle.st_script_faults.specs.Names.{Name, Names, no_names, has_name, with_name, with_says, store_count, directory_of, is_directory}
+use Rattle.st_script_faults.specs.Names.{Name, Names, no_names, is_name_among, with_new_name, with_says, store_count, directory_of, is_known_directory}
 use Rattle.st_statements.specs.Parts.{is_normal, is_long}
 use Rattle.st_script_faults.specs.declared.limits.TheConstants.{MOST_INSTRUCTIONS, MOST_PROCESSES, MOST_THREADS, MOST_TREE_ROWS}
 use Rattle.st_statements.specs.declared.statement.ScriptLine.{ScriptLine}
@@ -24,8 +24,8 @@ use Rattle.st_statements.specs.declared.statement.Statement.{Statement}
 use Rattle.st_statements.specs.declared.statement.Statement.TheVariants as says
 
 -- what each row is read with, from the whole script
-pub record Whole : Type 0 where
-  -- whether a lexical fault cuts the script off
+pub record WholeScript : Type 0 where
+  -- whether a script_lexical_fault fault cuts the script off
   pub is_cut : Bool
   -- the threads of all rows, and those that start in a process
   pub threads : List Name
@@ -41,9 +41,9 @@ unless_ask filter (Deny errno) = Some filter
 unless_ask filter Ask = None
 
 -- the filter of a reply, if it is read and doesn't ask
-abbrev pub answer_of : FilterResult → Option FilterValue
-answer_of (Ok filter) = unless_ask filter filter.action
-answer_of (Err fault) = None
+abbrev pub reply_filter : FilterResult → Option FilterValue
+reply_filter (Ok filter) = unless_ask filter filter.action
+reply_filter (Err fault) = None
 
 -- a reply to questions about this binary, if its name is normal
 abbrev pub reply_for : Name → Option FilterValue → Option Reply
@@ -51,7 +51,7 @@ reply_for binary filter = if is_normal binary then option_map (λ f. record { bi
 
 -- the reply of a row's quoted binary and filter, if they are valid
 abbrev pub reply_in : Env → List ℕ → List ℕ → Option Reply
-reply_in env binary filter = reply_for (unquoted env.dollars binary) (answer_of (filter_in filter env))
+reply_in env binary filter = reply_for (unquoted env.dollars binary) (reply_filter (filter_in filter env))
 
 -- the reply of a line, if it has one
 abbrev pub reply_said : Env → Option Statement → Option Reply
@@ -69,9 +69,9 @@ with_reply replies None = replies
 with_reply replies (Some reply) = replies ++ reply ∷ []
 
 -- these replies, with those of lines added after them
-abbrev pub replies_behind : Env → List Reply → List ScriptLine → List Reply
-replies_behind env replies [] = replies
-replies_behind env replies (line ∷ lines) = replies_behind env (with_reply replies (reply_said env line.says)) lines
+abbrev pub replies_after : Env → List Reply → List ScriptLine → List Reply
+replies_after env replies [] = replies
+replies_after env replies (line ∷ lines) = replies_after env (with_reply replies (reply_said env line.says)) lines
 
 -- whether a row is the end of a thread's body
 abbrev pub is_end : Option Statement → Bool
@@ -85,29 +85,29 @@ ends_body line = is_end line.says
 -- ---- what is wrong with a row, by the rows above and below it
 
 -- a thread that no `end` follows, unless the script is cut off, or a reply that isn't valid
-abbrev pub expects_other : Whole → List ScriptLine → Statement → Bool
+abbrev pub expects_other : WholeScript → List ScriptLine → Statement → Bool
 expects_other whole below (says.Thread name process) = not whole.is_cut && not (list_any ends_body below)
 expects_other whole below (says.Reply binary filter) = not (is_some (reply_in whole.env binary filter))
 expects_other whole below _ = false
 
 -- an object without its directory, a thread without its process, or, unless the script is cut off, a fork of a thread that doesn't exist
-abbrev pub is_unknown : Whole → Names → Statement → Bool
-is_unknown whole above (says.Object path new) = not (is_directory above.directories (directory_of path))
-is_unknown whole above (says.Thread name (Some process)) = not (has_name above.processes process)
-is_unknown whole above (says.Fork name) = not whole.is_cut && not (has_name whole.threads name)
+abbrev pub is_unknown : WholeScript → Names → Statement → Bool
+is_unknown whole above (says.Object path new) = not (is_known_directory above.directories (directory_of path))
+is_unknown whole above (says.Thread name (Some process)) = not (is_name_among above.processes process)
+is_unknown whole above (says.Fork name) = not whole.is_cut && not (is_name_among whole.threads name)
 is_unknown whole above _ = false
 
 -- whether a thread starts in a process, or by a fork above
-abbrev pub is_started : Whole → Names → Name → Bool
-is_started whole above name = has_name whole.started name || has_name above.forked name
+abbrev pub is_started : WholeScript → Names → Name → Bool
+is_started whole above name = is_name_among whole.started name || is_name_among above.forked name
 
 -- a name that is defined again, or a fork of a thread that is started already
-abbrev pub is_duplicate : Whole → Names → Statement → Bool
-is_duplicate whole above (says.User user) = has_name above.users user.name
-is_duplicate whole above (says.Group group) = has_name above.groups group.name
-is_duplicate whole above (says.Object path new) = has_name above.paths path
-is_duplicate whole above (says.Process process) = has_name above.processes process.name
-is_duplicate whole above (says.Thread name process) = has_name above.threads name
+abbrev pub is_duplicate : WholeScript → Names → Statement → Bool
+is_duplicate whole above (says.User user) = is_name_among above.users user.name
+is_duplicate whole above (says.Group group) = is_name_among above.groups group.name
+is_duplicate whole above (says.Object path new) = is_name_among above.paths path
+is_duplicate whole above (says.Process process) = is_name_among above.processes process.name
+is_duplicate whole above (says.Thread name process) = is_name_among above.threads name
 is_duplicate whole above (says.Fork name) = is_started whole above name
 is_duplicate whole above _ = false
 
@@ -127,7 +127,7 @@ abbrev pub exceeds : Names → ℕ → Bool
 exceeds above count = nat_lt MOST_INSTRUCTIONS (above.instructions + count)
 
 -- too many rows or instructions, or too many bytes, up to this row
-abbrev pub is_too_many : Whole → Names → Statement → Bool
+abbrev pub is_too_many : WholeScript → Names → Statement → Bool
 is_too_many whole above (says.Object path new) = nat_le MOST_TREE_ROWS (length above.paths) || (is_long path || is_large new.kind)
 is_too_many whole above (says.Process process) =
     nat_le MOST_PROCESSES (length above.processes) || (is_long process.binary || is_long process.cwd)
@@ -142,8 +142,8 @@ is_too_many whole above _ = false
 -- ---- faults
 
 -- the fault of a row: the first kind that applies
-abbrev pub fault_of : Whole → Names → List ScriptLine → ℕ → Statement → Option ScriptFault
-fault_of whole above below line statement =
+abbrev pub row_fault : WholeScript → Names → List ScriptLine → ℕ → Statement → Option ScriptFault
+row_fault whole above below line statement =
     if expects_other whole below statement then Some (Expected line)
     else if is_unknown whole above statement then Some (UnknownName line)
     else if is_duplicate whole above statement then Some (Duplicate line)
@@ -151,16 +151,16 @@ fault_of whole above below line statement =
     else None
 
 -- the fault of a line, by what it says; a line that says nothing isn't in the grammar
-abbrev pub fault_by : Whole → Names → List ScriptLine → ℕ → Option Statement → Option ScriptFault
-fault_by whole above below line None = Some (Expected line)
-fault_by whole above below line (Some statement) = fault_of whole above below line statement
+abbrev pub statement_fault : WholeScript → Names → List ScriptLine → ℕ → Option Statement → Option ScriptFault
+statement_fault whole above below line None = Some (Expected line)
+statement_fault whole above below line (Some statement) = row_fault whole above below line statement
 
 -- the fault of a line
-abbrev pub line_fault : Whole → Names → List ScriptLine → ScriptLine → Option ScriptFault
-line_fault whole above below line = fault_by whole above below line.number line.says
+abbrev pub line_fault : WholeScript → Names → List ScriptLine → ScriptLine → Option ScriptFault
+line_fault whole above below line = statement_fault whole above below line.number line.says
 
 -- the fault of the first line that has one, below rows that define these names
-abbrev pub first_fault : Whole → Names → List ScriptLine → Option ScriptFault
+abbrev pub first_fault : WholeScript → Names → List ScriptLine → Option ScriptFault
 first_fault whole above [] = None
 first_fault whole above (line ∷ lines) =
     elim (line_fault whole above lines line) [
@@ -169,44 +169,44 @@ first_fault whole above (line ∷ lines) =
     ]
 
 -- names, with that of a row's thread added, if the row is a thread's
-abbrev pub with_thread : List Name → Option Statement → List Name
-with_thread names (Some (says.Thread name process)) = with_name names name
-with_thread names _ = names
+abbrev pub with_thread_name : List Name → Option Statement → List Name
+with_thread_name names (Some (says.Thread name process)) = with_new_name names name
+with_thread_name names _ = names
 
 -- these threads, with those of lines added after them
-abbrev pub threads_behind : List Name → List ScriptLine → List Name
-threads_behind names [] = names
-threads_behind names (line ∷ lines) = threads_behind (with_thread names line.says) lines
+abbrev pub threads_after : List Name → List ScriptLine → List Name
+threads_after names [] = names
+threads_after names (line ∷ lines) = threads_after (with_thread_name names line.says) lines
 
 -- names, with that of a row's thread added, if the thread starts in a process
 abbrev pub with_started : List Name → Option Statement → List Name
-with_started names (Some (says.Thread name (Some process))) = with_name names name
+with_started names (Some (says.Thread name (Some process))) = with_new_name names name
 with_started names _ = names
 
 -- these threads, with those of lines that start in a process added after them
-abbrev pub started_behind : List Name → List ScriptLine → List Name
-started_behind names [] = names
-started_behind names (line ∷ lines) = started_behind (with_started names line.says) lines
+abbrev pub started_after : List Name → List ScriptLine → List Name
+started_after names [] = names
+started_after names (line ∷ lines) = started_after (with_started names line.says) lines
 
 -- what the rows of a script are read with, from the whole script
-abbrev pub whole_of : Bool → Options → List ScriptLine → Whole
+abbrev pub whole_of : Bool → Options → List ScriptLine → WholeScript
 whole_of is_cut options lines = record {
   is_cut = is_cut;
-  threads = threads_behind [] lines;
-  started = started_behind [] lines;
+  threads = threads_after [] lines;
+  started = started_after [] lines;
   env = environment_of options lines;
 }
 
--- the lexical fault of a script
-abbrev pub lexical : Option LexFault → Option ScriptFault
-lexical fault = option_map Lex fault
+-- the script_lexical_fault fault of a script
+abbrev pub script_lexical_fault : Option LexFault → Option ScriptFault
+script_lexical_fault fault = option_map Lex fault
 
 -- the first of two faults, if any
 abbrev pub first_of : Option ScriptFault → Option ScriptFault → Option ScriptFault
 first_of (Some fault) other = Some fault
 first_of None other = other
 
--- the fault of a script: that of its first line that has one, otherwise the lexical fault
+-- the fault of a script: that of its first line that has one, otherwise the script_lexical_fault fault
 abbrev pub script_fault : Options → Option LexFault → List ScriptLine → Option ScriptFault
 script_fault options broken lines =
-    first_of (first_fault (whole_of (is_some broken) options lines) no_names lines) (lexical broken)
+    first_of (first_fault (whole_of (is_some broken) options lines) no_names lines) (script_lexical_fault broken)

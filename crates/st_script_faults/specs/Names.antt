@@ -14,16 +14,16 @@ abbrev pub Name : Type 0
 Name = List ℕ
 
 -- whether a name is among some
-abbrev pub has_name : List Name → Name → Bool
-has_name names name = list_any (bytes_eq name) names
+abbrev pub is_name_among : List Name → Name → Bool
+is_name_among names name = list_any (bytes_eq name) names
 
 -- names with one more, unless it is among them already
-abbrev pub with_name : List Name → Name → List Name
-with_name names name = if has_name names name then names else names ++ name ∷ []
+abbrev pub with_new_name : List Name → Name → List Name
+with_new_name names name = if is_name_among names name then names else names ++ name ∷ []
 
 -- the number of a name among some, counted from 1; one more than their count if it isn't among them
-abbrev pub number_of : List Name → Name → ℕ
-number_of names name = saturated (position_or_len (bytes_eq name) names + 1)
+abbrev pub name_number : List Name → Name → ℕ
+name_number names name = saturated (position_or_len (bytes_eq name) names + 1)
 
 -- what rows define
 pub record Names : Type 0 where
@@ -44,7 +44,7 @@ no_names = record { users = []; groups = []; paths = []; directories = []; proce
 
 -- the directories, with this path added if the new object there is a directory
 abbrev pub with_object : List Name → Name → NewKind → List Name
-with_object directories path kind.Dir = with_name directories path
+with_object directories path kind.Dir = with_new_name directories path
 with_object directories path (kind.File content) = directories
 with_object directories path (kind.Link target) = directories
 
@@ -54,17 +54,17 @@ store_count bytes = length bytes / 8 + 1
 
 -- the names, with what a row defines added
 abbrev pub with_statement : Names → Statement → Names
-with_statement names (says.User user) = record names { users = with_name names.users user.name }
-with_statement names (says.Group group) = record names { groups = with_name names.groups group.name }
+with_statement names (says.User user) = record names { users = with_new_name names.users user.name }
+with_statement names (says.Group group) = record names { groups = with_new_name names.groups group.name }
 with_statement names (says.Object path new) =
-    record names { paths = with_name names.paths path; directories = with_object names.directories path new.kind }
-with_statement names (says.Process process) = record names { processes = with_name names.processes process.name }
-with_statement names (says.Thread name process) = record names { threads = with_name names.threads name }
+    record names { paths = with_new_name names.paths path; directories = with_object names.directories path new.kind }
+with_statement names (says.Process process) = record names { processes = with_new_name names.processes process.name }
+with_statement names (says.Thread name process) = record names { threads = with_new_name names.threads name }
 with_statement names (says.Reply binary filter) = names
 with_statement names (says.Store place word) = record names { instructions = names.instructions + 1 }
 with_statement names (says.Put place bytes) = record names { instructions = names.instructions + store_count bytes }
 with_statement names (says.Call call regs) = record names { instructions = names.instructions + 1 }
-with_statement names (says.Fork name) = record names { forked = with_name names.forked name; instructions = names.instructions + 1 }
+with_statement names (says.Fork name) = record names { forked = with_new_name names.forked name; instructions = names.instructions + 1 }
 with_statement names says.End = names
 
 -- the same, if a row says something
@@ -82,6 +82,6 @@ abbrev pub directory_of : List ℕ → List ℕ
 directory_of path = take (last_slash path (length path)) path
 
 -- whether a directory exists: its path is empty, as the root's, or among these
-abbrev pub is_directory : List Name → Name → Bool
-is_directory directories [] = true
-is_directory directories (byte ∷ bytes) = has_name directories (byte ∷ bytes)
+abbrev pub is_known_directory : List Name → Name → Bool
+is_known_directory directories [] = true
+is_known_directory directories (byte ∷ bytes) = is_name_among directories (byte ∷ bytes)

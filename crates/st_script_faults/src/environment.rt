@@ -1,5 +1,5 @@
 ghost use Rattle.std.specs.Prelude.{◌≡◌, ◌++◌, [], find, ◌==◌, map, decimal, IfOk, OnOk, option_copied};
-ghost use Rattle.st_script_faults.specs.Environment.{new_user, users_below, new_group, groups_below, process_of, is_refused, is_given, first_traced, user_of, dollars_by, dollars_of, user_id, group_id, learns, environment_of};
+ghost use Rattle.st_script_faults.specs.Environment.{new_user, users_below, new_group, groups_below, script_process, is_refused, is_given, first_traced, user_of, dollars_by, dollars_of, user_id, group_id, learns, environment_of};
 
 use crate::limits::MOST_PROCESSES;
 use crate::names::NameIndex;
@@ -96,7 +96,7 @@ fn group_ids(alloc: Global, lines: &[ScriptLine]) -> Result<Sequence<NamedId>, A
 
 /// The process of a row, if it has one.
 pub fn process_of(says: &Option<Statement>) -> Option<&ScriptProcess>
-    ensures { option_copied result ≡ process_of says.now }
+    ensures { option_copied result ≡ script_process says.now }
 {
     match says {
         Some(Statement::Process(process)) => Some(process),

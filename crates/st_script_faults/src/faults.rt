@@ -1,7 +1,7 @@
 ghost use Rattle.std.specs.Prelude.{◌≡◌, ◌^◌, ◌≤◌, List, Some, None, Ok, [], IfOk, OnOk};
 ghost use Rattle.std.specs.List.{list_any};
-ghost use Rattle.st_script_faults.specs.Faults.{answer_of, reply_for, reply_in, reply_said, replies_behind, with_reply, is_end, ends_body, expects_other, is_unknown, is_started, is_duplicate, is_large, is_long_reply, HasBinaryOf, exceeds, is_too_many, fault_of, fault_by, line_fault, first_fault, with_thread, threads_behind, with_started, started_behind, whole_of};
-ghost use Rattle.st_script_faults.specs.FirstFault.{IsFirstFault};
+ghost use Rattle.st_script_faults.specs.Faults.{reply_filter, reply_for, reply_in, reply_said, replies_after, with_reply, is_end, ends_body, expects_other, is_unknown, is_started, is_duplicate, is_large, is_long_reply, HasBinaryOf, exceeds, is_too_many, row_fault, statement_fault, line_fault, first_fault, with_thread_name, threads_after, with_started, started_after, whole_of};
+ghost use Rattle.st_script_faults.specs.FirstFault.{IsFirstScriptFault};
 ghost use Rattle.st_script_faults.specs.Faults as spec;
 ghost use Rattle.st_script_faults.specs.Names.{no_names, with_says};
 ghost use Rattle.st_script_faults.specs.declared.fault.ScriptFault.{ScriptFault};
@@ -38,16 +38,16 @@ pub struct Whole<'a> {
 }
 
 impl<'a> Model for Whole<'a> {
-    ghost use Rattle.st_script_faults.specs.Faults.{Whole};
+    ghost use Rattle.st_script_faults.specs.Faults.{WholeScript};
 
-    ghost Value = { Whole };
+    ghost Value = { WholeScript };
 
     ghost view = { λ w. record { is_cut = w.is_cut; threads = w.threads; started = w.started; env = w.env } };
 }
 
 // A filter, unless it asks.
 fn unless_ask(filter: Filter) -> Option<Filter>
-    ensures { result ≡ answer_of (Ok filter) }
+    ensures { result ≡ reply_filter (Ok filter) }
 {
     match filter.action() {
         Action::Permit => Some(filter),
@@ -58,7 +58,7 @@ fn unless_ask(filter: Filter) -> Option<Filter>
 
 // The filter of a reply, if it is read and doesn't ask.
 fn answer_of(alloc: Global, text: &FilterText, env: &Env) -> Result<Option<Filter>, AllocError>
-    ensures { IfOk result (λ found. found ≡ answer_of (filter_in text.now env.now)) }
+    ensures { IfOk result (λ found. found ≡ reply_filter (filter_in text.now env.now)) }
 {
     match read_filter(alloc, text.bytes(), env) {
         Ok(filter) => Ok(unless_ask(filter)),
@@ -227,7 +227,7 @@ fn is_long_reply(reply: &Option<Reply>) -> bool
 // Too many rows or instructions, or too many bytes, up to this row.
 fn is_too_many(above: &NamesAbove, statement: &Statement, reply: &Option<Reply>) -> bool
     requires { above.now.instructions ≤ MOST_INSTRUCTIONS }
-    ensures { (whole : spec.Whole) → HasBinaryOf reply.now whole.env statement.now → result ≡ is_too_many whole above.now statement.now }
+    ensures { (whole : spec.WholeScript) → HasBinaryOf reply.now whole.env statement.now → result ≡ is_too_many whole above.now statement.now }
 {
     match statement {
         Statement::Object { path, new } => {
@@ -259,7 +259,7 @@ fn fault_with(
 ) -> Option<ScriptFault>
     requires few { above.now.instructions ≤ MOST_INSTRUCTIONS }
     requires reply { reply.now ≡ reply_said whole.now.env (Some statement.now) }
-    ensures { result ≡ fault_of whole.now above.now below.now line statement.now }
+    ensures { result ≡ row_fault whole.now above.now below.now line statement.now }
 {
     if expects_other(whole, below, statement, reply) {
         return Some(ScriptFault::Expected(line));
@@ -287,7 +287,7 @@ fn fault_of(
     replies: &mut Sequence<Reply>,
 ) -> Result<Option<ScriptFault>, AllocError>
     requires { above.now.instructions ≤ MOST_INSTRUCTIONS }
-    ensures fault { IfOk result (λ fault. fault ≡ fault_of whole.now above.now below.now line statement.now) }
+    ensures fault { IfOk result (λ fault. fault ≡ row_fault whole.now above.now below.now line statement.now) }
     ensures replies { OnOk result (replies.new ≡ with_reply replies.old (reply_said whole.now.env (Some statement.now))) }
 {
     let reply = reply_said(alloc, &whole.env, statement)?;
@@ -331,7 +331,7 @@ fn fault_among<'a>(
 ) -> Result<Option<ScriptFault>, AllocError>
     requires { above.old.instructions ≤ MOST_INSTRUCTIONS }
     ensures fault { IfOk result (λ fault. fault ≡ first_fault whole.now above.old lines.now) }
-    ensures replies { IfOk result (λ fault. fault ≡ None → replies.new ≡ replies_behind whole.now.env replies.old lines.now) }
+    ensures replies { IfOk result (λ fault. fault ≡ None → replies.new ≡ replies_after whole.now.env replies.old lines.now) }
 {
     let mut rest = lines;
     while let Some((line, below)) = rest.split_first() {
@@ -352,14 +352,14 @@ pub fn first_fault(
     replies: &mut Sequence<Reply>,
 ) -> Result<Option<ScriptFault>, AllocError>
     ensures fault { IfOk result (λ fault. fault ≡ first_fault whole.now no_names lines.now) }
-    ensures replies { IfOk result (λ fault. fault ≡ None → replies.new ≡ replies_behind whole.now.env replies.old lines.now) }
+    ensures replies { IfOk result (λ fault. fault ≡ None → replies.new ≡ replies_after whole.now.env replies.old lines.now) }
 {
     let mut above = NamesAbove::new(alloc);
     fault_among(alloc, whole, &mut above, lines, replies)
 }
 
 fn add_thread<'a>(names: &mut NameIndex<'a>, says: &'a Option<Statement>) -> Result<(), AllocError>
-    ensures { OnOk result (names.new ≡ with_thread names.old says.now) }
+    ensures { OnOk result (names.new ≡ with_thread_name names.old says.now) }
 {
     match says {
         Some(Statement::Thread { name, .. }) => names.add(name.bytes()),
@@ -369,7 +369,7 @@ fn add_thread<'a>(names: &mut NameIndex<'a>, says: &'a Option<Statement>) -> Res
 
 /// The threads of lines, in order.
 pub fn threads_of<'a>(alloc: Global, lines: &'a [ScriptLine]) -> Result<NameIndex<'a>, AllocError>
-    ensures { IfOk result (λ names. names ≡ threads_behind [] lines.now) }
+    ensures { IfOk result (λ names. names ≡ threads_after [] lines.now) }
 {
     let mut names = NameIndex::new(alloc);
     for line in lines {
@@ -394,7 +394,7 @@ fn add_started<'a>(names: &mut NameIndex<'a>, says: &'a Option<Statement>) -> Re
 
 // The threads of lines that start in a process, in order.
 fn started_of<'a>(alloc: Global, lines: &'a [ScriptLine]) -> Result<NameIndex<'a>, AllocError>
-    ensures { IfOk result (λ names. names ≡ started_behind [] lines.now) }
+    ensures { IfOk result (λ names. names ≡ started_after [] lines.now) }
 {
     let mut names = NameIndex::new(alloc);
     for line in lines {
@@ -422,5 +422,5 @@ pub fn whole_of<'a>(
 
 /// The fault of lines is the fault of one of them, given the rows above and below it, and no line above it has a fault.
 pub fn the_fault_is_the_first()
-    ensures { (whole : spec.Whole) (lines : List ScriptLine) (fault : ScriptFault) → first_fault whole no_names lines ≡ Some fault → IsFirstFault whole no_names lines fault }
+    ensures { (whole : spec.WholeScript) (lines : List ScriptLine) (fault : ScriptFault) → first_fault whole no_names lines ≡ Some fault → IsFirstScriptFault whole no_names lines fault }
 {}

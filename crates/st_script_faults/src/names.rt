@@ -1,5 +1,5 @@
 ghost use Rattle.std.specs.Prelude.{◌≡◌, ◌≤◌, ◌<◌, ◌+◌, ◌^◌, [], length, OnOk};
-ghost use Rattle.st_script_faults.specs.Names.{has_name, with_name, number_of, no_names, with_object, store_count, with_statement, with_says, last_slash, directory_of, is_directory};
+ghost use Rattle.st_script_faults.specs.Names.{is_name_among, with_new_name, name_number, no_names, with_object, store_count, with_statement, with_says, last_slash, directory_of, is_known_directory};
 
 use indexmap::IndexSet;
 use st_base::Text;
@@ -42,14 +42,14 @@ impl<'a> NameIndex<'a> {
 
     /// Whether a name is in the index.
     pub fn has(&self, name: &[u8]) -> bool
-        ensures { result ≡ has_name self.now name.now }
+        ensures { result ≡ is_name_among self.now name.now }
     {
         self.names.contains(name)
     }
 
     /// The number of a name, counted from 1; one more than their count if it isn't in the index.
     pub fn number_of(&self, name: &[u8]) -> u32
-        ensures { result ≡ number_of self.now name.now }
+        ensures { result ≡ name_number self.now name.now }
     {
         let place = self.names.get_index_of(name).unwrap_or(self.names.len());
         saturated(place as u64 + 1)
@@ -57,7 +57,7 @@ impl<'a> NameIndex<'a> {
 
     /// Adds a name, unless it is in the index.
     pub fn add(&mut self, name: &'a [u8]) -> Result<(), AllocError>
-        ensures { OnOk result (self.new ≡ with_name self.old name.now) }
+        ensures { OnOk result (self.new ≡ with_new_name self.old name.now) }
     {
         self.names.insert(name)?;
         Ok(())
@@ -133,13 +133,13 @@ impl<'a> NamesAbove<'a> {
 
     /// Whether a directory exists: its path is empty, as the root's, or among those of the rows.
     pub fn is_directory(&self, path: &[u8]) -> bool
-        ensures { result ≡ is_directory self.now.directories path.now }
+        ensures { result ≡ is_known_directory self.now.directories path.now }
     {
         path.is_empty() || self.directories.has(path)
     }
 
     fn add_object(&mut self, path: &'a [u8], kind: &NewKind) -> Result<(), AllocError>
-        ensures { OnOk result (self.new ≡ record self.old { paths = with_name self.old.paths path.now; directories = with_object self.old.directories path.now kind.now }) }
+        ensures { OnOk result (self.new ≡ record self.old { paths = with_new_name self.old.paths path.now; directories = with_object self.old.directories path.now kind.now }) }
     {
         self.paths.add(path)?;
         match kind {
@@ -150,7 +150,7 @@ impl<'a> NamesAbove<'a> {
 
     fn add_fork(&mut self, name: &'a [u8]) -> Result<(), AllocError>
         requires { self.old.instructions < 2 ^ 63 }
-        ensures { OnOk result (self.new ≡ record self.old { forked = with_name self.old.forked name.now; instructions = self.old.instructions + 1 }) }
+        ensures { OnOk result (self.new ≡ record self.old { forked = with_new_name self.old.forked name.now; instructions = self.old.instructions + 1 }) }
     {
         self.forked.add(name)?;
         self.instructions += 1;

@@ -7,17 +7,17 @@ use Rattle.st_lex.specs.declared.token.Token.{Token}
 use Rattle.st_lex.specs.Text.{text_of_token, is_word}
 use Rattle.st_model.specs.declared.limits.TheConstants.{SPACE_BYTES, SPACE_WORDS}
 use Rattle.st_statements.specs.Parts.{word_at, quoted_at}
-use Rattle.st_statements.specs.Values.{number_at, number_below}
+use Rattle.st_statements.specs.Values.{number_token, number_below}
 use Rattle.st_statements.specs.declared.statement.Statement.{Statement}
 use Rattle.st_statements.specs.declared.statement.Statement.TheVariants.{Store, Put, Call, Fork, End}
 
 -- the word index that a token spells
 abbrev pub word_place_at : List ℕ → Token → Option ℕ
-word_place_at text token = option_and_then (number_below SPACE_WORDS) (number_at text token)
+word_place_at text token = option_and_then (number_below SPACE_WORDS) (number_token text token)
 
 -- PLACE WORD
 abbrev pub store_row : List ℕ → List Token → Option Statement
-store_row text (place ∷ word ∷ []) = option_and_then (λ p. option_map (Store p) (number_at text word)) (word_place_at text place)
+store_row text (place ∷ word ∷ []) = option_and_then (λ p. option_map (Store p) (number_token text word)) (word_place_at text place)
 store_row text _ = None
 
 -- the index of the first word of a text put at this byte, if the byte is a word's first and the text and a zero byte fit into memory
@@ -30,17 +30,17 @@ put_at bytes at = option_map (λ p. Put p bytes) (put_place bytes at)
 
 -- AT "text"
 abbrev pub put_row : List ℕ → List Token → Option Statement
-put_row text (at ∷ quoted ∷ []) = option_and_then (λ bytes. option_and_then (put_at bytes) (number_at text at)) (quoted_at text quoted)
+put_row text (at ∷ quoted ∷ []) = option_and_then (λ bytes. option_and_then (put_at bytes) (number_token text at)) (quoted_at text quoted)
 put_row text _ = None
 
 -- a register: the number that a token spells, 0 if there is no token
-abbrev pub register_of : List ℕ → Option Token → Option ℕ
-register_of text None = Some 0
-register_of text (Some token) = number_at text token
+abbrev pub register_token : List ℕ → Option Token → Option ℕ
+register_token text None = Some 0
+register_token text (Some token) = number_token text token
 
 -- the register with this index, among the numbers of a row
 abbrev pub register_at : List ℕ → List Token → ℕ → Option ℕ
-register_at text numbers place = register_of text (slice_get numbers place)
+register_at text numbers place = register_token text (slice_get numbers place)
 
 -- the six registers from up to six numbers; those without a number are 0
 abbrev pub registers : List ℕ → List Token → Option (List ℕ)

@@ -23,8 +23,8 @@ whole_lines tokens None = tokens
 whole_lines tokens (Some fault) = up_to_last_line tokens
 
 -- the tokens that are read
-abbrev pub looked_at : Lexed → List Token
-looked_at lexed = whole_lines lexed.tokens lexed.fault
+abbrev pub tokens_before_fault_line : Lexed → List Token
+tokens_before_fault_line lexed = whole_lines lexed.tokens lexed.fault
 
 -- the line of an offset of a text, counted from 1
 abbrev pub line_at : List ℕ → ℕ → ℕ

@@ -50,8 +50,8 @@ abbrev pub last_of : Token → List Token → Token
 last_of token tokens = unwrap_or (slice_get tokens (length tokens - 1)) token
 
 -- the offset after the last of some tokens
-abbrev pub end_of : Token → List Token → ℕ
-end_of token tokens = (last_of token tokens).at + (last_of token tokens).len
+abbrev pub last_end : Token → List Token → ℕ
+last_end token tokens = (last_of token tokens).at + (last_of token tokens).len
 
 -- the bytes of a text from one offset to another
 abbrev pub between : List ℕ → ℕ → ℕ → List ℕ
@@ -60,4 +60,4 @@ between text start end = take (end - start) (drop start text)
 -- the bytes of a text from the first to the last of some tokens
 abbrev pub text_of_tokens : List ℕ → List Token → List ℕ
 text_of_tokens text [] = []
-text_of_tokens text (token ∷ tokens) = between text token.at (end_of token tokens)
+text_of_tokens text (token ∷ tokens) = between text token.at (last_end token tokens)

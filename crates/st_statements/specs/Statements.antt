@@ -6,7 +6,7 @@ use Rattle.st_lex.specs.Text.{is_keyword}
 use Rattle.st_lex.specs.Tokens.{lexed_text}
 use Rattle.st_statements.specs.Accounts.{user_row, group_row}
 use Rattle.st_statements.specs.Instructions.{store_row, put_row, call_row, fork_row, end_row}
-use Rattle.st_statements.specs.Lines.{looked_at, line_of_row}
+use Rattle.st_statements.specs.Lines.{tokens_before_fault_line, line_of_row}
 use Rattle.st_statements.specs.Objects.{dir_row, file_row, link_row}
 use Rattle.st_statements.specs.Tasks.{process_row, thread_row, reply_row}
 use Rattle.st_statements.specs.declared.statement.ScriptLine.{ScriptLine}
@@ -42,21 +42,21 @@ statement_of text inside [] = None
 statement_of text inside (keyword ∷ row) = if inside then inner_row text keyword row else outer_row text keyword row
 
 -- whether the rows after a row are inside a body: `thread` opens one, and only `end` closes it
-abbrev pub is_inside_behind : Bool → Option Statement → Bool
-is_inside_behind inside (Some (Thread name process)) = true
-is_inside_behind inside (Some End) = false
-is_inside_behind inside _ = inside
+abbrev pub is_inside_after : Bool → Option Statement → Bool
+is_inside_after inside (Some (Thread name process)) = true
+is_inside_after inside (Some End) = false
+is_inside_after inside _ = inside
 
 -- the line of a row, with what it says
-abbrev pub line_of : List Token → Option Statement → ScriptLine
-line_of row says = record { number = line_of_row row; says = says }
+abbrev pub line_saying : List Token → Option Statement → ScriptLine
+line_saying row says = record { number = line_of_row row; says = says }
 
 -- the lines of rows, of which the first is inside a body or outside
-abbrev pub lines_from : List ℕ → Bool → List (List Token) → List ScriptLine
-lines_from text inside [] = []
-lines_from text inside (row ∷ rows) =
-    line_of row (statement_of text inside row) ∷ lines_from text (is_inside_behind inside (statement_of text inside row)) rows
+abbrev pub script_lines_from : List ℕ → Bool → List (List Token) → List ScriptLine
+script_lines_from text inside [] = []
+script_lines_from text inside (row ∷ rows) =
+    line_saying row (statement_of text inside row) ∷ script_lines_from text (is_inside_after inside (statement_of text inside row)) rows
 
 -- the lines of a script that are read
 abbrev pub lines_in : List ℕ → List ScriptLine
-lines_in text = lines_from text false (rows (looked_at (lexed_text text)))
+lines_in text = script_lines_from text false (rows (tokens_before_fault_line (lexed_text text)))

@@ -5,8 +5,8 @@ use Rattle.st_lex.specs.declared.token.Token.{Token}
 use Rattle.st_lex.specs.Text.{text_of_token, is_word}
 
 -- the number that a token spells
-abbrev pub number_at : List ℕ → Token → Option ℕ
-number_at text token = if is_word token.kind then number_in (text_of_token text token) else None
+abbrev pub number_token : List ℕ → Token → Option ℕ
+number_token text token = if is_word token.kind then number_in (text_of_token text token) else None
 
 -- a number, if it is below this bound
 abbrev pub number_below : ℕ → ℕ → Option ℕ
@@ -14,7 +14,7 @@ number_below bound n = if nat_lt n bound then Some n else None
 
 -- a user's or a group's id
 abbrev pub id_at : List ℕ → Token → Option ℕ
-id_at text token = option_and_then (number_below (2 ^ 32)) (number_at text token)
+id_at text token = option_and_then (number_below (2 ^ 32)) (number_token text token)
 
 -- the mode that a token spells
 abbrev pub mode_at : List ℕ → Token → Option ℕ

@@ -2,7 +2,7 @@ ghost use Rattle.std.specs.Prelude.{◌≡◌, ◌^◌, ◌<◌, length, count_b
 ghost use Rattle.st_lex.specs.Slices.{newlines};
 ghost use Rattle.st_lex.specs.Quoted.{place_of};
 ghost use Rattle.st_lex.specs.Rows.{ends_line};
-ghost use Rattle.st_statements.specs.Lines.{saturated, up_to_last_line, whole_lines, looked_at, line_at, line_of_fault, line_of_row};
+ghost use Rattle.st_statements.specs.Lines.{saturated, up_to_last_line, whole_lines, tokens_before_fault_line, line_at, line_of_fault, line_of_row};
 
 use st_lex::{LexFault, Lexed, Token, TokenKind};
 
@@ -34,7 +34,7 @@ fn up_to_last_line(tokens: &[Token]) -> &[Token]
 
 /// The tokens of all lines, or of the lines above the first lexical fault.
 pub fn looked_at(lexed: &Lexed) -> &[Token]
-    ensures { result.now ≡ looked_at lexed.now }
+    ensures { result.now ≡ tokens_before_fault_line lexed.now }
 {
     let tokens = lexed.tokens.as_slice();
     match lexed.fault {

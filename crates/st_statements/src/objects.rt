@@ -1,5 +1,5 @@
 ghost use Rattle.std.specs.Prelude.{◌≡◌, IfOk};
-ghost use Rattle.st_statements.specs.Objects.{node_of, object_of, file_at, link_to, link_at, dir_row, file_node, file_row, link_row};
+ghost use Rattle.st_statements.specs.Objects.{new_node, object_statement, new_file, link_to, link_at, dir_row, file_node, file_row, link_row};
 
 use crate::parts::{place_at, quoted_at};
 use crate::statement::Statement;
@@ -19,7 +19,7 @@ fn node_of(
     gid: Option<u32>,
     mode: Option<u32>,
 ) -> Option<NewNode>
-    ensures { result ≡ node_of kind uid gid mode }
+    ensures { result ≡ new_node kind uid gid mode }
 {
     match (kind, uid, gid, mode) {
         (Some(kind), Some(uid), Some(gid), Some(mode)) => Some(NewNode {
@@ -34,7 +34,7 @@ fn node_of(
 
 // An object at a path, if both were read.
 fn object_of(path: Option<Text>, new: Option<NewNode>) -> Option<Statement>
-    ensures { result ≡ object_of path new }
+    ensures { result ≡ object_statement path new }
 {
     match (path, new) {
         (Some(path), Some(new)) => Some(Statement::Object { path, new }),
@@ -43,7 +43,7 @@ fn object_of(path: Option<Text>, new: Option<NewNode>) -> Option<Statement>
 }
 
 fn file_at(alloc: Global, text: &[u8], content: &Token) -> Result<Option<NewKind>, AllocError>
-    ensures { IfOk result (λ found. found ≡ file_at text.now content.now) }
+    ensures { IfOk result (λ found. found ≡ new_file text.now content.now) }
 {
     let content = quoted_at(alloc, text, content)?;
     Ok(content.map(NewKind::File))

@@ -1,7 +1,7 @@
 ghost use Rattle.std.specs.Prelude.{◌≡◌, ◌≤◌, length, option_copied, IfOk};
 ghost use Rattle.std.specs.List.{list_all};
 ghost use Rattle.st_names.specs.Name.{split_at_slashes};
-ghost use Rattle.st_statements.specs.Parts.{word_at, quoted_at, is_plain_part, is_normal, is_long, path_at, place_at, between, end_of, text_of_tokens};
+ghost use Rattle.st_statements.specs.Parts.{word_at, quoted_at, is_plain_part, is_normal, is_long, path_at, place_at, between, last_end, text_of_tokens};
 
 use st_base::Text;
 use st_lex::{Token, unquote_plain};
@@ -88,10 +88,10 @@ fn between(text: &[u8], start: usize, end: usize) -> &[u8]
 }
 
 // The offset after the last of some tokens.
-fn end_of(first: &Token, behind: &[Token]) -> usize
-    ensures { result ≡ end_of first.now behind.now }
+fn end_of(first: &Token, following: &[Token]) -> usize
+    ensures { result ≡ last_end first.now following.now }
 {
-    let last = behind.last().unwrap_or(first);
+    let last = following.last().unwrap_or(first);
     last.at as usize + last.len as usize
 }
 
@@ -101,7 +101,7 @@ pub fn text_of_tokens<'a>(text: &'a [u8], tokens: &[Token]) -> &'a [u8]
     ensures few { length result.now ≤ length text.now }
 {
     match tokens {
-        [first, behind @ ..] => between(text, first.at as usize, end_of(first, behind)),
+        [first, following @ ..] => between(text, first.at as usize, end_of(first, following)),
         [] => &[],
     }
 }

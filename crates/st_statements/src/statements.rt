@@ -1,6 +1,6 @@
 ghost use Rattle.std.specs.Prelude.{◌≡◌, ◌^◌, ◌<◌, false, length, IfOk};
 ghost use Rattle.st_lex.specs.Rows.{rows};
-ghost use Rattle.st_statements.specs.Statements.{outer_row, inner_row, statement_of, is_inside_behind, lines_from};
+ghost use Rattle.st_statements.specs.Statements.{outer_row, inner_row, statement_of, is_inside_after, script_lines_from};
 
 use crate::accounts::{group_row, user_row};
 use crate::instructions::{call_row, end_row, fork_row, put_row, store_row};
@@ -88,8 +88,8 @@ pub fn statement_of(
 }
 
 // Whether the rows after a row are inside a body.
-fn is_inside_behind(inside: bool, says: &Option<Statement>) -> bool
-    ensures { result ≡ is_inside_behind inside says.now }
+fn is_inside_after(inside: bool, says: &Option<Statement>) -> bool
+    ensures { result ≡ is_inside_after inside says.now }
 {
     match says {
         Some(Statement::Thread { .. }) => true,
@@ -105,17 +105,17 @@ pub fn lines_of_tokens(
     tokens: &[Token],
 ) -> Result<Sequence<ScriptLine>, AllocError>
     requires { length text.now < 2 ^ 32 }
-    ensures { IfOk result (λ lines. lines ≡ lines_from text.now false (rows tokens.now)) }
+    ensures { IfOk result (λ lines. lines ≡ script_lines_from text.now false (rows tokens.now)) }
 {
     let mut lines = Sequence::new(alloc);
     let mut inside = false;
     let mut rest = tokens;
-    while let Some((row, behind)) = next_row(rest) {
+    while let Some((row, following)) = next_row(rest) {
         let says = statement_of(alloc, text, inside, row)?;
-        inside = is_inside_behind(inside, &says);
+        inside = is_inside_after(inside, &says);
         let number = line_of_row(row);
         lines.push(ScriptLine { number, says })?;
-        rest = behind;
+        rest = following;
     }
     Ok(lines)
 }

@@ -1,12 +1,12 @@
 ghost use Rattle.std.specs.Prelude.{◌≡◌};
-ghost use Rattle.st_statements.specs.Values.{number_at, id_at, mode_at};
+ghost use Rattle.st_statements.specs.Values.{number_token, id_at, mode_at};
 
 use st_base::number::{mode_of, number_of};
 use st_lex::Token;
 
 /// The number that a token spells.
 pub fn number_at(text: &[u8], token: &Token) -> Option<u64>
-    ensures { result ≡ number_at text.now token.now }
+    ensures { result ≡ number_token text.now token.now }
 {
     if token.kind.is_word() {
         number_of(token.text(text))

@@ -1,14 +1,14 @@
 -- The arguments of a call that is made in one step, and the links in the way of a call, as in the law's machine.
 use Rattle.std.proofs.Common.{◌≡◌, ◌∙◌, ℕ, Bool, true, false, List, [], Option, Some, None, ap, sym}
 use Rattle.std.specs.Prelude.{Result, Ok, Err, IfOk}
-use Rattle.st_arguments.specs.Arguments.{progress_of}
+use Rattle.st_arguments.specs.Arguments.{arguments_progress}
 use Rattle.st_arguments.specs.Parts.{surroundings}
 use Rattle.st_arguments.specs.declared.arguments.Arguments.{Arguments}
 use Rattle.st_calls.specs.Call.{follows, rule_of}
 use Rattle.st_calls.specs.declared.argument.ArgText.{ArgText}
 use Rattle.st_calls.specs.declared.call.SysCall.{SysCall}
 use Rattle.st_calls.specs.declared.rule.Rule.{Rule}
-use Rattle.st_memory.specs.Memory.{byte_in, is_live}
+use Rattle.st_memory.specs.Memory.{byte_in, is_space_live}
 use Rattle.st_model.specs.Process.{Process}
 use Rattle.st_model.specs.Processes.{pid_of, process_at, thread_at}
 use Rattle.st_model.specs.Tree.{Tree}
@@ -23,7 +23,7 @@ use Rattle.st_system.proofs.Kept.{owner_is, pid_owner}
 use Rattle.st_system.proofs.Links.{first_unlinked}
 use Rattle.st_system.proofs.Memory.{live_kept}
 
-module _ (parts : Parts) (tid pid : ℕ) (is : Some pid ≡ pid_of parts.processes tid) (live : is_live parts.memories (process_at parts.processes pid).space ≡ true)
+module _ (parts : Parts) (tid pid : ℕ) (is : Some pid ≡ pid_of parts.processes tid) (live : is_space_live parts.memories (process_at parts.processes pid).space ≡ true)
     (call : SysCall) (regs : List ℕ) (aliasing : Bool) (rule : Rule) (cwd : Components) (space : ℕ) (rule_is : rule ≡ rule_of call regs aliasing)
     (cwd_is : cwd ≡ (process_at parts.processes pid).cwd) (space_is : space ≡ (process_at parts.processes pid).space) where
   module _ (i : Input) (st : State) (x : IsSystem i st parts) (same : i.options.aliasing ≡ aliasing) where
@@ -39,8 +39,8 @@ module _ (parts : Parts) (tid pid : ℕ) (is : Some pid ≡ pid_of parts.process
 
   -- the arguments, unless memory runs out
   pub asked_if : {E : Type 0} (result : Result Arguments E)
-      → IfOk result (λ given. arguments_in (record { rule = rule; call = call; regs = regs; cwd = cwd }) (surroundings parts.tree parts.memories space) ≡ progress_of given)
-      → IfOk result (λ given. (i : Input) (st : State) → IsSystem i st parts → i.options.aliasing ≡ aliasing → arguments_now i st tid call regs ≡ progress_of given)
+      → IfOk result (λ given. arguments_in (record { rule = rule; call = call; regs = regs; cwd = cwd }) (surroundings parts.tree parts.memories space) ≡ arguments_progress given)
+      → IfOk result (λ given. (i : Input) (st : State) → IsSystem i st parts → i.options.aliasing ≡ aliasing → arguments_now i st tid call regs ≡ arguments_progress given)
   asked_if (Ok given) here = λ i st x same. now_is i st x same ∙ here
   asked_if (Err error) here = tt
 

@@ -13,14 +13,14 @@ use Rattle.st_law.specs.declared.input.Input.{Input}
 use Rattle.st_law.specs.Machine.{state_after}
 use Rattle.st_law.specs.State.{State, ThreadState, is_last_thread, is_running_in, thread_count, table_after}
 use Rattle.st_law.proofs.Least.{least, NoneOf}
-use Rattle.st_system.specs.System.{IsAmong, IsSystem, IsThread, Parts}
+use Rattle.st_system.specs.System.{IsAmong, IsSystem, IsThreadState, Parts}
 
 -- a thread that has started, by the row of one that runs
-running_row : (o : Option StartedThread) (row : ThreadState) (p : ℕ) → p ≢ 0 → IsThread o row → row.owner ≡ p → row.ended ≡ false → (option_map (λ (thread : StartedThread). thread.pid) o ≡ Some p) × (has_not_ended o ≡ true)
+running_row : (o : Option StartedThread) (row : ThreadState) (p : ℕ) → p ≢ 0 → IsThreadState o row → row.owner ≡ p → row.ended ≡ false → (option_map (λ (thread : StartedThread). thread.pid) o ≡ Some p) × (has_not_ended o ≡ true)
 running_row None row p ne x owner ended = absurd (ne (sym owner ∙ x.0))
 running_row (Some thread) row p ne x owner ended = (ap Some (sym x.0 ∙ owner), ap not (sym x.1 ∙ ended))
 
-row_of : (o : Option StartedThread) (row : ThreadState) (p : ℕ) → IsThread o row → option_map (λ (thread : StartedThread). thread.pid) o ≡ Some p → (row.owner ≡ p) × (row.ended ≡ not (has_not_ended o))
+row_of : (o : Option StartedThread) (row : ThreadState) (p : ℕ) → IsThreadState o row → option_map (λ (thread : StartedThread). thread.pid) o ≡ Some p → (row.owner ≡ p) × (row.ended ≡ not (has_not_ended o))
 row_of None row p x is = absurd cc
 row_of (Some thread) row p x is = (x.0 ∙ cc, x.1 ∙ twice thread.ended) where
   twice : (b : Bool) → b ≡ not (not b)
@@ -77,20 +77,20 @@ module _ (i : Input) (st : State) (parts : Parts) (x : IsSystem i st parts) (t p
 
   -- each thread's row after the end
   module _ (new : Processes) (ends : ThreadEnds parts.processes t new) where
-    own : (o : Option StartedThread) → thread_at parts.processes t ≡ o → IsThread o (st.threads t) → IsThread (option_map (λ (thread : StartedThread). record thread { ended = true }) o) ((state_after i st (Ended t)).threads t)
+    own : (o : Option StartedThread) → thread_at parts.processes t ≡ o → IsThreadState o (st.threads t) → IsThreadState (option_map (λ (thread : StartedThread). record thread { ended = true }) o) ((state_after i st (Ended t)).threads t)
     own None e y = absurd (let none : option_map (λ (thread : StartedThread). thread.pid) (thread_at parts.processes t) ≡ None = ap (option_map (λ (thread : StartedThread). thread.pid)) e in cc)
     own (Some thread) e y = (y.0, ap (λ b. b || (st.threads t).ended) (eq-eqb t t refl))
 
-    other : (u : ℕ) → u ≢ t → (o : Option StartedThread) → IsThread o (st.threads u) → IsThread o ((state_after i st (Ended t)).threads u)
+    other : (u : ℕ) → u ≢ t → (o : Option StartedThread) → IsThreadState o (st.threads u) → IsThreadState o ((state_after i st (Ended t)).threads u)
     other u ne None y = (y.0, ap (λ b. b || (st.threads u).ended) (ne_eqb t u (λ e. ne (sym e))) ∙ y.1)
     other u ne (Some thread) y = (y.0, ap (λ b. b || (st.threads u).ended) (ne_eqb t u (λ e. ne (sym e))) ∙ y.1)
 
-    row : (u : ℕ) → IsThread (thread_at new u) ((state_after i st (Ended t)).threads u)
+    row : (u : ℕ) → IsThreadState (thread_at new u) ((state_after i st (Ended t)).threads u)
     row u = elim (cases_eq u t) [
-      | inl e ↦ subst (λ v. IsThread (thread_at new v) ((state_after i st (Ended t)).threads v)) (sym e)
-          (subst (λ o. IsThread o ((state_after i st (Ended t)).threads t)) (sym (ends t ∙ ap (λ b. cond b (option_map (λ (thread : StartedThread). record thread { ended = true }) (thread_at parts.processes t)) (thread_at parts.processes t)) (eq-eqb t t refl)))
+      | inl e ↦ subst (λ v. IsThreadState (thread_at new v) ((state_after i st (Ended t)).threads v)) (sym e)
+          (subst (λ o. IsThreadState o ((state_after i st (Ended t)).threads t)) (sym (ends t ∙ ap (λ b. cond b (option_map (λ (thread : StartedThread). record thread { ended = true }) (thread_at parts.processes t)) (thread_at parts.processes t)) (eq-eqb t t refl)))
           (own (thread_at parts.processes t) refl (x.threads t)))
-      | inr ne ↦ subst (λ o. IsThread o ((state_after i st (Ended t)).threads u)) (sym (ends u ∙ ap (λ b. cond b (option_map (λ (thread : StartedThread). record thread { ended = true }) (thread_at parts.processes t)) (thread_at parts.processes u)) (ne_eqb u t ne)))
+      | inr ne ↦ subst (λ o. IsThreadState o ((state_after i st (Ended t)).threads u)) (sym (ends u ∙ ap (λ b. cond b (option_map (λ (thread : StartedThread). record thread { ended = true }) (thread_at parts.processes t)) (thread_at parts.processes u)) (ne_eqb u t ne)))
           (other u ne (thread_at parts.processes u) (x.threads u))
     ]
 

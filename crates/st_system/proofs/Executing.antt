@@ -7,7 +7,7 @@ use Rattle.std.proofs.lemmas.List.{get_or-set_other, get_or-set_same, length-app
 use Rattle.std.specs.Prelude.{is_some, nat_lt}
 use Rattle.st_base.specs.declared.errno.Errno.{Errno}
 use Rattle.st_calls.specs.declared.call.SysCall.TheVariants.{Execve}
-use Rattle.st_memory.specs.Memory.{Memories, byte_in, is_live, next_space, spaces_after_give_up, spaces_after_make, zeros}
+use Rattle.st_memory.specs.Memory.{Memories, byte_in, is_space_live, next_space, spaces_after_give_up, spaces_after_make, zeros}
 use Rattle.st_model.specs.Process.{Process}
 use Rattle.st_model.specs.Processes.{Processes, StartedThread, IsPid, next_pid, process_at, thread_at}
 use Rattle.st_model.specs.Tree.{Tree}
@@ -25,8 +25,8 @@ use Rattle.st_request.specs.Processes.{AreProcessesAfter}
 use Rattle.st_request.specs.declared.outcome.Outcome as outcomes
 use Rattle.st_exec_fs.proofs.Changed.{Each}
 use Rattle.st_law.specs.State.{thread_count}
-use Rattle.st_system.specs.System.{HasOwner, IsAmong, IsThread, IsWhole, Parts, is_given_up}
-use Rattle.st_system.proofs.Behind.{IsLeft, bare_system}
+use Rattle.st_system.specs.System.{HasOwner, IsAmong, IsThreadState, IsValidSystem, Parts, is_given_up}
+use Rattle.st_system.proofs.After.{IsLeft, bare_system}
 use Rattle.st_system.proofs.Kept.{with_owner}
 use Rattle.st_system.proofs.Memory.{live_low}
 use Rattle.st_system.proofs.Short.{IsShort, IsShortMove, short_after}
@@ -88,7 +88,7 @@ gone_space processes m p next false binary = space_by (m == p) binary next (proc
 
 -- ---- memories, after one is made and one is given up
 
-module _ (memories : Memories) (own : ℕ) (live : is_live memories own ≡ true) where
+module _ (memories : Memories) (own : ℕ) (live : is_space_live memories own ≡ true) where
   abbrev left : Memories
   left = spaces_after_give_up (spaces_after_make memories) own
 
@@ -97,16 +97,16 @@ module _ (memories : Memories) (own : ℕ) (live : is_live memories own ≡ true
   next_left (suc k) = ap suc (length-set (memories ++ Some zeros ∷ []) k None ∙ length-append memories (Some zeros ∷ []) ∙ omega arith)
 
   -- the memory that is given up no longer exists
-  own_gone : (k : ℕ) → own ≡ suc k → k < length memories → is_live (spaces_after_give_up (spaces_after_make memories) (suc k)) (suc k) ≡ false
+  own_gone : (k : ℕ) → own ≡ suc k → k < length memories → is_space_live (spaces_after_give_up (spaces_after_make memories) (suc k)) (suc k) ≡ false
   own_gone k e low = ap is_some (get_or-set_same (memories ++ Some zeros ∷ []) k None None (let n = length-append memories (Some zeros ∷ []) in omega (arith, low, n)))
 
   -- any other memory that was made before is unchanged
-  other_stays : (k j : ℕ) → j ≢ k → j < length memories → is_live (spaces_after_give_up (spaces_after_make memories) (suc k)) (suc j) ≡ is_live memories (suc j)
+  other_stays : (k j : ℕ) → j ≢ k → j < length memories → is_space_live (spaces_after_give_up (spaces_after_make memories) (suc k)) (suc j) ≡ is_space_live memories (suc j)
   other_stays k j ne low = ap is_some (get_or-set_other (memories ++ Some zeros ∷ []) k j None None ne ∙ get_or-append memories (Some zeros ∷ []) None j low)
 
   -- a memory that isn't given up wasn't given up before, and is another one
   pub kept_left : (o s : ℕ) → own ≡ o → is_given_up (spaces_after_give_up (spaces_after_make memories) o) s ≡ false → (s ≢ own) × (is_given_up memories s ≡ false)
-  kept_left zero s e kept = absurd (true≢false (sym live ∙ ap (is_live memories) e))
+  kept_left zero s e kept = absurd (true≢false (sym live ∙ ap (is_space_live memories) e))
   kept_left (suc k) zero e kept = absurd (true≢false (given ∙ kept)) where
     given : true ≡ is_given_up (spaces_after_give_up (spaces_after_make memories) (suc k)) 0
     given = sym (ap (λ n. nat_lt 0 n && true) (next_left (suc k)) ∙ ap (λ b. b && true) (le-leb 1 (suc (next_space memories)) (omega arith)))
@@ -116,18 +116,18 @@ module _ (memories : Memories) (own : ℕ) (live : is_live memories own ≡ true
 
     mine : suc j ≡ suc k → ⊥
     mine same =
-        let at : is_live (spaces_after_give_up (spaces_after_make memories) (suc k)) (suc j) ≡ false =
-        ap (is_live (spaces_after_give_up (spaces_after_make memories) (suc k))) same ∙ own_gone k e (omega (arith, low, e)) in
+        let at : is_space_live (spaces_after_give_up (spaces_after_make memories) (suc k)) (suc j) ≡ false =
+        ap (is_space_live (spaces_after_give_up (spaces_after_make memories) (suc k))) same ∙ own_gone k e (omega (arith, low, e)) in
         true≢false (sym ((λ i. nat_lt (suc j) (next_left (suc k) i) && not (at i)) ∙ ap (λ b. b && true) (le-leb (suc (suc j)) (suc (next_space memories)) (omega (arith, low, e, same)))) ∙ kept)
 
     before : (j < length memories) ⊎ (length memories ≤ j) → is_given_up memories (suc j) ≡ false
-    before (inr past) = ap (λ b. b && not (is_live memories (suc j))) (lt-leb (suc (suc j)) (next_space memories) (omega (arith, past)))
+    before (inr past) = ap (λ b. b && not (is_space_live memories (suc j))) (lt-leb (suc (suc j)) (next_space memories) (omega (arith, past)))
     before (inl inside) = elim (cases_eq j k) [
       | inl same ↦ absurd (mine (ap suc same))
       | inr ne ↦
-          ap (λ b. b && not (is_live memories (suc j))) (le-leb (suc (suc j)) (next_space memories) (omega (arith, inside)))
+          ap (λ b. b && not (is_space_live memories (suc j))) (le-leb (suc (suc j)) (next_space memories) (omega (arith, inside)))
           ∙ ap not (sym (other_stays k j ne inside))
-          ∙ sym (ap (λ b. b && not (is_live (spaces_after_give_up (spaces_after_make memories) (suc k)) (suc j))) (ap (nat_lt (suc j)) (next_left (suc k)) ∙ le-leb (suc (suc j)) (suc (next_space memories)) (omega (arith, inside)))) ∙ kept
+          ∙ sym (ap (λ b. b && not (is_space_live (spaces_after_give_up (spaces_after_make memories) (suc k)) (suc j))) (ap (nat_lt (suc j)) (next_left (suc k)) ∙ le-leb (suc (suc j)) (suc (next_space memories)) (omega (arith, inside)))) ∙ kept
     ]
 
 gone_spaces : (own next : ℕ) (memories : Memories) (inherit : Bool) (binary : List ℕ) → spaces_after own memories (Execed binary next ∷ policy_changes inherit binary) ≡ spaces_after_give_up (spaces_after_make memories) own
@@ -140,20 +140,20 @@ gone_next n next false binary = refl
 
 -- ---- the parts after the call
 
-module _ (parts : Parts) (x : IsWhole parts) (request : Request) (pid_there : IsPid parts.processes request.pid) (given : outcomes.Outcome) (processes : Processes) (memories : Memories)
+module _ (parts : Parts) (x : IsValidSystem parts) (request : Request) (pid_there : IsPid parts.processes request.pid) (given : outcomes.Outcome) (processes : Processes) (memories : Memories)
     (outcome : (system : System) → outcome_of given system.descriptors ≡ execve_outcome (with_tree (with_memories system parts.memories) parts.tree) request)
     (after : AreProcessesAfter parts.processes request.pid given.changes processes)
     (spaces : memories ≡ spaces_after (process_at parts.processes request.pid).space parts.memories given.changes)
     (bytes : (s b : ℕ) → s ≢ (process_at parts.processes request.pid).space → byte_in memories s b ≡ memory_after (process_at parts.processes request.pid).space (byte_in parts.memories) given.changes s b)
-    (ready : is_live memories (process_at processes request.pid).space ≡ true)
-    (lives : (s : ℕ) → s ≢ (process_at parts.processes request.pid).space → is_live parts.memories s ≡ true → is_live memories s ≡ true) where
+    (ready : is_space_live memories (process_at processes request.pid).space ≡ true)
+    (lives : (s : ℕ) → s ≢ (process_at parts.processes request.pid).space → is_space_live parts.memories s ≡ true → is_space_live memories s ≡ true) where
   abbrev new : Parts
   new = record { tree = parts.tree; descriptors = parts.descriptors; processes = processes; memories = memories }
 
   abbrev own : ℕ
   own = (process_at parts.processes request.pid).space
 
-  own_live : is_live parts.memories own ≡ true
+  own_live : is_space_live parts.memories own ≡ true
   own_live = (x.ready request.pid pid_there).space
 
   shape : IsExec (next_space parts.memories) request.inherit given.changes
@@ -209,14 +209,14 @@ module _ (parts : Parts) (x : IsWhole parts) (request : Request) (pid_there : Is
     ]
   ]
 
-  live : (p : ℕ) → IsPid processes p → is_live memories (process_at processes p).space ≡ true
+  live : (p : ℕ) → IsPid processes p → is_space_live memories (process_at processes p).space ≡ true
   live p is = elim (cases_eq p request.pid) [
-    | inl e ↦ ap (λ r. is_live memories (process_at processes r).space) e ∙ ready
-    | inr ne ↦ ap (is_live memories) (other_space p ne)
+    | inl e ↦ ap (λ r. is_space_live memories (process_at processes r).space) e ∙ ready
+    | inr ne ↦ ap (is_space_live memories) (other_space p ne)
         ∙ lives (process_at parts.processes p).space (λ same. ne (x.apart p request.pid (pid_before p is) pid_there same)) (x.ready p (pid_before p is)).space
   ]
 
-  pub whole_binary : IsWhole new
+  pub whole_binary : IsValidSystem new
   whole_binary = record {
     ordered = subst (λ threads. AreOrdered (record { rows = processes.rows; threads = threads })) (sym after.threads) x.ordered;
     owners = λ t. subst (HasOwner processes) (sym (same_thread t)) (owner_now (thread_at parts.processes t) (x.owners t));
@@ -258,6 +258,6 @@ module _ (parts : Parts) (x : IsWhole parts) (request : Request) (pid_there : Is
     next_space = (spaces_by shape).next;
     memory = (spaces_by shape).memory;
     kept = (spaces_by shape).kept;
-    threads = λ t row other y owner ended. subst (λ o. IsThread o other) (sym (same_thread t)) (with_owner (thread_at parts.processes t) row other y (owner ∙ rest.owner t row.owner) ended);
+    threads = λ t row other y owner ended. subst (λ o. IsThreadState o other) (sym (same_thread t)) (with_owner (thread_at parts.processes t) row other y (owner ∙ rest.owner t row.owner) ended);
     among = λ i child t y. subst (IsAmong (thread_count i) t) (sym (same_thread t)) y;
   }

@@ -5,7 +5,7 @@ use Rattle.std.proofs.lemmas.Bool.{false_from_ne_true}
 use Rattle.std.specs.Prelude.{Result, Ok, Err, IfOk, OnErr, OnOk}
 use Rattle.st_calls.specs.declared.call.SysCall.{SysCall}
 use Rattle.st_calls.specs.declared.call.SysCall.TheVariants.{Chdir, Execve, Fork, Exit, Kill, GetPid, GetUid, GetEuid, SetUid, SetEuid, SetGid, SetEgid, Socket, Bind, Connect}
-use Rattle.st_memory.specs.Memory.{Memories, byte_in, is_live}
+use Rattle.st_memory.specs.Memory.{Memories, byte_in, is_space_live}
 use Rattle.st_model.specs.Descriptors.{Table, has_table}
 use Rattle.st_model.specs.Processes.{Processes, IsPid, next_pid, pid_of, process_at}
 use Rattle.st_model.specs.Tree.{Tree}
@@ -14,14 +14,14 @@ use Rattle.st_effects.specs.Changes.{memory_after}
 use Rattle.st_effects.specs.Processes.{execve_outcome}
 use Rattle.st_effects.specs.System.{Request, System, arg_name_at}
 use Rattle.st_exec_objects.specs.Execution.{spaces_after}
-use Rattle.st_exec_sys.specs.Execution.{Allows, CanCall, IsExecuted}
+use Rattle.st_exec_sys.specs.Execution.{CanMakeCall, CanCall, IsProcessCallExecuted}
 use Rattle.st_request.specs.Outcome.{outcome_of, with_memories, with_tree}
 use Rattle.st_request.specs.Processes.{AreProcessesAfter}
 use Rattle.st_request.specs.Ready.{IsReady}
 use Rattle.st_request.specs.declared.outcome.Outcome.{Outcome}
-use Rattle.st_system.specs.Steps.{CanMake, IsDone, IsOnProcesses}
-use Rattle.st_system.specs.System.{IsWhole, Parts}
-use Rattle.st_system.proofs.Behind.{made}
+use Rattle.st_system.specs.Steps.{CanMake, IsCallMade, IsOnProcesses}
+use Rattle.st_system.specs.System.{IsValidSystem, Parts}
+use Rattle.st_system.proofs.After.{made}
 use Rattle.st_system.proofs.Executing.{left_binary, whole_binary}
 use Rattle.st_system.proofs.OnProcesses.{left_processes, whole_processes}
 use Rattle.st_system.proofs.Short.{IsShort}
@@ -32,26 +32,26 @@ move_of call parts request can is = subst (λ (c : SysCall). CanMake c parts req
 
 -- ---- a binary
 
-pub whole_binary_if : {E : Type 0} (result : Result Outcome E) (parts : Parts) → IsWhole parts → (request : Request) → IsPid parts.processes request.pid → (processes : Processes) (memories : Memories)
+pub whole_binary_if : {E : Type 0} (result : Result Outcome E) (parts : Parts) → IsValidSystem parts → (request : Request) → IsPid parts.processes request.pid → (processes : Processes) (memories : Memories)
     → IfOk result (λ given. (system : System) → outcome_of given system.descriptors ≡ execve_outcome (with_tree (with_memories system parts.memories) parts.tree) request)
     → IfOk result (λ given. AreProcessesAfter parts.processes request.pid given.changes processes)
     → IfOk result (λ given. memories ≡ spaces_after (process_at parts.processes request.pid).space parts.memories given.changes)
     → IfOk result (λ given. (s b : ℕ) → s ≢ (process_at parts.processes request.pid).space → byte_in memories s b ≡ memory_after (process_at parts.processes request.pid).space (byte_in parts.memories) given.changes s b)
-    → is_live memories (process_at processes request.pid).space ≡ true
-    → ((s : ℕ) → s ≢ (process_at parts.processes request.pid).space → is_live parts.memories s ≡ true → is_live memories s ≡ true)
-    → OnErr result ((processes ≡ parts.processes) × (memories ≡ parts.memories)) → IsWhole (record { tree = parts.tree; descriptors = parts.descriptors; processes = processes; memories = memories })
+    → is_space_live memories (process_at processes request.pid).space ≡ true
+    → ((s : ℕ) → s ≢ (process_at parts.processes request.pid).space → is_space_live parts.memories s ≡ true → is_space_live memories s ≡ true)
+    → OnErr result ((processes ≡ parts.processes) × (memories ≡ parts.memories)) → IsValidSystem (record { tree = parts.tree; descriptors = parts.descriptors; processes = processes; memories = memories })
 whole_binary_if (Ok given) parts x request there processes memories outcome after spaces bytes ready lives err = whole_binary parts x request there given processes memories outcome after spaces bytes ready lives
 whole_binary_if (Err error) parts x request there processes memories outcome after spaces bytes ready lives err =
-    subst IsWhole (λ k. record { tree = parts.tree; descriptors = parts.descriptors; processes = sym err.0 k; memories = sym err.1 k }) x
+    subst IsValidSystem (λ k. record { tree = parts.tree; descriptors = parts.descriptors; processes = sym err.0 k; memories = sym err.1 k }) x
 
-pub made_binary_if : {E : Type 0} (result : Result Outcome E) (parts : Parts) → IsWhole parts → (request : Request) → IsPid parts.processes request.pid → (processes : Processes) (memories : Memories)
+pub made_binary_if : {E : Type 0} (result : Result Outcome E) (parts : Parts) → IsValidSystem parts → (request : Request) → IsPid parts.processes request.pid → (processes : Processes) (memories : Memories)
     → IfOk result (λ given. (system : System) → outcome_of given system.descriptors ≡ execve_outcome (with_tree (with_memories system parts.memories) parts.tree) request)
     → IfOk result (λ given. AreProcessesAfter parts.processes request.pid given.changes processes)
     → IfOk result (λ given. memories ≡ spaces_after (process_at parts.processes request.pid).space parts.memories given.changes)
     → IfOk result (λ given. (s b : ℕ) → s ≢ (process_at parts.processes request.pid).space → byte_in memories s b ≡ memory_after (process_at parts.processes request.pid).space (byte_in parts.memories) given.changes s b)
-    → is_live memories (process_at processes request.pid).space ≡ true
-    → ((s : ℕ) → s ≢ (process_at parts.processes request.pid).space → is_live parts.memories s ≡ true → is_live memories s ≡ true)
-    → IfOk result (λ given. IsDone Execve request given parts (record { tree = parts.tree; descriptors = parts.descriptors; processes = processes; memories = memories }))
+    → is_space_live memories (process_at processes request.pid).space ≡ true
+    → ((s : ℕ) → s ≢ (process_at parts.processes request.pid).space → is_space_live parts.memories s ≡ true → is_space_live memories s ≡ true)
+    → IfOk result (λ given. IsCallMade Execve request given parts (record { tree = parts.tree; descriptors = parts.descriptors; processes = processes; memories = memories }))
 made_binary_if (Ok given) parts x request there processes memories outcome after spaces bytes ready lives = λ i st y is child seq.
     made Execve request given parts _ x.ordered (x.ready request.pid there).space (left_binary parts x request there given processes memories outcome after spaces bytes ready lives) i st y is child seq
 made_binary_if (Err error) parts x request there processes memories outcome after spaces bytes ready lives = tt
@@ -59,10 +59,10 @@ made_binary_if (Err error) parts x request there processes memories outcome afte
 -- ---- calls on processes
 
 -- the precondition of a call on processes
-pub can_call : (parts : Parts) → IsWhole parts → (pid : ℕ) → IsPid parts.processes pid → CanCall parts.descriptors parts.processes parts.memories pid
+pub can_call : (parts : Parts) → IsValidSystem parts → (pid : ℕ) → IsPid parts.processes pid → CanCall parts.descriptors parts.processes parts.memories pid
 can_call parts x pid there = let r = x.ready pid there in record { table = r.table; process = there; space = r.space }
 
-pub allows : (parts : Parts) → IsWhole parts → (request : Request) (call : SysCall) → IsOnProcesses call → CanMake call parts request → Allows call parts.descriptors parts.processes parts.memories request
+pub allows : (parts : Parts) → IsValidSystem parts → (request : Request) (call : SysCall) → IsOnProcesses call → CanMake call parts request → CanMakeCall call parts.descriptors parts.processes parts.memories request
 allows parts x request Fork on can = record {
   thread = can.thread;
   table = false_from_ne_true (has_table parts.descriptors (next_pid parts.processes)) (λ has. let low = (x.tables (next_pid parts.processes) has).1 in omega (arith, low));
@@ -87,24 +87,24 @@ allows parts x request call on can = absurd on
 unstarted_of : (call : SysCall) (parts : Parts) (request : Request) → CanMake call parts request → call ≡ Fork → pid_of parts.processes request.child ≡ None
 unstarted_of call parts request can is = (subst (λ (c : SysCall). CanMake c parts request) is can).thread
 
-pub whole_processes_if : {E : Type 0} (result : Result Outcome E) (parts : Parts) → IsWhole parts → (request : Request) → IsPid parts.processes request.pid → (table : Table) (processes : Processes) (memories : Memories) (call : SysCall)
-    → IsOnProcesses call → CanMake call parts request → IfOk result (λ given. IsExecuted call request given parts.descriptors parts.processes parts.memories table processes memories)
+pub whole_processes_if : {E : Type 0} (result : Result Outcome E) (parts : Parts) → IsValidSystem parts → (request : Request) → IsPid parts.processes request.pid → (table : Table) (processes : Processes) (memories : Memories) (call : SysCall)
+    → IsOnProcesses call → CanMake call parts request → IfOk result (λ given. IsProcessCallExecuted call request given parts.descriptors parts.processes parts.memories table processes memories)
     → (AreOrdered parts.processes → AreOrdered processes)
     → ((tree : Tree) (pid : ℕ) → IsReady tree parts.descriptors parts.processes parts.memories pid → IsReady tree table processes memories pid)
     → (call ≡ Fork → OnOk result ((tree : Tree) → IsReady tree parts.descriptors parts.processes parts.memories request.pid → IsReady tree table processes memories (next_pid parts.processes)))
     → OnErr result ((table ≡ parts.descriptors) × ((processes ≡ parts.processes) × (memories ≡ parts.memories)))
-    → IsWhole (record { tree = parts.tree; descriptors = table; processes = processes; memories = memories })
+    → IsValidSystem (record { tree = parts.tree; descriptors = table; processes = processes; memories = memories })
 whole_processes_if (Ok given) parts x request there table processes memories call on can done ordered ready child err =
     whole_processes parts x request there given table processes memories call on done ordered ready child (unstarted_of call parts request can)
 whole_processes_if (Err error) parts x request there table processes memories call on can done ordered ready child err =
-    subst IsWhole (λ k. record { tree = parts.tree; descriptors = sym err.0 k; processes = sym err.1.0 k; memories = sym err.1.1 k }) x
+    subst IsValidSystem (λ k. record { tree = parts.tree; descriptors = sym err.0 k; processes = sym err.1.0 k; memories = sym err.1.1 k }) x
 
-pub made_processes_if : {E : Type 0} (result : Result Outcome E) (parts : Parts) → IsWhole parts → (request : Request) → IsPid parts.processes request.pid → (table : Table) (processes : Processes) (memories : Memories) (call : SysCall)
-    → IsOnProcesses call → CanMake call parts request → IfOk result (λ given. IsExecuted call request given parts.descriptors parts.processes parts.memories table processes memories)
+pub made_processes_if : {E : Type 0} (result : Result Outcome E) (parts : Parts) → IsValidSystem parts → (request : Request) → IsPid parts.processes request.pid → (table : Table) (processes : Processes) (memories : Memories) (call : SysCall)
+    → IsOnProcesses call → CanMake call parts request → IfOk result (λ given. IsProcessCallExecuted call request given parts.descriptors parts.processes parts.memories table processes memories)
     → (AreOrdered parts.processes → AreOrdered processes)
     → ((tree : Tree) (pid : ℕ) → IsReady tree parts.descriptors parts.processes parts.memories pid → IsReady tree table processes memories pid)
     → (call ≡ Fork → OnOk result ((tree : Tree) → IsReady tree parts.descriptors parts.processes parts.memories request.pid → IsReady tree table processes memories (next_pid parts.processes)))
-    → IfOk result (λ given. IsDone call request given parts (record { tree = parts.tree; descriptors = table; processes = processes; memories = memories }))
+    → IfOk result (λ given. IsCallMade call request given parts (record { tree = parts.tree; descriptors = table; processes = processes; memories = memories }))
 made_processes_if (Ok given) parts x request there table processes memories call on can done ordered ready child = λ i st y is starts seq.
     made call request given parts _ x.ordered (x.ready request.pid there).space
     (left_processes parts x request there given table processes memories call on done ordered ready child (unstarted_of call parts request can)) i st y is starts seq

@@ -8,17 +8,17 @@ use Rattle.std.proofs.lemmas.List.Sums.{fold-append}
 use Rattle.std.specs.List.{fold, range_with_len}
 use Rattle.std.specs.Prelude.{nat_le, slice_get}
 use Rattle.st_fds.specs.Table.{ChangesTable}
-use Rattle.st_memory.specs.Memory.{Memories, byte_in, is_live, next_space, ChangesLive}
+use Rattle.st_memory.specs.Memory.{Memories, byte_in, is_space_live, next_space, ChangesLive}
 use Rattle.st_model.specs.DescriptorCalls.{table_after_start}
 use Rattle.st_model.specs.Descriptors.{Table}
 use Rattle.st_model.specs.Process.{Process}
 use Rattle.st_model.specs.Processes.{Processes, no_process, next_pid, process_at, processes_after_start}
-use Rattle.st_request.specs.Ready.{IsReal}
+use Rattle.st_request.specs.Ready.{AreValidOpenFiles}
 use Rattle.st_request.proofs.Stay.{started_real}
 use Rattle.st_trace.specs.declared.start.ProcessRow.{ProcessRow}
 use Rattle.st_law.specs.declared.input.Input.{Input}
 use Rattle.st_law.specs.Processes.{first_process, no_descriptors, process_of_row}
-use Rattle.st_system.specs.Start.{process_of, AreFirst}
+use Rattle.st_system.specs.Start.{process_at_start, AreFirst}
 
 -- one more number after those from a on
 range_more : (a n : ℕ) → range_with_len a (suc n) ≡ range_with_len a n ++ (a + n) ∷ []
@@ -36,7 +36,7 @@ within_more k p = grind (arith)
 module _ (i : Input) (k : ℕ) (row : ProcessRow) (table : Table) (processes : Processes) (memories : Memories) (x : AreFirst i k table processes memories)
     (here : slice_get i.start.processes k ≡ Some row) where
   abbrev process : Process
-  process = process_of i.options.ids (suc k) row
+  process = process_at_start i.options.ids (suc k) row
 
   count : length processes.rows ≡ k
   count = let next = x.next in omega (arith, next)
@@ -64,7 +64,7 @@ module _ (i : Input) (k : ℕ) (row : ProcessRow) (table : Table) (processes : P
     table_is = is_table ∙ ap (table_after_start table) x.next ∙ ap (λ t. table_after_start t (suc k)) x.table_is
         ∙ sym (ap (fold table_after_start no_descriptors) (range_one_more k) ∙ fold-append table_after_start no_descriptors (range_with_len 1 k) (suc k ∷ []));
     has = λ p. tables p ∙ (λ j. cond (p == x.next j) true (x.has p j)) ∙ within_more k p;
-    real = λ tree. subst (IsReal tree) (sym is_table) (started_real tree table (next_pid processes) (x.real tree));
+    real = λ tree. subst (AreValidOpenFiles tree) (sym is_table) (started_real tree table (next_pid processes) (x.real tree));
     next = pids ∙ ap suc x.next;
     rows = λ p low high. ap (λ q. process_at q p) is_new ∙ rows p low high;
     threads = ap (λ (q : Processes). q.threads) is_new ∙ x.threads;
@@ -72,8 +72,8 @@ module _ (i : Input) (k : ℕ) (row : ProcessRow) (table : Table) (processes : P
     live = λ s low high. lives s ∙ live_of s low high;
     zeros = λ s b. bytes s b ∙ x.zeros s b;
   } where
-    live_of : (s : ℕ) → 1 ≤ s → s ≤ suc k → cond (s == next_space memories) true (is_live memories s) ≡ true
+    live_of : (s : ℕ) → 1 ≤ s → s ≤ suc k → cond (s == next_space memories) true (is_space_live memories s) ≡ true
     live_of s low high = elim (cases_eq s (next_space memories)) [
-      | inl e ↦ ap (λ b. cond b true (is_live memories s)) (eq-eqb s (next_space memories) e)
-      | inr ne ↦ ap (λ b. cond b true (is_live memories s)) (ne_eqb s (next_space memories) ne) ∙ x.live s low (let next = x.next_space_is in omega (arith, high, ne, next))
+      | inl e ↦ ap (λ b. cond b true (is_space_live memories s)) (eq-eqb s (next_space memories) e)
+      | inr ne ↦ ap (λ b. cond b true (is_space_live memories s)) (ne_eqb s (next_space memories) ne) ∙ x.live s low (let next = x.next_space_is in omega (arith, high, ne, next))
     ]

@@ -4,7 +4,7 @@ use Rattle.std.proofs.Common.{◌==◌, ◌≡◌, ◌≢◌, ◌∙◌, ℕ, tr
 use Rattle.std.proofs.lemmas.Bool.{eq-eqb, ne_eqb}
 use Rattle.std.specs.Option.{option_map}
 use Rattle.std.specs.Prelude.{Result, Ok, Err, IsErr, OnOk, is_some}
-use Rattle.st_memory.specs.Memory.{Memories, byte_in, is_live, KeepsSpaces}
+use Rattle.st_memory.specs.Memory.{Memories, byte_in, is_space_live, KeepsSpaces}
 use Rattle.st_model.specs.Memory.{memory_after_store, word_of}
 use Rattle.st_model.specs.Process.{Process}
 use Rattle.st_model.specs.Processes.{Processes, StartedThread, has_not_ended, process_at, thread_at}
@@ -12,7 +12,7 @@ use Rattle.st_trace.specs.declared.entry.Entry.TheVariants.{Stored}
 use Rattle.st_law.specs.declared.input.Input.{Input}
 use Rattle.st_law.specs.Machine.{state_after}
 use Rattle.st_law.specs.State.{State, ThreadState}
-use Rattle.st_system.specs.System.{HasOwner, IsSystem, IsThread, Parts, is_given_up}
+use Rattle.st_system.specs.System.{HasOwner, IsSystem, IsThreadState, Parts, is_given_up}
 use Rattle.st_system.proofs.Memory.{agree_stored, live_kept, same_given_up}
 
 -- the process of a thread, by whether it has started
@@ -20,7 +20,7 @@ abbrev pub owner_in : Option StartedThread → ℕ
 owner_in None = 0
 owner_in (Some thread) = thread.pid
 
-pub owner_is : (o : Option StartedThread) (row : ThreadState) → IsThread o row → row.owner ≡ owner_in o
+pub owner_is : (o : Option StartedThread) (row : ThreadState) → IsThreadState o row → row.owner ≡ owner_in o
 owner_is None row x = x.0
 owner_is (Some thread) row x = x.0
 
@@ -30,13 +30,13 @@ pid_owner None p is = absurd cc
 pid_owner (Some thread) p is = cc
 
 -- a thread by another row with the same owner
-pub with_owner : (o : Option StartedThread) (row other : ThreadState) → IsThread o row → other.owner ≡ row.owner → other.ended ≡ row.ended → IsThread o other
+pub with_owner : (o : Option StartedThread) (row other : ThreadState) → IsThreadState o row → other.owner ≡ row.owner → other.ended ≡ row.ended → IsThreadState o other
 with_owner None row other x owner ended = (owner ∙ x.0, ended ∙ x.1)
 with_owner (Some thread) row other x owner ended = (owner ∙ x.0, ended ∙ x.1)
 
 -- the system represents the state after a store
 pub stored : (i : Input) (st : State) (parts : Parts) → IsSystem i st parts → (t place word space : ℕ) (new : Memories) → space ≡ (process_at parts.processes (owner_in (thread_at parts.processes t))).space
-    → is_live parts.memories space ≡ true → ((s b : ℕ) → byte_in new s b ≡ memory_after_store (byte_in parts.memories) space place word s b) → KeepsSpaces parts.memories new
+    → is_space_live parts.memories space ≡ true → ((s b : ℕ) → byte_in new s b ≡ memory_after_store (byte_in parts.memories) space place word s b) → KeepsSpaces parts.memories new
     → IsSystem i (state_after i st (Stored t place word)) (record { tree = parts.tree; descriptors = parts.descriptors; processes = parts.processes; memories = new })
 stored i st parts x t place word space new space_is live bytes keeps = record {
   tree = x.tree;
@@ -59,18 +59,18 @@ of_ok (Ok a) on fine = on
 of_ok (Err e) on fine = absurd (fine refl)
 
 -- a word of a process's memory
-pub word_is : (i : Input) (st : State) (parts : Parts) → IsSystem i st parts → (pid place : ℕ) → is_live parts.memories (process_at parts.processes pid).space ≡ true
+pub word_is : (i : Input) (st : State) (parts : Parts) → IsSystem i st parts → (pid place : ℕ) → is_space_live parts.memories (process_at parts.processes pid).space ≡ true
     → (word : ℕ) → word ≡ word_of (byte_in parts.memories (process_at parts.processes pid).space) place → word ≡ word_of (st.memory (st.processes pid).space) place
 word_is i st parts x pid place live word is =
     is ∙ (λ k. word_of (λ b. sym (x.memory (process_at parts.processes pid).space b (live_kept parts.memories (process_at parts.processes pid).space live)) k) place)
     ∙ sym (ap (λ (process : Process). word_of (st.memory process.space) place) (x.processes pid))
 
 -- a thread that has started and hasn't ended, by its row
-pub started_runs : (o : Option StartedThread) (row : ThreadState) → IsThread o row → row.owner ≢ 0 → row.ended ≡ false → has_not_ended o ≡ true
+pub started_runs : (o : Option StartedThread) (row : ThreadState) → IsThreadState o row → row.owner ≢ 0 → row.ended ≡ false → has_not_ended o ≡ true
 started_runs None row x started running = absurd (started x.0)
 started_runs (Some thread) row x started running = ap not (sym x.1 ∙ running)
 
 -- whether a thread has started, by its row
-pub started_is : (processes : Processes) (o : Option StartedThread) (row : ThreadState) → IsThread o row → HasOwner processes o → is_some (option_map (λ (thread : StartedThread). thread.pid) o) ≡ not (row.owner == 0)
+pub started_is : (processes : Processes) (o : Option StartedThread) (row : ThreadState) → IsThreadState o row → HasOwner processes o → is_some (option_map (λ (thread : StartedThread). thread.pid) o) ≡ not (row.owner == 0)
 started_is processes None row x owner = sym (ap not (eq-eqb row.owner 0 x.0))
 started_is processes (Some thread) row x owner = let low = owner.0 in sym (ap not (ne_eqb row.owner 0 (λ zero. let same = x.0 in omega (arith, low, zero, same))))

@@ -1,7 +1,7 @@
 mod Alike
 mod Asking
 mod Begun
-mod Behind
+mod After
 mod Ends
 mod Executing
 mod Failures

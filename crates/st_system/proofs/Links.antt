@@ -17,7 +17,7 @@ use Rattle.st_model.specs.Tree.{Node, Tree, is_directory, node_at, node_of, node
 use Rattle.st_model.specs.Walk.{is_last}
 use Rattle.st_model.specs.declared.object.Kind.{Kind}
 use Rattle.st_model.specs.declared.object.Kind.TheVariants as object_kind
-use Rattle.st_tree.specs.Refusals.{IsMade}
+use Rattle.st_tree.specs.Refusals.{IsObjectNumber}
 use Rattle.st_effects.specs.Names.{is_link}
 use Rattle.st_exec_objects.proofs.Objects.{numbered}
 use Rattle.st_exec_fs.specs.Open.{IsNoLink}
@@ -32,7 +32,7 @@ directory_unlinked object_kind.File is = absurd (true≢false (sym is))
 directory_unlinked object_kind.Link is = absurd (true≢false (sym is))
 
 -- the root isn't a link
-pub root_unlinked : (tree : Tree) (root : ℕ) → object_of tree [] ≡ Some root → IsMade tree root → is_directory (node_with_number tree root).kind ≡ true → is_link_at tree [] ≡ false
+pub root_unlinked : (tree : Tree) (root : ℕ) → object_of tree [] ≡ Some root → IsObjectNumber tree root → is_directory (node_with_number tree root).kind ≡ true → is_link_at tree [] ≡ false
 root_unlinked tree root is made directory =
     ap is_link_node (ap (λ (o : Option ℕ). node_at tree o) is ∙ numbered tree root made) ∙ directory_unlinked (node_with_number tree root).kind directory
 

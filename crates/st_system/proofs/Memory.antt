@@ -3,7 +3,7 @@ use native.Mathlib.Omega.{arith}
 use Rattle.std.proofs.Common.{◌≡◌, ◌≤◌, ◌<◌, ◌∙◌, ℕ, zero, suc, Bool, true, false, cond, not, ◌&&◌, ◌==◌, List, [], ◌∷◌, length, None, get_or, inl, inr, refl, ap, sym}
 use Rattle.std.proofs.lemmas.Bool.{true≢false, cases_lt}
 use Rattle.std.specs.Prelude.{is_some, nat_lt}
-use Rattle.st_memory.specs.Memory.{Memories, is_live, next_space, KeepsSpaces}
+use Rattle.st_memory.specs.Memory.{Memories, is_space_live, next_space, KeepsSpaces}
 use Rattle.st_model.specs.Memory.{bytes_after_put, bytes_after_store, memory_after_store}
 use Rattle.st_effects.specs.Changes.{memory_after, memory_after_change}
 use Rattle.st_trace.specs.declared.entry.Change.{Change}
@@ -47,7 +47,7 @@ module _ (own : ℕ) (P : ℕ → Type 0) (here : P own) where
 -- ---- spaces
 
 -- a space that exists wasn't given up
-pub live_kept : (memories : Memories) (s : ℕ) → is_live memories s ≡ true → is_given_up memories s ≡ false
+pub live_kept : (memories : Memories) (s : ℕ) → is_space_live memories s ≡ true → is_given_up memories s ≡ false
 live_kept memories s live = ap (λ b. nat_lt s (next_space memories) && not b) live ∙ nothing (nat_lt s (next_space memories)) where
   nothing : (b : Bool) → (b && false) ≡ false
   nothing true = refl
@@ -59,7 +59,7 @@ beyond (x ∷ items) zero default past = absurd (omega (arith, past))
 beyond (x ∷ items) (suc k) default past = beyond items k default (omega (arith, past))
 
 -- the number of a space that exists was given
-pub live_low : (memories : Memories) (s : ℕ) → is_live memories s ≡ true → s < next_space memories
+pub live_low : (memories : Memories) (s : ℕ) → is_space_live memories s ≡ true → s < next_space memories
 live_low memories zero live = omega arith
 live_low memories (suc k) live = elim (cases_lt k (length memories)) [
   | inl inside ↦ omega (arith, inside)

@@ -21,8 +21,8 @@ use Rattle.st_effects.specs.System.{Outcome, Request, System, unless_error, unle
 use Rattle.st_trace.specs.declared.entry.CallResult.{CallResult}
 use Rattle.st_trace.specs.declared.entry.Change.{Change}
 use Rattle.st_trace.specs.declared.entry.Change.TheVariants.{Dying, Forked, SetIds}
-use Rattle.st_exec_sys.specs.Changes.{AreEndings, AreOfProcesses, has_table_after, is_live_after, thread_after}
-use Rattle.st_exec_sys.specs.Execution.{IsExecuted}
+use Rattle.st_exec_sys.specs.Changes.{AreEndings, AreSetIdsOnly, has_table_after, is_live_after, thread_after_changes}
+use Rattle.st_exec_sys.specs.Execution.{IsProcessCallExecuted}
 use Rattle.st_exec_sys.proofs.Left.{LeaveRest, endings_leave, ids_leave, processes_stay, space_left}
 use Rattle.st_request.specs.Outcome.{with_tree}
 use Rattle.st_request.specs.Ready.{IsReady}
@@ -30,9 +30,9 @@ use Rattle.st_request.specs.declared.outcome.Outcome as outcomes
 use Rattle.st_exec_fs.proofs.Changed.{Each}
 use Rattle.st_law.specs.State.{ThreadState, thread_count}
 use Rattle.st_system.specs.Steps.{IsOnProcesses}
-use Rattle.st_system.specs.System.{HasOwner, IsAmong, IsThread, IsWhole, Parts, is_given_up}
+use Rattle.st_system.specs.System.{HasOwner, IsAmong, IsThreadState, IsValidSystem, Parts, is_given_up}
 use Rattle.st_system.proofs.Begun.{not_found}
-use Rattle.st_system.proofs.Behind.{IsLeft, bare_system}
+use Rattle.st_system.proofs.After.{IsLeft, bare_system}
 use Rattle.st_system.proofs.Kept.{with_owner}
 use Rattle.st_system.proofs.Memory.{live_low}
 use Rattle.st_system.proofs.Short.{IsShort, IsShortMove, short_after}
@@ -40,7 +40,7 @@ use Rattle.st_system.proofs.Short.{IsShort, IsShortMove, short_after}
 -- ---- changes that start nothing: dying threads, or ids that are set
 
 abbrev AreQuiet : List Change → Type 0
-AreQuiet changes = AreEndings changes ⊎ AreOfProcesses changes
+AreQuiet changes = AreEndings changes ⊎ AreSetIdsOnly changes
 
 -- the changes of an outcome start nothing
 record IsQuiet (outcome : Outcome) : Type 0 where
@@ -82,12 +82,12 @@ endings_short [] x = tt
 endings_short (Dying pid ∷ changes) x = (tt, endings_short changes x)
 endings_short (change ∷ changes) x = absurd x
 
-ids_tree : (changes : List Change) → AreOfProcesses changes → (tree : Tree) → tree_after tree changes ≡ tree
+ids_tree : (changes : List Change) → AreSetIdsOnly changes → (tree : Tree) → tree_after tree changes ≡ tree
 ids_tree [] x tree = refl
 ids_tree (SetIds ids ∷ changes) x tree = ids_tree changes x tree
 ids_tree (change ∷ changes) x tree = absurd x
 
-ids_short : (changes : List Change) → AreOfProcesses changes → Each IsShortMove changes
+ids_short : (changes : List Change) → AreSetIdsOnly changes → Each IsShortMove changes
 ids_short [] x = tt
 ids_short (SetIds ids ∷ changes) x = (tt, ids_short changes x)
 ids_short (change ∷ changes) x = absurd x
@@ -126,12 +126,12 @@ module _ (parts : Parts) (request : Request) where
 
 -- ---- the parts after the call
 
-module _ (parts : Parts) (x : IsWhole parts) (request : Request) (there : IsPid parts.processes request.pid) (given : outcomes.Outcome) (table : Table) (processes : Processes) (memories : Memories) where
+module _ (parts : Parts) (x : IsValidSystem parts) (request : Request) (there : IsPid parts.processes request.pid) (given : outcomes.Outcome) (table : Table) (processes : Processes) (memories : Memories) where
   abbrev new : Parts
   new = record { tree = parts.tree; descriptors = table; processes = processes; memories = memories }
 
   abbrev Made : SysCall → Type 0
-  Made call = IsExecuted call request given parts.descriptors parts.processes parts.memories table processes memories
+  Made call = IsProcessCallExecuted call request given parts.descriptors parts.processes parts.memories table processes memories
 
   abbrev StaysReady : Type 0
   StaysReady = (tree : Tree) (pid : ℕ) → IsReady tree parts.descriptors parts.processes parts.memories pid → IsReady tree table processes memories pid
@@ -167,7 +167,7 @@ module _ (parts : Parts) (x : IsWhole parts) (request : Request) (there : IsPid 
     same_table : (p : ℕ) → has_table table p ≡ has_table parts.descriptors p
     same_table p = done.tables p ∙ leave.rest.tables p (has_table parts.descriptors p)
 
-    whole_quiet : IsWhole new
+    whole_quiet : IsValidSystem new
     whole_quiet = record {
       ordered = ordered x.ordered;
       owners = λ t. subst (HasOwner processes) (sym (same_thread t)) (owner_now (thread_at parts.processes t) (x.owners t));
@@ -185,8 +185,8 @@ module _ (parts : Parts) (x : IsWhole parts) (request : Request) (there : IsPid 
       next_process = done.processes.next;
       next_space = done.memories.next;
       memory = λ s b kept. done.memories.bytes s b;
-      kept = λ s kept. (λ k. nat_lt s (sym (done.memories.next ∙ leave.rest.spaces (next_space parts.memories)) k) && not (sym (done.memories.live s ∙ leave.rest.live s (spaces.is_live parts.memories s)) k)) ∙ kept;
-      threads = λ t row other y owner ended. subst (λ o. IsThread o other) (sym (same_thread t)) (with_owner (thread_at parts.processes t) row other y (owner ∙ leave.rest.owners t row.owner) ended);
+      kept = λ s kept. (λ k. nat_lt s (sym (done.memories.next ∙ leave.rest.spaces (next_space parts.memories)) k) && not (sym (done.memories.live s ∙ leave.rest.live s (spaces.is_space_live parts.memories s)) k)) ∙ kept;
+      threads = λ t row other y owner ended. subst (λ o. IsThreadState o other) (sym (same_thread t)) (with_owner (thread_at parts.processes t) row other y (owner ∙ leave.rest.owners t row.owner) ended);
       among = λ i child t y. subst (IsAmong (thread_count i) t) (sym (same_thread t)) y;
     }
 
@@ -221,7 +221,7 @@ module _ (parts : Parts) (x : IsWhole parts) (request : Request) (there : IsPid 
     -- ---- threads
 
     thread_is : (t : ℕ) → thread_at processes t ≡ cond (t == request.child) (Some (record { pid = pid; ended = false })) (thread_at parts.processes t)
-    thread_is t = done.processes.threads t ∙ ap (thread_after t (thread_at parts.processes t)) shape
+    thread_is t = done.processes.threads t ∙ ap (thread_after_changes t (thread_at parts.processes t)) shape
 
     own_thread : thread_at processes request.child ≡ Some (record { pid = pid; ended = false })
     own_thread = thread_is request.child ∙ ap (λ b. cond b (Some (record { pid = pid; ended = false })) (thread_at parts.processes request.child)) (eq-eqb request.child request.child refl)
@@ -242,13 +242,13 @@ module _ (parts : Parts) (x : IsWhole parts) (request : Request) (there : IsPid 
       | inr ne ↦ subst (HasOwner processes) (sym (other_thread t ne)) (owner_then (thread_at parts.processes t) (x.owners t))
     ]
 
-    follows : (t : ℕ) (row other : ThreadState) → IsThread (thread_at parts.processes t) row → other.owner ≡ owner_after t row.owner given.changes → other.ended ≡ row.ended → IsThread (thread_at processes t) other
+    follows : (t : ℕ) (row other : ThreadState) → IsThreadState (thread_at parts.processes t) row → other.owner ≡ owner_after t row.owner given.changes → other.ended ≡ row.ended → IsThreadState (thread_at processes t) other
     follows t row other y owner ended = elim (cases_eq t request.child) [
       | inl e ↦
-          let before : IsThread None row = subst (λ o. IsThread o row) (ap (thread_at parts.processes) e ∙ none_before) y in
-          subst (λ o. IsThread o other) (sym (ap (thread_at processes) e ∙ own_thread))
+          let before : IsThreadState None row = subst (λ o. IsThreadState o row) (ap (thread_at parts.processes) e ∙ none_before) y in
+          subst (λ o. IsThreadState o other) (sym (ap (thread_at processes) e ∙ own_thread))
           (owner ∙ ap (owner_after t row.owner) shape ∙ (λ k. cond (eq-eqb request.child t (sym e) k && eq-eqb row.owner 0 before.0 k) pid row.owner), ended ∙ before.1)
-      | inr ne ↦ subst (λ o. IsThread o other) (sym (other_thread t ne))
+      | inr ne ↦ subst (λ o. IsThreadState o other) (sym (other_thread t ne))
           (with_owner (thread_at parts.processes t) row other y (owner ∙ ap (owner_after t row.owner) shape ∙ ap (λ b. cond (b && row.owner == 0) pid row.owner) (ne_eqb request.child t (λ e. ne (sym e)))) ended)
     ]
 
@@ -291,11 +291,11 @@ module _ (parts : Parts) (x : IsWhole parts) (request : Request) (there : IsPid 
     kept : (s : ℕ) → is_given_up memories s ≡ false → is_given_up parts.memories s ≡ false
     kept s is = elim (cases_lt s space) [
       | inl low ↦
-          let live : spaces.is_live memories s ≡ spaces.is_live parts.memories s = done.memories.live s ∙ ap (is_live_after s (spaces.is_live parts.memories s)) shape ∙ ap (λ b. cond b true (spaces.is_live parts.memories s)) (ne_eqb s space (λ e. omega (arith, e, low))) in
+          let live : spaces.is_space_live memories s ≡ spaces.is_space_live parts.memories s = done.memories.live s ∙ ap (is_live_after s (spaces.is_space_live parts.memories s)) shape ∙ ap (λ b. cond b true (spaces.is_space_live parts.memories s)) (ne_eqb s space (λ e. omega (arith, e, low))) in
           let next : next_space memories ≡ suc space = done.memories.next ∙ ap (next_space_after space) shape in
-          ap (λ b. b && not (spaces.is_live parts.memories s)) (le-leb (suc s) space (omega (arith, low)) ∙ sym (ap (nat_lt s) next ∙ le-leb (suc s) (suc space) (omega (arith, low))))
+          ap (λ b. b && not (spaces.is_space_live parts.memories s)) (le-leb (suc s) space (omega (arith, low)) ∙ sym (ap (nat_lt s) next ∙ le-leb (suc s) (suc space) (omega (arith, low))))
           ∙ ap (λ b. nat_lt s (next_space memories) && not b) (sym live) ∙ is
-      | inr past ↦ ap (λ b. b && not (spaces.is_live parts.memories s)) (lt-leb (suc s) space (omega (arith, past)))
+      | inr past ↦ ap (λ b. b && not (spaces.is_space_live parts.memories s)) (lt-leb (suc s) space (omega (arith, past)))
     ]
 
     -- ---- all parts after a fork
@@ -310,7 +310,7 @@ module _ (parts : Parts) (x : IsWhole parts) (request : Request) (there : IsPid 
     ready_now p (inl e) = subst (IsReady parts.tree table processes memories) (sym e) (child parts.tree (x.ready request.pid there))
     ready_now p (inr is) = ready parts.tree p (x.ready p is)
 
-    whole_fork : IsWhole new
+    whole_fork : IsValidSystem new
     whole_fork = record {
       ordered = ordered x.ordered;
       owners = owners;
@@ -343,11 +343,11 @@ module _ (parts : Parts) (x : IsWhole parts) (request : Request) (there : IsPid 
       | inr quiet ↦ inr (subst AreQuiet (sym (ap (λ o. o.changes) (done.outcome (bare_system parts) refl))) quiet.changes)
     ]
 
-    whole_by : (call ≡ Fork) ⊎ AreQuiet given.changes → IsWhole new
+    whole_by : (call ≡ Fork) ⊎ AreQuiet given.changes → IsValidSystem new
     whole_by (inl e) = whole_fork (subst Made e done) ordered ready (child e) (unstarted e)
     whole_by (inr quiet) = whole_quiet call done ordered ready quiet
 
-    pub whole_processes : IsWhole new
+    pub whole_processes : IsValidSystem new
     whole_processes = whole_by shape_of
 
     left_by : (call ≡ Fork) ⊎ AreQuiet given.changes → IsLeft call request given parts new

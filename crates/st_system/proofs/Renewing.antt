@@ -17,7 +17,7 @@ use Rattle.st_trace.specs.declared.entry.Change.{Change}
 use Rattle.st_trace.specs.declared.entry.Change.TheVariants.{Renewed, SetIds}
 use Rattle.st_law.specs.declared.input.Input.{Input}
 use Rattle.st_law.specs.State.{State, held_from, system_of, thread_count}
-use Rattle.st_system.specs.Steps.{RenewsBehind, renewals_of, sets_ids, unheld_system, with_renewals}
+use Rattle.st_system.specs.Steps.{AppendsRenewals, renewals_of, sets_ids, unheld_system, with_renewals}
 use Rattle.st_system.proofs.Alike.{alike}
 
 -- ---- a list of renewals
@@ -48,22 +48,22 @@ fold_same f same a (Renewed old new ∷ changes) x = ap (λ b. fold f b changes)
 fold_same f same a (change ∷ changes) x = absurd x
 
 module _ (i : Input) (st : State) (request : Request) where
-  behind : {A : Type 0} (f : A → Change → A) → ((a : A) (old new : ℕ) → f a (Renewed old new) ≡ a) → (a : A) (b : Bool) (result : CallResult) (changes : List Change)
+  following : {A : Type 0} (f : A → Change → A) → ((a : A) (old new : ℕ) → f a (Renewed old new) ≡ a) → (a : A) (b : Bool) (result : CallResult) (changes : List Change)
       → fold f a (cond b (changes ++ renewals_of i st request result) changes) ≡ fold f a changes
-  behind f same a true result changes = fold-append f a changes (renewals_of i st request result) ∙ fold_same f same (fold f a changes) (renewals_of i st request result) (of_result i st request result)
-  behind f same a false result changes = refl
+  following f same a true result changes = fold-append f a changes (renewals_of i st request result) ∙ fold_same f same (fold f a changes) (renewals_of i st request result) (of_result i st request result)
+  following f same a false result changes = refl
 
   -- changes followed by renewals have the same result as the changes alone
   pub fold_with : {A : Type 0} (f : A → Change → A) → ((a : A) (old new : ℕ) → f a (Renewed old new) ≡ a) → (call : SysCall) (a : A) (result : CallResult) (changes : List Change)
       → fold f a (with_renewals i st call request result changes) ≡ fold f a changes
-  fold_with f same call a result changes = behind f same a (sets_ids call) result changes
+  fold_with f same call a result changes = following f same a (sets_ids call) result changes
 
   -- ---- the effect of a call over the system with its held calls
 
   -- the effect of a call that sets ids
   set_by : (call : SysCall) → sets_ids call ≡ true → (o : Option Errno) (ids : Ids)
       → effect (system_of i st) call request ≡ unless_error (system_of i st) o (success (system_of i st) 0 (SetIds ids ∷ renewals request.pid request.tid (suc st.posted) (held_from st 1 (thread_count i))))
-      → effect (unheld_system i st) call request ≡ unless_error (unheld_system i st) o (success (unheld_system i st) 0 (SetIds ids ∷ [])) → RenewsBehind i st call request
+      → effect (unheld_system i st) call request ≡ unless_error (unheld_system i st) o (success (unheld_system i st) 0 (SetIds ids ∷ [])) → AppendsRenewals i st call request
   set_by call sets None ids is bare = record {
     result = ap (λ o. o.result) is ∙ sym (ap (λ o. o.result) bare);
     changes = ap (λ o. o.changes) is ∙ sym ((λ k. cond (sets k) ((bare k).changes ++ renewals_of i st request (bare k).result) (bare k).changes));
@@ -78,20 +78,20 @@ module _ (i : Input) (st : State) (request : Request) where
   set : (call : SysCall) → sets_ids call ≡ true
       → effect (system_of i st) call request ≡ unless_error (system_of i st) (first_error (set_refused call request.ids (register request 0) ∷ [])) (success (system_of i st) 0 (SetIds (ids_after_set call request.ids (register request 0)) ∷ renewals request.pid request.tid (suc st.posted) (held_from st 1 (thread_count i))))
       → effect (unheld_system i st) call request ≡ unless_error (unheld_system i st) (first_error (set_refused call request.ids (register request 0) ∷ [])) (success (unheld_system i st) 0 (SetIds (ids_after_set call request.ids (register request 0)) ∷ []))
-      → RenewsBehind i st call request
+      → AppendsRenewals i st call request
   set call sets is bare = set_by call sets (first_error (set_refused call request.ids (register request 0) ∷ [])) (ids_after_set call request.ids (register request 0)) is bare
 
   -- the effect of any other call
-  other : (call : SysCall) → sets_ids call ≡ false → effect (system_of i st) call request ≡ effect (unheld_system i st) call request → RenewsBehind i st call request
+  other : (call : SysCall) → sets_ids call ≡ false → effect (system_of i st) call request ≡ effect (unheld_system i st) call request → AppendsRenewals i st call request
   other call sets same = record {
     result = ap (λ o. o.result) same;
     changes = ap (λ o. o.changes) same ∙ sym (ap (λ b. cond b ((effect (unheld_system i st) call request).changes ++ renewals_of i st request (effect (unheld_system i st) call request).result) (effect (unheld_system i st) call request).changes) sets);
     descriptors = ap (λ o. o.descriptors) same;
   }
 
-  pub renews_behind : (call : SysCall) → RenewsBehind i st call request
-  renews_behind SetUid = set SetUid refl refl refl
-  renews_behind SetEuid = set SetEuid refl refl refl
-  renews_behind SetGid = set SetGid refl refl refl
-  renews_behind SetEgid = set SetEgid refl refl refl
-  renews_behind call = other call refl (alike (system_of i st) st.memory [] request (λ b. refl) call tt)
+  pub renews_after : (call : SysCall) → AppendsRenewals i st call request
+  renews_after SetUid = set SetUid refl refl refl
+  renews_after SetEuid = set SetEuid refl refl refl
+  renews_after SetGid = set SetGid refl refl refl
+  renews_after SetEgid = set SetEgid refl refl refl
+  renews_after call = other call refl (alike (system_of i st) st.memory [] request (λ b. refl) call tt)

@@ -5,7 +5,7 @@ use Rattle.std.proofs.Math.ListN.{get_or-eq_default}
 use Rattle.std.proofs.lemmas.Bool.{and_from, and_parts, cases_lt, le-leb, leb-true, lt-leb, ne_eqb}
 use Rattle.std.specs.List.{fold}
 use Rattle.std.specs.Prelude.{nat_le, slice_get}
-use Rattle.st_memory.specs.Memory.{Memories, is_live}
+use Rattle.st_memory.specs.Memory.{Memories, is_space_live}
 use Rattle.st_model.specs.Descriptors.{Table}
 use Rattle.st_model.specs.Process.{Process}
 use Rattle.st_model.specs.Processes.{Processes, IsPid, no_process, next_pid, process_at, thread_at}
@@ -18,7 +18,7 @@ use Rattle.st_law.specs.State.{thread_count}
 use Rattle.st_law.specs.Threads.{first_owner, owner_of_row}
 use Rattle.st_law.proofs.Laws.{all_at}
 use Rattle.st_system.specs.Start.{first_thread_of, AreFirst, CanStart, HaveStarted}
-use Rattle.st_system.specs.System.{HasOwner, IsAmong, IsSystem, IsThread, IsWhole, Parts}
+use Rattle.st_system.specs.System.{HasOwner, IsAmong, IsSystem, IsThreadState, IsValidSystem, Parts}
 use Rattle.st_system.proofs.Short.{IsShort}
 
 -- no item has an index after the last
@@ -76,9 +76,9 @@ module _ (i : Input) (tree : Tree) (table : Table) (first processes : Processes)
   -- ---- threads
 
   -- a thread of the script, by its number's index
-  none_behind : (t : ℕ) → thread_count i < t → first_owner i t ≡ 0
-  none_behind zero past = absurd (omega (arith, past))
-  none_behind (suc k) past = ap owner_of_row (beyond i.start.threads k (omega (arith, past)))
+  none_later : (t : ℕ) → thread_count i < t → first_owner i t ≡ 0
+  none_later zero past = absurd (omega (arith, past))
+  none_later (suc k) past = ap owner_of_row (beyond i.start.threads k (omega (arith, past)))
 
   started : (t : ℕ) → t ≤ thread_count i → thread_at processes t ≡ first_thread_of (first_owner i t)
   started t low = y.threads t ∙ ap (λ b. cond b (first_thread_of (first_owner i t)) None) (le-leb t (thread_count i) low)
@@ -87,14 +87,14 @@ module _ (i : Input) (tree : Tree) (table : Table) (first processes : Processes)
   unstarted t past = y.threads t ∙ ap (λ b. cond b (first_thread_of (first_owner i t)) None) (lt-leb t (thread_count i) past)
 
   module _ (t : ℕ) where
-    row_of : (owner : ℕ) → first_owner i t ≡ owner → IsThread (first_thread_of owner) (first_thread i t)
+    row_of : (owner : ℕ) → first_owner i t ≡ owner → IsThreadState (first_thread_of owner) (first_thread i t)
     row_of zero e = (e, refl)
-    row_of (suc p) e = subst (λ (b : Bool). IsThread (cond b None (Some (record { pid = suc p; ended = false }))) (first_thread i t)) (sym (ne_eqb (suc p) 0 (λ z. omega (arith, z)))) (e, refl)
+    row_of (suc p) e = subst (λ (b : Bool). IsThreadState (cond b None (Some (record { pid = suc p; ended = false }))) (first_thread i t)) (sym (ne_eqb (suc p) 0 (λ z. omega (arith, z)))) (e, refl)
 
-    thread_is : IsThread (thread_at processes t) (first_thread i t)
+    thread_is : IsThreadState (thread_at processes t) (first_thread i t)
     thread_is = elim (cases_lt (thread_count i) t) [
-      | inl past ↦ subst (λ o. IsThread o (first_thread i t)) (sym (unstarted t past)) (none_behind t past, refl)
-      | inr low ↦ subst (λ o. IsThread o (first_thread i t)) (sym (started t low)) (row_of (first_owner i t) refl)
+      | inl past ↦ subst (λ o. IsThreadState o (first_thread i t)) (sym (unstarted t past)) (none_later t past, refl)
+      | inr low ↦ subst (λ o. IsThreadState o (first_thread i t)) (sym (started t low)) (row_of (first_owner i t) refl)
     ]
 
     among_of : (owner : ℕ) → first_owner i t ≡ owner → t ≤ thread_count i → IsAmong (thread_count i) t (first_thread_of owner)
@@ -120,14 +120,14 @@ module _ (i : Input) (tree : Tree) (table : Table) (first processes : Processes)
       | inr low ↦ subst (HasOwner processes) (sym (started t low)) (owner_of (first_owner i t) (start.owners t))
     ]
 
-  pub whole_first : IsWhole parts
+  pub whole_first : IsValidSystem parts
   whole_first = record {
     ordered = y.ordered;
     owners = owner_is;
     ready = λ p is. let at = among_pids p is in record {
       table = x.has p ∙ and_from _ _ (le-leb 1 p at.0) (le-leb p (process_count i) at.1);
       process = is;
-      space = ap (λ s. is_live memories s) (own_space p at.0 at.1) ∙ x.live p at.0 at.1;
+      space = ap (λ s. is_space_live memories s) (own_space p at.0 at.1) ∙ x.live p at.0 at.1;
       real = x.real tree;
     };
     tables = λ p has. let both = and_parts (nat_le 1 p) (nat_le p (process_count i)) (sym (x.has p) ∙ has) in is_pid p (leb-true 1 p both.0) (leb-true p (process_count i) both.1);

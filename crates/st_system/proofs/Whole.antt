@@ -5,19 +5,19 @@ use Rattle.std.specs.List.{All}
 use Rattle.std.specs.Option.{option_map}
 use Rattle.std.specs.Ordering.{nat_cmp}
 use Rattle.st_fds.specs.Table.{KeepsTables}
-use Rattle.st_memory.specs.Memory.{Memories, is_live, KeepsSpaces}
+use Rattle.st_memory.specs.Memory.{Memories, is_space_live, KeepsSpaces}
 use Rattle.st_model.specs.DescriptorCalls.{table_after_close_all}
 use Rattle.st_model.specs.Descriptors.{Table}
 use Rattle.st_model.specs.Processes.{Processes, StartedThread, IsPid, process_at, processes_after_end, processes_after_end_at, thread_at}
 use Rattle.st_model.proofs.Ordered.{sorted-insert_entry}
 use Rattle.st_procs.specs.Laws.{AreOrdered, ThreadEnds}
-use Rattle.st_request.specs.Ready.{IsRealFile}
-use Rattle.st_system.specs.System.{HasOwner, IsWhole, Parts}
+use Rattle.st_request.specs.Ready.{IsValidOpenFile}
+use Rattle.st_system.specs.System.{HasOwner, IsValidSystem, Parts}
 use Rattle.st_system.proofs.Short.{IsShort}
 
 -- memory is written, and no space is made or given up
-pub whole_memory : (parts : Parts) (new : Memories) → IsWhole parts → KeepsSpaces parts.memories new
-    → IsWhole (record { tree = parts.tree; descriptors = parts.descriptors; processes = parts.processes; memories = new })
+pub whole_memory : (parts : Parts) (new : Memories) → IsValidSystem parts → KeepsSpaces parts.memories new
+    → IsValidSystem (record { tree = parts.tree; descriptors = parts.descriptors; processes = parts.processes; memories = new })
 whole_memory parts new x keeps = record {
   ordered = x.ordered;
   owners = x.owners;
@@ -52,9 +52,9 @@ files_of : (parts : Parts) (p : ℕ) (r : Bool) (new : Table) → new ≡ cond r
 files_of parts p true new is = ap (λ (t : Table). t.files) is
 files_of parts p false new is = ap (λ (t : Table). t.files) is
 
-pub whole_end : (parts : Parts) (t p : ℕ) (r : Bool) (new : Processes) (table : Table) → IsWhole parts → new ≡ processes_after_end parts.processes t → ThreadEnds parts.processes t new
+pub whole_end : (parts : Parts) (t p : ℕ) (r : Bool) (new : Processes) (table : Table) → IsValidSystem parts → new ≡ processes_after_end parts.processes t → ThreadEnds parts.processes t new
     → table ≡ cond r (table_after_close_all parts.descriptors p) parts.descriptors → KeepsTables parts.descriptors table
-    → IsWhole (record { tree = parts.tree; descriptors = table; processes = new; memories = parts.memories })
+    → IsValidSystem (record { tree = parts.tree; descriptors = table; processes = new; memories = parts.memories })
 whole_end parts t p r new table x is ends is_table keeps =
     let rows : new.rows ≡ parts.processes.rows = ap (λ (q : Processes). q.rows) is ∙ rows_stay parts.processes t in
     let back : (q : ℕ) → IsPid new q → IsPid parts.processes q = λ q there. subst (λ rows. IsPid (record { rows = rows; threads = new.threads }) q) rows there in
@@ -66,8 +66,8 @@ whole_end parts t p r new table x is ends is_table keeps =
       ready = λ q there. let before = x.ready q (back q there) in record {
         table = keeps q ∙ before.table;
         process = there;
-        space = ap (λ rows. is_live parts.memories (process_at (record { rows = rows; threads = new.threads }) q).space) rows ∙ before.space;
-        real = subst (All (IsRealFile parts.tree)) (sym (files_of parts p r table is_table)) before.real;
+        space = ap (λ rows. is_space_live parts.memories (process_at (record { rows = rows; threads = new.threads }) q).space) rows ∙ before.space;
+        real = subst (All (IsValidOpenFile parts.tree)) (sym (files_of parts p r table is_table)) before.real;
       };
       tables = λ q has. now q (x.tables q (sym (keeps q) ∙ has));
       apart = λ q r is other same. x.apart q r (back q is) (back r other) (same_space q ∙ same ∙ sym (same_space r));

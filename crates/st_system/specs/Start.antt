@@ -1,7 +1,7 @@
 -- The system that a run starts with: its parts, as the rows of a script build them one after the other.
 use Rattle.std.specs.Prelude.{◌≡◌, ◌≤◌, ◌<◌, ◌^◌, ℕ, suc, true, false, if◌then◌else◌, ◌==◌, ◌&&◌, nat_le, take, slice_get, List, [], length, Option, Some, None}
 use Rattle.std.specs.List.{All, fold, range_with_len}
-use Rattle.st_memory.specs.Memory.{Memories, byte_in, is_live, next_space}
+use Rattle.st_memory.specs.Memory.{Memories, byte_in, is_space_live, next_space}
 use Rattle.st_names.specs.Name.{printed_name}
 use Rattle.st_names.specs.declared.limits.TheConstants.{LONGEST_NAME}
 use Rattle.st_model.specs.DescriptorCalls.{table_after_start}
@@ -10,7 +10,7 @@ use Rattle.st_model.specs.Process.{Process}
 use Rattle.st_model.specs.Processes.{Processes, StartedThread, next_pid, process_at, thread_at}
 use Rattle.st_model.specs.Tree.{Tree, root_only}
 use Rattle.st_procs.specs.Laws.{AreOrdered}
-use Rattle.st_request.specs.Ready.{IsReal}
+use Rattle.st_request.specs.Ready.{AreValidOpenFiles}
 use Rattle.st_tree.specs.Refusals.{add_refused}
 use Rattle.st_trace.specs.declared.start.ProcessRow.{ProcessRow}
 use Rattle.st_trace.specs.declared.start.TreeRow.{TreeRow}
@@ -32,19 +32,19 @@ pub record CanStart (i : Input) : Type 0 where
   pub short : All (λ row. length (printed_name row.cwd) ≤ LONGEST_NAME) i.start.processes
 
 -- a process of a row, with a memory of this number
-abbrev pub process_of : Option (ℕ × ℕ) → ℕ → ProcessRow → Process
-process_of given space row = record { traced = row.traced; policy = row.binary; ids = first_ids given row.traced row.uid row.gid; cwd = row.cwd; space = space }
+abbrev pub process_at_start : Option (ℕ × ℕ) → ℕ → ProcessRow → Process
+process_at_start given space row = record { traced = row.traced; policy = row.binary; ids = first_ids given row.traced row.uid row.gid; cwd = row.cwd; space = space }
 
 -- the first so many processes have started, with descriptors and memories, and no thread has started
 pub record AreFirst (i : Input) (count : ℕ) (table : Table) (processes : Processes) (memories : Memories) : Type 0 where
   pub table_is : table ≡ fold table_after_start no_descriptors (range_with_len 1 count)
   pub has : (p : ℕ) → has_table table p ≡ (nat_le 1 p && nat_le p count)
-  pub real : (tree : Tree) → IsReal tree table
+  pub real : (tree : Tree) → AreValidOpenFiles tree table
   pub next : next_pid processes ≡ suc count
   pub rows : (p : ℕ) → 1 ≤ p → p ≤ count → process_at processes p ≡ first_process i p
   pub threads : processes.threads ≡ []
   pub next_space_is : next_space memories ≡ suc count
-  pub live : (s : ℕ) → 1 ≤ s → s ≤ count → is_live memories s ≡ true
+  pub live : (s : ℕ) → 1 ≤ s → s ≤ count → is_space_live memories s ≡ true
   pub zeros : (s b : ℕ) → byte_in memories s b ≡ 0
 
 -- a thread that has started by its row, if its row names a process

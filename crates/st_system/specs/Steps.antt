@@ -33,14 +33,14 @@ HasChild i Fork request = IsThread i request.child
 HasChild i _ request = Unit {0}
 
 -- the thread of the child hasn't started, and numbers are left for its process and its memory
-pub record CanFork (parts : Parts) (request : Request) : Type 0 where
+pub record HasRoomForChild (parts : Parts) (request : Request) : Type 0 where
   pub thread : pid_of parts.processes request.child ≡ None
   pub pids : next_pid parts.processes < 2 ^ 32 - 1
   pub spaces : next_space parts.memories < 2 ^ 32
 
 -- the precondition of each call: numbers are left, the ids are the process's own, or the arguments are fit
 abbrev pub CanMake : SysCall → Parts → Request → Type 0
-CanMake Fork parts request = CanFork parts request
+CanMake Fork parts request = HasRoomForChild parts request
 CanMake Execve parts request = next_space parts.memories < 2 ^ 32
 CanMake SetUid parts request = HasOwnIds parts.processes request
 CanMake SetEuid parts request = HasOwnIds parts.processes request
@@ -89,7 +89,7 @@ abbrev pub with_renewals : Input → State → SysCall → Request → CallResul
 with_renewals i st call request result changes = if sets_ids call then changes ++ renewals_of i st request result else changes
 
 -- the effect of a call over the system is its effect without the held calls, with their renewals appended to the changes
-pub record RenewsBehind (i : Input) (st : State) (call : SysCall) (request : Request) : Type 0 where
+pub record AppendsRenewals (i : Input) (st : State) (call : SysCall) (request : Request) : Type 0 where
   pub result : (effect (system_of i st) call request).result ≡ (effect (unheld_system i st) call request).result
   pub changes : (effect (system_of i st) call request).changes
       ≡ with_renewals i st call request (effect (unheld_system i st) call request).result (effect (unheld_system i st) call request).changes
@@ -103,6 +103,6 @@ pub record IsMade (i : Input) (st : State) (seq : Option ℕ) (call : SysCall) (
   pub system : IsSystem i (state_after i st (Used request.tid seq call request.regs request.args request.ids outcome.result (with_renewals i st call request outcome.result outcome.changes))) parts
 
 -- a call was made over the old parts and led to the new parts, whatever the state is that the old parts represent
-abbrev pub IsDone : SysCall → Request → Outcome → Parts → Parts → Type 0
-IsDone call request outcome old new =
+abbrev pub IsCallMade : SysCall → Request → Outcome → Parts → Parts → Type 0
+IsCallMade call request outcome old new =
     (i : Input) (st : State) → IsSystem i st old → IsRequest i st request → HasChild i call request → (seq : Option ℕ) → IsMade i st seq call request outcome new

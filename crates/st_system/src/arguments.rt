@@ -1,6 +1,6 @@
 // The arguments of a call that is made in one step, and the links in the way of a call.
 ghost use Rattle.std.specs.Prelude.{◌≡◌, true, None, IsSome, IfOk};
-ghost use Rattle.st_arguments.specs.Arguments.{progress_of};
+ghost use Rattle.st_arguments.specs.Arguments.{arguments_progress};
 ghost use Rattle.st_calls.specs.Call.{follows};
 ghost use Rattle.st_exec_fs.specs.Open.{IsNoLink};
 ghost use Rattle.st_law.specs.State.{State, arguments_now, link_now};
@@ -28,7 +28,7 @@ impl System {
         aliasing: bool,
     ) -> Result<Arguments, AllocError>
         requires { IsSome (pid_of self.now.processes tid) }
-        ensures { IfOk result (λ arguments. (i : Input) (st : State) → IsSystem i st self.now → i.options.aliasing ≡ aliasing → arguments_now i st tid call regs.now ≡ progress_of arguments) }
+        ensures { IfOk result (λ arguments. (i : Input) (st : State) → IsSystem i st self.now → i.options.aliasing ≡ aliasing → arguments_now i st tid call regs.now ≡ arguments_progress arguments) }
     {
         let Some(pid) = self.procs.pid_of(tid) else {
             unreachable!()

@@ -7,7 +7,7 @@ ghost use Rattle.st_exec_fs.specs.Execution.{IsOnFiles};
 ghost use Rattle.st_exec_fs.specs.Open.{IsNoLink};
 ghost use Rattle.st_memory.specs.Memory.{next_space};
 ghost use Rattle.st_model.specs.Processes.{IsPid};
-ghost use Rattle.st_system.specs.Steps.{CanMake, IsDone, IsOnProcesses};
+ghost use Rattle.st_system.specs.Steps.{CanMake, IsCallMade, IsOnProcesses};
 
 use crate::System;
 use st_calls::SysCall;
@@ -29,7 +29,7 @@ impl System {
         requires process { IsPid self.old.processes request.now.pid }
         requires can { CanMake call self.old request.now }
         requires no_link { follows call request.now.regs 0 ≡ true → IsNoLink self.old.tree (arg_name_at request.now 0) }
-        ensures done { IfOk result (λ outcome. IsDone call request.now outcome self.old self.new) }
+        ensures done { IfOk result (λ outcome. IsCallMade call request.now outcome self.old self.new) }
         ensures err { OnErr result (self.new ≡ self.old) }
     {
         execute_fs(
@@ -51,7 +51,7 @@ impl System {
     ) -> Result<Outcome, AllocError>
         requires process { IsPid self.old.processes request.now.pid }
         requires room { next_space self.old.memories < 2 ^ 32 }
-        ensures done { IfOk result (λ outcome. IsDone Execve request.now outcome self.old self.new) }
+        ensures done { IfOk result (λ outcome. IsCallMade Execve request.now outcome self.old self.new) }
         ensures err { OnErr result (self.new ≡ self.old) }
     {
         execve(
@@ -73,7 +73,7 @@ impl System {
         requires on { IsOnProcesses call }
         requires process { IsPid self.old.processes request.now.pid }
         requires can { CanMake call self.old request.now }
-        ensures done { IfOk result (λ outcome. IsDone call request.now outcome self.old self.new) }
+        ensures done { IfOk result (λ outcome. IsCallMade call request.now outcome self.old self.new) }
         ensures err { OnErr result (self.new ≡ self.old) }
     {
         execute_sys(
@@ -97,7 +97,7 @@ impl System {
         requires process { IsPid self.old.processes request.now.pid }
         requires can { CanMake call self.old request.now }
         requires no_link { follows call request.now.regs 0 ≡ true → IsNoLink self.old.tree (arg_name_at request.now 0) }
-        ensures done { IfOk result (λ outcome. IsDone call request.now outcome self.old self.new) }
+        ensures done { IfOk result (λ outcome. IsCallMade call request.now outcome self.old self.new) }
         ensures err { OnErr result (self.new ≡ self.old) }
     {
         match call {

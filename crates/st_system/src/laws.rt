@@ -10,13 +10,13 @@ ghost use Rattle.st_model.specs.Processes.{is_running};
 ghost use Rattle.st_names.specs.Name.{Components};
 ghost use Rattle.st_names.specs.declared.seen.SeenText.{SeenText};
 ghost use Rattle.st_system.specs.Fit.{AreFit};
-ghost use Rattle.st_system.specs.Steps.{RenewsBehind};
+ghost use Rattle.st_system.specs.Steps.{AppendsRenewals};
 ghost use Rattle.st_system.specs.System.{IsSystem, Parts};
 
 /// A call has the same result whether calls are held or not. After the changes of a call that has set ids, the held calls of its process
 /// are renewed.
 pub fn calls_that_set_ids_renew()
-    ensures { (i : Input) (st : State) (call : SysCall) (request : Request) → RenewsBehind i st call request }
+    ensures { (i : Input) (st : State) (call : SysCall) (request : Request) → AppendsRenewals i st call request }
 {}
 
 /// Complete arguments are fit for their call: those of a call that is made in one step, and the copies of a held call.

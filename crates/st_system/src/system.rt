@@ -2,7 +2,7 @@ ghost use Rattle.std.specs.Prelude.{◌≡◌, ◌≤◌, ◌<◌, ◌==◌, not
 ghost use Rattle.st_fds.specs.Table.{KeepsTables};
 ghost use Rattle.st_model.specs.DescriptorCalls.{table_after_close_all};
 ghost use Rattle.st_model.specs.Descriptors.{has_table};
-ghost use Rattle.st_model.specs.Processes.{IsPid, is_live, is_running, pid_of, process_at};
+ghost use Rattle.st_model.specs.Processes.{IsPid, is_process_live, is_running, pid_of, process_at};
 ghost use Rattle.st_memory.specs.Memory.{byte_in};
 ghost use Rattle.st_model.specs.Memory.{word_of};
 ghost use Rattle.st_model.specs.Tree.{look};
@@ -38,13 +38,13 @@ pub struct System {
 }
 
 impl Model for System {
-    ghost use Rattle.st_system.specs.System.{IsWhole, Parts};
+    ghost use Rattle.st_system.specs.System.{IsValidSystem, Parts};
 
     ghost Value = { Parts };
 
     ghost view = { λ s. record { tree = s.tree; descriptors = s.fds; processes = s.procs; memories = s.spaces } };
 
-    ghost invariant = { λ s. IsWhole (record { tree = s.tree; descriptors = s.fds; processes = s.procs; memories = s.spaces }) };
+    ghost invariant = { λ s. IsValidSystem (record { tree = s.tree; descriptors = s.fds; processes = s.procs; memories = s.spaces }) };
 }
 
 // Closes the descriptors of a process, if it has ended.
@@ -95,7 +95,7 @@ impl System {
     /// Whether a process hasn't ended: it never had a thread, or has a thread that hasn't ended.
     pub fn is_live(&self, pid: Pid) -> bool
         requires { IsPid self.now.processes pid }
-        ensures live { result ≡ is_live self.now.processes pid }
+        ensures live { result ≡ is_process_live self.now.processes pid }
         ensures law { (i : Input) (st : State) → IsSystem i st self.now → result ≡ is_live_process i st pid }
     {
         self.procs.alive(pid)

@@ -16,11 +16,11 @@ use Rattle.st_trace.specs.declared.entry.Change.{Change}
 use Rattle.st_trace.specs.declared.entry.Change.TheVariants.{Dying, Execed}
 use Rattle.st_law.specs.Messages.{Head}
 use Rattle.st_law.specs.State.{State, is_live}
-use Rattle.st_workers.specs.Kept.{IsKept}
+use Rattle.st_workers.specs.Refinement.{RepresentsMessages}
 use Rattle.st_workers.specs.UnderWay.{UnderWay}
 use Rattle.st_workers.proofs.Ended.{lives_as}
 use Rattle.st_workers.proofs.Turns.{item_put, number_within}
-use Rattle.st_threads.specs.Ending.{AreHeld, EndsCall, HasNumber, HaveCalls, HaveEnded, IsNumberOf, is_end_of, is_ended_by, is_head_among, life_but, life_without_number, row_dying_if}
+use Rattle.st_threads.specs.Ending.{AreLiveNumbersHeld, EndsCall, HasNumber, HaveCalls, HaveEnded, IsNumberOf, is_end_of, is_ended_by, is_head_among, life_but, life_without_number, row_dying_if}
 use Rattle.st_threads.specs.Thread.{ThreadRow, number_held}
 use Rattle.st_threads.proofs.Rows.{holds, none_closed}
 
@@ -31,13 +31,13 @@ not_dead true alive e = cc
 not_dead false alive e = (refl, e)
 
 -- the number that a thread holds is that of its head
-mine_alone : (st : State) (alive : ℕ → Bool) (rows : List ThreadRow) → AreHeld st alive rows → (t : ℕ) (row : ThreadRow) → item_at_number rows t ≡ Some row → (q : ℕ) (head : Head) → (st.messages q).head ≡ Some head → head.tid ≢ t → is_number q (number_held row) ≡ false
+mine_alone : (st : State) (alive : ℕ → Bool) (rows : List ThreadRow) → AreLiveNumbersHeld st alive rows → (t : ℕ) (row : ThreadRow) → item_at_number rows t ≡ Some row → (q : ℕ) (head : Head) → (st.messages q).head ≡ Some head → head.tid ≢ t → is_number q (number_held row) ≡ false
 mine_alone st alive rows are t row row_is q head posted other = by (number_held row) refl where
   by : (o : Option ℕ) → number_held row ≡ o → is_number q o ≡ false
   by None e = refl
   by (Some p) e = ne_eqb p q (λ same. let x = are.lives t row p row_is e in other (ap (λ (h : Head). h.tid) (same_Some head x.head (sym posted ∙ ap (λ (n : ℕ). (st.messages n).head) (sym same) ∙ x.posted)) ∙ x.tid_is))
 
-module _ (st : State) (alive : ℕ → Bool) (rows : List ThreadRow) (are : AreHeld st alive rows) (t : ℕ) (row : ThreadRow) (row_is : item_at_number rows t ≡ Some row) where
+module _ (st : State) (alive : ℕ → Bool) (rows : List ThreadRow) (are : AreLiveNumbersHeld st alive rows) (t : ℕ) (row : ThreadRow) (row_is : item_at_number rows t ≡ Some row) where
   abbrev closed : ThreadRow
   closed = record row { pending = None }
 
@@ -69,7 +69,7 @@ module _ (st : State) (alive : ℕ → Bool) (rows : List ThreadRow) (are : AreH
   ]
 
   -- each live number is still that of a held call after one call has ended
-  pub closed_held : AreHeld st (life_without_number alive (number_held row)) (set rows (t - 1) closed)
+  pub closed_held : AreLiveNumbersHeld st (life_without_number alive (number_held row)) (set rows (t - 1) closed)
   closed_held = record { own = closed_own; lives = closed_lives }
 
 -- ---- dying threads
@@ -78,7 +78,7 @@ spared : (o : Option ThreadRow) (q : ℕ) → HasNumber o q → HasNumber (optio
 spared None q x = x
 spared (Some row) q x = x
 
-module _ (dies : ℕ → Bool) (rows new : List ThreadRow) (each : (t : ℕ) → item_at_number new t ≡ option_map (λ (row : ThreadRow). row_dying_if (dies t) row) (item_at_number rows t)) (st : State) (alive : ℕ → Bool) (are : AreHeld st alive rows) where
+module _ (dies : ℕ → Bool) (rows new : List ThreadRow) (each : (t : ℕ) → item_at_number new t ≡ option_map (λ (row : ThreadRow). row_dying_if (dies t) row) (item_at_number rows t)) (st : State) (alive : ℕ → Bool) (are : AreLiveNumbersHeld st alive rows) where
   left_own : (q : ℕ) (head : Head) → life_but dies st alive q ≡ true → (st.messages q).head ≡ Some head → HasNumber (item_at_number new head.tid) q
   left_own q head life posted =
       let parts = not_dead (is_head_among dies (st.messages q).head) (alive q) life in
@@ -101,7 +101,7 @@ module _ (dies : ℕ → Bool) (rows new : List ThreadRow) (each : (t : ℕ) →
         }
 
   -- each live number is still that of a held call after threads have ended with theirs
-  pub left_held : AreHeld st (life_but dies st alive) new
+  pub left_held : AreLiveNumbersHeld st (life_but dies st alive) new
   left_held = record { own = left_own; lives = left_lives }
 
 -- ---- one after the other
@@ -119,7 +119,7 @@ pub none_ended : (rows : List ThreadRow) (workers : UnderWay) → HaveEnded (λ 
 none_ended rows workers = record {
   count = refl;
   rows = λ t. all_spared (item_at_number rows t);
-  kept = λ i st alive kept are. subst (λ (live : ℕ → Bool). IsKept i st live workers) (λ k other. cond (sym (none_among (st.messages other).head) k) false (alive other)) kept;
+  kept = λ i st alive kept are. subst (λ (live : ℕ → Bool). RepresentsMessages i st live workers) (λ k other. cond (sym (none_among (st.messages other).head) k) false (alive other)) kept;
 }
 
 both_die : (a b : Bool) (o : Option ThreadRow) → option_map (λ (row : ThreadRow). row_dying_if b row) (option_map (λ (row : ThreadRow). row_dying_if a row) o) ≡ option_map (λ (row : ThreadRow). row_dying_if (a || b) row) o
@@ -142,7 +142,7 @@ pub both_ended : (a b : ℕ → Bool) (rows : List ThreadRow) (workers : UnderWa
 both_ended a b rows workers mid between new left first second = record {
   count = second.count ∙ first.count;
   rows = λ t. second.rows t ∙ ap (option_map (λ (row : ThreadRow). row_dying_if (b t) row)) (first.rows t) ∙ both_die (a t) (b t) (item_at_number rows t);
-  kept = λ i st alive kept are. subst (λ (live : ℕ → Bool). IsKept i st live left) (λ k other. both_among a b (st.messages other).head (alive other) k)
+  kept = λ i st alive kept are. subst (λ (live : ℕ → Bool). RepresentsMessages i st live left) (λ k other. both_among a b (st.messages other).head (alive other) k)
       (second.kept i st (life_but a st alive) (first.kept i st alive kept are) (left_held a rows mid first.rows st alive are));
 }
 
@@ -164,7 +164,7 @@ module _ (rows : List ThreadRow) (workers left : UnderWay) (u : ℕ) (row : Thre
             ∙ all_spared (item_at_number rows t) ∙ ap (λ (b : Bool). option_map (λ (each : ThreadRow). row_dying_if b each) (item_at_number rows t)) (sym (ne_eqb t u ne))
       ]
 
-  module _ (st : State) (alive : ℕ → Bool) (are : AreHeld st alive rows) (other : ℕ) where
+  module _ (st : State) (alive : ℕ → Bool) (are : AreLiveNumbersHeld st alive rows) (other : ℕ) where
     by_head : (o : Option Head) → (st.messages other).head ≡ o → alive other ≡ true → is_number other (number_held row) ≡ is_head_among (λ t. t == u) o
     by_head None posted live = by (number_held row) refl where
       by : (o : Option ℕ) → number_held row ≡ o → is_number other o ≡ false
@@ -191,7 +191,7 @@ module _ (rows : List ThreadRow) (workers left : UnderWay) (u : ℕ) (row : Thre
   one_ended = record {
     count = length-set rows (u - 1) _;
     rows = one_row;
-    kept = λ i st alive kept are. subst (λ (live : ℕ → Bool). IsKept i st live left) (λ k other. one_life st alive are other (alive other) refl k) (ends i st alive kept);
+    kept = λ i st alive kept are. subst (λ (live : ℕ → Bool). RepresentsMessages i st live left) (λ k other. one_life st alive are other (alive other) refl k) (ends i st alive kept);
   }
 
 -- ---- the threads of the script up to a number
@@ -202,7 +202,7 @@ pub ended_where : (a b : ℕ → Bool) (rows : List ThreadRow) → ((t : ℕ) (r
 ended_where a b rows same workers new left x = record {
   count = x.count;
   rows = λ t. x.rows t ∙ by_row t (item_at_number rows t) refl;
-  kept = λ i st alive kept are. subst (λ (live : ℕ → Bool). IsKept i st live left) (λ k other. lives st alive are other (alive other) refl k) (x.kept i st alive kept are);
+  kept = λ i st alive kept are. subst (λ (live : ℕ → Bool). RepresentsMessages i st live left) (λ k other. lives st alive are other (alive other) refl k) (x.kept i st alive kept are);
 } where
   by_row : (t : ℕ) (o : Option ThreadRow) → item_at_number rows t ≡ o → option_map (λ (row : ThreadRow). row_dying_if (a t) row) o ≡ option_map (λ (row : ThreadRow). row_dying_if (b t) row) o
   by_row t None e = refl
@@ -218,11 +218,11 @@ ended_where a b rows same workers new left x = record {
   held_by t q None e x = absurd x
   held_by t q (Some row) e x = same t row e
 
-  among : (st : State) (alive : ℕ → Bool) → AreHeld st alive rows → (other : ℕ) → alive other ≡ true → (o : Option Head) → (st.messages other).head ≡ o → is_head_among a o ≡ is_head_among b o
+  among : (st : State) (alive : ℕ → Bool) → AreLiveNumbersHeld st alive rows → (other : ℕ) → alive other ≡ true → (o : Option Head) → (st.messages other).head ≡ o → is_head_among a o ≡ is_head_among b o
   among st alive are other live None posted = refl
   among st alive are other live (Some head) posted = held_by head.tid other (item_at_number rows head.tid) refl (are.own other head live posted)
 
-  lives : (st : State) (alive : ℕ → Bool) → AreHeld st alive rows → (other : ℕ) (live : Bool) → alive other ≡ live → life_but a st alive other ≡ life_but b st alive other
+  lives : (st : State) (alive : ℕ → Bool) → AreLiveNumbersHeld st alive rows → (other : ℕ) (live : Bool) → alive other ≡ live → life_but a st alive other ≡ life_but b st alive other
   lives st alive are other false e = ap (λ (x : Bool). cond (is_head_among a (st.messages other).head) false x) e ∙ dead (is_head_among a (st.messages other).head) (is_head_among b (st.messages other).head)
       ∙ ap (λ (x : Bool). cond (is_head_among b (st.messages other).head) false x) (sym e)
   lives st alive are other true e = ap (λ (x : Bool). cond x false (alive other)) (among st alive are other e (st.messages other).head refl)
@@ -284,12 +284,12 @@ module _ (dies : ℕ → Bool) (rows : List ThreadRow) (workers : UnderWay) (now
   next_spared stays = ended_as (λ t. nat_le t n && dies t) (λ t. nat_le t (n + 1) && dies t) (λ t. no_more n t dies stays) rows workers now between so_far
 
   -- the number of its held call is live
-  pub next_lives : HaveCalls rows workers → (row : ThreadRow) → item_at_number now (suc n) ≡ Some row → IfSome (number_held row) (λ q. calls.is_live between.calls q ≡ true)
+  pub next_lives : HaveCalls rows workers → (row : ThreadRow) → item_at_number now (suc n) ≡ Some row → IfSome (number_held row) (λ q. calls.is_live_number between.calls q ≡ true)
   next_lives have row row_is = by (number_held row) refl where
-    held : AreHeld have.state (life_but (λ t. nat_le t n && dies t) have.state have.alive) now
+    held : AreLiveNumbersHeld have.state (life_but (λ t. nat_le t n && dies t) have.state have.alive) now
     held = left_held (λ t. nat_le t n && dies t) rows now so_far.rows have.state have.alive have.held
 
-    by : (o : Option ℕ) → number_held row ≡ o → IfSome o (λ q. calls.is_live between.calls q ≡ true)
+    by : (o : Option ℕ) → number_held row ≡ o → IfSome o (λ q. calls.is_live_number between.calls q ≡ true)
     by None e = tt
     by (Some q) e = lives_as have.input have.state (life_but (λ t. nat_le t n && dies t) have.state have.alive) between q (so_far.kept have.input have.state have.alive have.kept have.held) ∙ (held.lives (suc n) row q row_is e).lives
 

@@ -7,10 +7,10 @@ use Rattle.std.specs.Prelude.{IfSome}
 use Rattle.st_model.specs.Processes.{Processes}
 use Rattle.st_names.specs.Name.{Components}
 use Rattle.st_trace.specs.declared.entry.Change.{Change}
-use Rattle.st_threads.specs.Renewing.{next_behind, number_renewed, numbers_from, renewals_from, with_number}
+use Rattle.st_threads.specs.Renewing.{next_after, number_renewed, numbers_from, renewals_from, with_number}
 use Rattle.st_threads.specs.Thread.{ThreadRow}
 
-one_renewal : (next : ℕ) (seq : Option ℕ) (numbers : List ℕ) → renewals_from next (with_number seq []) ++ renewals_from (next_behind next seq) numbers ≡ renewals_from next (with_number seq numbers)
+one_renewal : (next : ℕ) (seq : Option ℕ) (numbers : List ℕ) → renewals_from next (with_number seq []) ++ renewals_from (next_after next seq) numbers ≡ renewals_from next (with_number seq numbers)
 one_renewal next None numbers = refl
 one_renewal next (Some q) numbers = refl
 
@@ -18,7 +18,7 @@ one_copy : (cwd : Components) (seq : Option ℕ) (numbers : List ℕ) → replic
 one_copy cwd None numbers = refl
 one_copy cwd (Some q) numbers = refl
 
-one_next : (next : ℕ) (seq : Option ℕ) → next_behind next seq ≤ next + 1
+one_next : (next : ℕ) (seq : Option ℕ) → next_after next seq ≤ next + 1
 one_next next None = omega arith
 one_next next (Some q) = omega arith
 
@@ -28,20 +28,20 @@ module _ (processes : Processes) (pid caller next : ℕ) (rows : List ThreadRow)
 
   -- the renewals of the first n threads are planned
   pub record PlannedSoFar (n : ℕ) (changes : List Change) (cwds : List Components) (now : ℕ) : Type 0 where
-    pub told : changes ++ renewals_from now (numbers (suc n) (drop n rows)) ≡ front ++ renewals_from next (numbers 1 rows)
+    pub known : changes ++ renewals_from now (numbers (suc n) (drop n rows)) ≡ front ++ renewals_from next (numbers 1 rows)
     pub copies : cwds ++ replicate (length (numbers (suc n) (drop n rows))) cwd ≡ replicate (length (numbers 1 rows)) cwd
     pub room : now + length (drop n rows) < 2 ^ 64
 
   pub none_planned : (changes : List Change) (cwds : List Components) (now : ℕ) → changes ≡ front → cwds ≡ [] → now ≡ next → next + length rows < 2 ^ 64 → PlannedSoFar 0 changes cwds now
   none_planned changes cwds now changes_are cwds_are now_is room = record {
-    told = λ k. changes_are k ++ renewals_from (now_is k) (numbers 1 rows);
+    known = λ k. changes_are k ++ renewals_from (now_is k) (numbers 1 rows);
     copies = ap (λ (l : List Components). l ++ replicate (length (numbers 1 rows)) cwd) cwds_are;
     room = omega (arith, room, now_is);
   }
 
   module _ (n : ℕ) (changes : List Change) (cwds : List Components) (now : ℕ) (so_far : PlannedSoFar n changes cwds now) where
-    pub all_told : length rows ≤ n → changes ≡ front ++ renewals_from next (numbers 1 rows)
-    all_told end = sym (append-nil changes) ∙ ap (λ (l : List ThreadRow). changes ++ renewals_from now (numbers (suc n) l)) (sym (drop_of_length-le rows {i = n} end)) ∙ so_far.told
+    pub all_known : length rows ≤ n → changes ≡ front ++ renewals_from next (numbers 1 rows)
+    all_known end = sym (append-nil changes) ∙ ap (λ (l : List ThreadRow). changes ++ renewals_from now (numbers (suc n) l)) (sym (drop_of_length-le rows {i = n} end)) ∙ so_far.known
 
     pub all_copied : length rows ≤ n → cwds ≡ replicate (length (numbers 1 rows)) cwd
     all_copied end = sym (append-nil cwds) ∙ ap (λ (l : List ThreadRow). cwds ++ replicate (length (numbers (suc n) l)) cwd) (sym (drop_of_length-le rows {i = n} end)) ∙ so_far.copies
@@ -68,11 +68,11 @@ module _ (processes : Processes) (pid caller next : ℕ) (rows : List ThreadRow)
         by None = tt
         by (Some q) = let left = so_far.room in let more = ap length here in omega (arith, left, more)
 
-      pub next_planned : (told : List Change) (copied : List Components) (then : ℕ) → told ≡ changes ++ renewals_from now (with_number seq []) → copied ≡ cwds ++ replicate (length (with_number seq [])) cwd → then ≡ next_behind now seq
-          → PlannedSoFar (n + 1) told copied then
-      next_planned told copied then told_is copied_is then_is = record {
-        told = (λ k. told_is k ++ renewals_from (then_is k) (rest_is k)) ∙ append_assoc changes (renewals_from now (with_number seq [])) (renewals_from (next_behind now seq) rest)
-            ∙ ap (λ (l : List Change). changes ++ l) (one_renewal now seq rest) ∙ ap (λ (l : List ℕ). changes ++ renewals_from now l) numbers_are ∙ so_far.told;
+      pub next_planned : (known : List Change) (copied : List Components) (then : ℕ) → known ≡ changes ++ renewals_from now (with_number seq []) → copied ≡ cwds ++ replicate (length (with_number seq [])) cwd → then ≡ next_after now seq
+          → PlannedSoFar (n + 1) known copied then
+      next_planned known copied then known_is copied_is then_is = record {
+        known = (λ k. known_is k ++ renewals_from (then_is k) (rest_is k)) ∙ append_assoc changes (renewals_from now (with_number seq [])) (renewals_from (next_after now seq) rest)
+            ∙ ap (λ (l : List Change). changes ++ l) (one_renewal now seq rest) ∙ ap (λ (l : List ℕ). changes ++ renewals_from now l) numbers_are ∙ so_far.known;
         copies = (λ k. copied_is k ++ replicate (length (rest_is k)) cwd) ∙ append_assoc cwds (replicate (length (with_number seq [])) cwd) (replicate (length rest) cwd)
             ∙ ap (λ (l : List Components). cwds ++ l) (one_copy cwd seq rest) ∙ ap (λ (l : List ℕ). cwds ++ replicate (length l) cwd) numbers_are ∙ so_far.copies;
         room = let left = so_far.room in let more = ap length here in let most = one_next now seq in omega (arith, left, more, most, then_is);

@@ -10,10 +10,10 @@ use Rattle.st_model.specs.Process.{Process}
 use Rattle.st_model.specs.Processes.{Processes, process_at}
 use Rattle.st_names.specs.Name.{Components}
 use Rattle.st_law.specs.State.{State}
-use Rattle.st_workers.specs.Kept.{IsKept, messages_renewed}
+use Rattle.st_workers.specs.Refinement.{RepresentsMessages, messages_renewed}
 use Rattle.st_workers.specs.UnderWay.{UnderWay}
 use Rattle.st_workers.proofs.Ended.{lives_as}
-use Rattle.st_threads.specs.Renewing.{AreOthers, CanRenew, HaveRenewed, LiveApart, RenewsAll, RenewsIf, RenewsOne, next_behind, number_renewed, numbers_from, row_renewed, rows_renewed, with_number}
+use Rattle.st_threads.specs.Renewing.{AreOthers, CanRenew, HaveRenewed, AreLiveAndDistinct, RenewsAll, RenewsIf, RenewsOne, next_after, number_renewed, numbers_from, row_renewed, rows_renewed, with_number}
 use Rattle.st_threads.specs.Thread.{ThreadRow}
 
 -- ---- lists of one item
@@ -31,12 +31,12 @@ last_of front x all item split same =
 -- ---- one number is renewed
 
 -- live numbers stay live if another number is renewed
-live_behind : (alive : ℕ → Bool) (q fresh : ℕ) (numbers : List ℕ) → AreOthers q numbers → LiveApart alive numbers → LiveApart (λ other. cond (other == fresh) true (cond (other == q) false (alive other))) numbers
-live_behind alive q fresh [] others live = tt
-live_behind alive q fresh (p ∷ numbers) others live = (
+live_after : (alive : ℕ → Bool) (q fresh : ℕ) (numbers : List ℕ) → AreOthers q numbers → AreLiveAndDistinct alive numbers → AreLiveAndDistinct (λ other. cond (other == fresh) true (cond (other == q) false (alive other))) numbers
+live_after alive q fresh [] others live = tt
+live_after alive q fresh (p ∷ numbers) others live = (
   ap (λ (b : Bool). cond (p == fresh) true (cond b false (alive p))) (ne_eqb p q others.0) ∙ ap (λ (b : Bool). cond (p == fresh) true b) live.0 ∙ always (p == fresh),
   live.1,
-  live_behind alive q fresh numbers others.1 live.2,
+  live_after alive q fresh numbers others.1 live.2,
 ) where
   always : (b : Bool) → cond b true true ≡ true
   always true = refl
@@ -52,22 +52,22 @@ module _ (process : Process) (q : ℕ) (numbers : List ℕ) (between left : Unde
   abbrev then : State
   then = record can.state { messages = messages_renewed process q fresh can.state.messages; posted = fresh }
 
-  kept : IsKept can.input then later left
+  kept : RepresentsMessages can.input then later left
   kept = renews can.input can.state.messages can.state.turns can.alive later can.state.posted can.kept (λ other. refl)
 
   one_next : left.calls.next ≡ suc between.calls.next
   one_next = kept.agrees.next ∙ ap suc (sym can.kept.agrees.next)
 
   one_can : CanRenew left numbers
-  one_can = record { input = can.input; state = then; alive = later; kept = kept; live = live_behind can.alive q fresh numbers can.live.1 can.live.2 }
+  one_can = record { input = can.input; state = then; alive = later; kept = kept; live = live_after can.alive q fresh numbers can.live.1 can.live.2 }
 
 -- ---- an optional number is renewed
 
-pub lives_if : (seq : Option ℕ) (numbers : List ℕ) (workers : UnderWay) → CanRenew workers (with_number seq numbers) → IfSome seq (λ q. calls.is_live workers.calls q ≡ true)
+pub lives_if : (seq : Option ℕ) (numbers : List ℕ) (workers : UnderWay) → CanRenew workers (with_number seq numbers) → IfSome seq (λ q. calls.is_live_number workers.calls q ≡ true)
 lives_if None numbers workers can = tt
 lives_if (Some q) numbers workers can = lives_as can.input can.state can.alive workers q can.kept ∙ can.live.0
 
-next_if : (process : Process) (seq : Option ℕ) (numbers : List ℕ) (between left : UnderWay) → CanRenew between (with_number seq numbers) → RenewsIf process seq between left → left.calls.next ≡ next_behind between.calls.next seq
+next_if : (process : Process) (seq : Option ℕ) (numbers : List ℕ) (between left : UnderWay) → CanRenew between (with_number seq numbers) → RenewsIf process seq between left → left.calls.next ≡ next_after between.calls.next seq
 next_if process None numbers between left can renews = ap (λ (w : UnderWay). w.calls.next) renews
 next_if process (Some q) numbers between left can renews = one_next process q numbers between left can renews
 
@@ -83,7 +83,7 @@ one_length : (seq : Option ℕ) (numbers : List ℕ) → length (with_number seq
 one_length None numbers = omega arith
 one_length (Some q) numbers = omega arith
 
-next_most : (next : ℕ) (seq : Option ℕ) → next_behind next seq ≤ next + 1
+next_most : (next : ℕ) (seq : Option ℕ) → next_after next seq ≤ next + 1
 next_most next None = omega arith
 next_most next (Some q) = omega arith
 
@@ -148,7 +148,7 @@ module _ (processes : Processes) (pid caller : ℕ) where
       count : length cwds ≡ length (with_number seq rest)
       count = ap length copies ∙ length-replicate (length (with_number seq rest)) process.cwd
 
-      pub next_lives : IfSome seq (λ q. calls.is_live between.calls q ≡ true)
+      pub next_lives : IfSome seq (λ q. calls.is_live_number between.calls q ≡ true)
       next_lives = lives_if seq rest between can
 
       room : between.calls.next + 1 + length (drop (n + 1) now) < 2 ^ 64
@@ -176,7 +176,7 @@ module _ (processes : Processes) (pid caller : ℕ) where
         left_over : drop (n + 1) rows_next ≡ drop (n + 1) now
         left_over = drop-set-lt (n + 1) now n (row_renewed between.calls.next seq row) (omega arith)
 
-        next_is : left.calls.next ≡ next_behind between.calls.next seq
+        next_is : left.calls.next ≡ next_after between.calls.next seq
         next_is = next_if process seq rest between left can kept
 
         numbers_then : numbers (suc (n + 1)) (drop (n + 1) rows_next) ≡ rest
@@ -184,8 +184,8 @@ module _ (processes : Processes) (pid caller : ℕ) where
 
         rows_then : take (n + 1) rows_next ++ renewed left.calls.next (suc (n + 1)) (drop (n + 1) rows_next) ≡ take n now ++ renewed between.calls.next (suc n) (drop n now)
         rows_then = (λ k. take_more_set now n (row_renewed between.calls.next seq row) inside k ++ renewed (next_is k) (suc (after k)) (left_over k))
-            ∙ append_assoc (take n now) (row_renewed between.calls.next seq row ∷ []) (renewed (next_behind between.calls.next seq) (suc (suc n)) (drop (n + 1) now))
-            ∙ ap (λ (s : Option ℕ). take n now ++ (row_renewed between.calls.next s row ∷ renewed (next_behind between.calls.next s) (suc (suc n)) (drop (n + 1) now))) seq_here
+            ∙ append_assoc (take n now) (row_renewed between.calls.next seq row ∷ []) (renewed (next_after between.calls.next seq) (suc (suc n)) (drop (n + 1) now))
+            ∙ ap (λ (s : Option ℕ). take n now ++ (row_renewed between.calls.next s row ∷ renewed (next_after between.calls.next s) (suc (suc n)) (drop (n + 1) now))) seq_here
             ∙ ap (λ (l : List ThreadRow). take n now ++ renewed between.calls.next (suc n) l) (sym here)
 
         few : length fewer ≡ length rest

@@ -20,10 +20,10 @@ use Rattle.st_trace.specs.declared.entry.Change.{Change}
 use Rattle.st_trace.specs.declared.entry.Change.TheVariants.{Renewed}
 use Rattle.st_trace.specs.declared.entry.Way.{Way}
 use Rattle.st_trace.specs.declared.entry.Way.TheVariants.{Fast, Barred, Held, Untraced}
-use Rattle.st_workers.specs.Kept.{AreKept, messages_renewed}
+use Rattle.st_workers.specs.Refinement.{RepresentsMachineMessages, messages_renewed}
 use Rattle.st_workers.specs.UnderWay.{UnderWay}
 use Rattle.st_threads.specs.Ending.{owner_of}
-use Rattle.st_threads.specs.Renewing.{AreOthers, LiveApart, RenewsAll, next_behind, number_renewed, numbers_from, renewals_from, row_renewed, rows_renewed, with_number}
+use Rattle.st_threads.specs.Renewing.{AreOthers, AreLiveAndDistinct, RenewsAll, next_after, number_renewed, numbers_from, renewals_from, row_renewed, rows_renewed, with_number}
 use Rattle.st_threads.specs.Thread.{ThreadRow, IsRow, IsRowOf, number_by_way, number_held, number_pending}
 use Rattle.st_threads.proofs.Rows.{either_none, holds}
 
@@ -155,7 +155,7 @@ module _ (processes : Processes) (pid caller : ℕ) where
 
   pub count_renewed : (rows : List ThreadRow) (u next : ℕ) → length (rows_renewed processes pid caller next u rows) ≡ length rows
   count_renewed [] u next = refl
-  count_renewed (row ∷ rows) u next = ap suc (count_renewed rows (suc u) (next_behind next (number u row)))
+  count_renewed (row ∷ rows) u next = ap suc (count_renewed rows (suc u) (next_after next (number u row)))
 
   -- ---- the numbers differ
 
@@ -187,7 +187,7 @@ module _ (processes : Processes) (pid caller : ℕ) where
         (λ p e same. let below = (tags.0 p e).below in omega (arith, below, same, high))
         (below_fresh n high rows (suc u) tags.1)
 
-    one_live : (u : ℕ) (row : ThreadRow) (rows : List ThreadRow) → Tagged u (row ∷ rows) → (o : Option ℕ) → number u row ≡ o → LiveApart alive (numbers (suc u) rows) → LiveApart alive (with_number o (numbers (suc u) rows))
+    one_live : (u : ℕ) (row : ThreadRow) (rows : List ThreadRow) → Tagged u (row ∷ rows) → (o : Option ℕ) → number u row ≡ o → AreLiveAndDistinct alive (numbers (suc u) rows) → AreLiveAndDistinct alive (with_number o (numbers (suc u) rows))
     one_live u row rows tags None e rest = rest
     one_live u row rows tags (Some q) e rest =
         let tag = tags.0 q (of_held u row q e) in
@@ -195,7 +195,7 @@ module _ (processes : Processes) (pid caller : ℕ) where
         (tag.live, others q rows (suc u) tags.1 (omega (arith, tid)), rest)
 
     -- the numbers are live, and no two are equal
-    pub live_apart : (rows : List ThreadRow) (u : ℕ) → Tagged u rows → LiveApart alive (numbers u rows)
+    pub live_apart : (rows : List ThreadRow) (u : ℕ) → Tagged u rows → AreLiveAndDistinct alive (numbers u rows)
     live_apart [] u tags = tt
     live_apart (row ∷ rows) u tags = one_live u row rows tags (number u row) refl (live_apart rows (suc u) tags.1)
 
@@ -206,12 +206,12 @@ module _ (processes : Processes) (pid caller : ℕ) where
     seq_others q next (p ∷ ns) x = ap (λ (n : ℕ). seq_after n (renewals_from (suc next) ns)) (ap (λ (b : Bool). cond b next q) (ne_eqb p q x.0)) ∙ seq_others q (suc next) ns x.1
 
     -- the number of a thread after one was given or not
-    abbrev number_behind : ℕ → Option ℕ → ℕ → ℕ
-    number_behind next None q = q
-    number_behind next (Some p) q = next
+    abbrev number_later : ℕ → Option ℕ → ℕ → ℕ
+    number_later next None q = q
+    number_later next (Some p) q = next
 
     here : (u next : ℕ) → low ≤ next → (row : ThreadRow) (rows : List ThreadRow) → Tagged u (row ∷ rows) → (o : Option ℕ) → number u row ≡ o → (q : ℕ) → number_held row ≡ Some q
-        → seq_after q (renewals_from next (with_number o (numbers (suc u) rows))) ≡ number_behind next o q
+        → seq_after q (renewals_from next (with_number o (numbers (suc u) rows))) ≡ number_later next o q
     here u next high row rows tags None e q held = let tid = (tags.0 q held).tid in seq_others q next (numbers (suc u) rows) (others q rows (suc u) tags.1 (omega (arith, tid)))
     here u next high row rows tags (Some p) e q held =
         let same : p ≡ q = same_Some p q (sym (of_held u row p e) ∙ held) in
@@ -219,13 +219,13 @@ module _ (processes : Processes) (pid caller : ℕ) where
         ∙ seq_others next (suc next) (numbers (suc u) rows) (below_fresh next high rows (suc u) tags.1)
 
     later : (u next : ℕ) (row : ThreadRow) (rows : List ThreadRow) → Tagged u (row ∷ rows) → (o : Option ℕ) → number u row ≡ o → (q : ℕ) → suc u ≤ owner q
-        → seq_after q (renewals_from next (with_number o (numbers (suc u) rows))) ≡ seq_after q (renewals_from (next_behind next o) (numbers (suc u) rows))
+        → seq_after q (renewals_from next (with_number o (numbers (suc u) rows))) ≡ seq_after q (renewals_from (next_after next o) (numbers (suc u) rows))
     later u next row rows tags None e q over = refl
     later u next row rows tags (Some p) e q over =
         let tid = (tags.0 p (of_held u row p e)).tid in
         ap (λ (n : ℕ). seq_after n (renewals_from (suc next) (numbers (suc u) rows))) (ap (λ (b : Bool). cond b next q) (ne_eqb p q (λ same. let eq = ap owner same in omega (arith, tid, eq, over))))
 
-    one_row : (f : ℕ → ℕ) (next : ℕ) (row : ThreadRow) (a b : ThreadState) → SameBut f a b → IsRow row a → (o : Option ℕ) → ((p : ℕ) → o ≡ Some p → number_held row ≡ Some p) → ((q : ℕ) → number_held row ≡ Some q → f q ≡ number_behind next o q) → IsRow (row_renewed next o row) b
+    one_row : (f : ℕ → ℕ) (next : ℕ) (row : ThreadRow) (a b : ThreadState) → SameBut f a b → IsRow row a → (o : Option ℕ) → ((p : ℕ) → o ≡ Some p → number_held row ≡ Some p) → ((q : ℕ) → number_held row ≡ Some q → f q ≡ number_later next o q) → IsRow (row_renewed next o row) b
     one_row f next row a b same its None of drawn = record { left = same.left ∙ its.left; pending = same.pending ∙ its.pending; number = λ q e. same.number_is ∙ ap f (its.number q e) ∙ drawn q e; dying = same.dying ∙ its.dying; ended = same.ended ∙ its.ended }
     one_row f next row a b same its (Some p) of drawn = record {
       left = same.left ∙ its.left;
@@ -235,7 +235,7 @@ module _ (processes : Processes) (pid caller : ℕ) where
       ended = same.ended ∙ its.ended;
     }
 
-    next_above : (next : ℕ) (o : Option ℕ) → low ≤ next → low ≤ next_behind next o
+    next_above : (next : ℕ) (o : Option ℕ) → low ≤ next → low ≤ next_after next o
     next_above next None high = high
     next_above next (Some q) high = omega (arith, high)
 
@@ -246,7 +246,7 @@ module _ (processes : Processes) (pid caller : ℕ) where
     rows_then f threads after same (row ∷ rows) u next there high tags drawn are = (
       one_row f next row (threads u) (after u) (same u there) are.0 (number u row) (of_held u row)
           (λ q held. drawn q (let tid = (tags.0 q held).tid in omega (arith, tid)) ∙ here u next high row rows tags (number u row) refl q held),
-      rows_then f threads after same rows (suc u) (next_behind next (number u row)) (λ none. omega (arith, none)) (next_above next (number u row) high) tags.1
+      rows_then f threads after same rows (suc u) (next_after next (number u row)) (λ none. omega (arith, none)) (next_above next (number u row) high) tags.1
           (λ q over. drawn q (omega (arith, over)) ∙ later u next row rows tags (number u row) refl q over) are.1,
     )
 
@@ -282,9 +282,9 @@ module _ (heads : ℕ → Option Head) (process : Process) (bound : ℕ) where
       ∙ ap (λ (h : Option Head). record (messages r) { head = fold (head_after_change heads process r) (cond (suc posted == r) (option_map (renewed_head process) h) (messages r).head) (renewals_from (suc (suc posted)) ns) }) x.0
 
 -- the messages and workers after renewals, one after the other
-pub kept_all : (i : Input) (turns : ℕ → Option ℕ) (process : Process) (st : State) (m : ℕ) (ns : List ℕ) (messages : ℕ → Message) (alive : ℕ → Bool) (posted : ℕ) (workers left : UnderWay) → AreKept i messages turns alive posted workers → RenewsAll process ns workers left
-    → AreKept i (messages_after process ns posted messages) turns (life_after_changes st m alive (renewals_from (suc posted) ns)) (fold posted_after_change posted (renewals_from (suc posted) ns)) left
-kept_all i turns process st m [] messages alive posted workers left kept all = subst (λ (w : UnderWay). AreKept i messages turns alive posted w) (sym all) kept
+pub kept_all : (i : Input) (turns : ℕ → Option ℕ) (process : Process) (st : State) (m : ℕ) (ns : List ℕ) (messages : ℕ → Message) (alive : ℕ → Bool) (posted : ℕ) (workers left : UnderWay) → RepresentsMachineMessages i messages turns alive posted workers → RenewsAll process ns workers left
+    → RepresentsMachineMessages i (messages_after process ns posted messages) turns (life_after_changes st m alive (renewals_from (suc posted) ns)) (fold posted_after_change posted (renewals_from (suc posted) ns)) left
+kept_all i turns process st m [] messages alive posted workers left kept all = subst (λ (w : UnderWay). RepresentsMachineMessages i messages turns alive posted w) (sym all) kept
 kept_all i turns process st m (q ∷ ns) messages alive posted workers left kept all =
     kept_all i turns process st m ns (messages_renewed process q (suc posted) messages) (life_after_change st m alive (Renewed q (suc posted))) (suc posted) all.0 left
     (all.1 i messages turns alive (life_after_change st m alive (Renewed q (suc posted))) posted kept (λ other. refl)) all.2

@@ -8,7 +8,7 @@ use Rattle.st_trace.specs.declared.entry.Change.TheVariants.{Dying, Execed}
 use Rattle.st_law.specs.declared.input.Input.{Input}
 use Rattle.st_law.specs.Messages.{Head}
 use Rattle.st_law.specs.State.{State}
-use Rattle.st_workers.specs.Kept.{IsKept}
+use Rattle.st_workers.specs.Refinement.{RepresentsMessages}
 use Rattle.st_workers.specs.UnderWay.{UnderWay}
 use Rattle.st_threads.specs.Thread.{ThreadRow, number_held}
 
@@ -27,7 +27,7 @@ pub record IsNumberOf (st : State) (alive : ℕ → Bool) (t q : ℕ) : Type 0 w
   pub tid_is : head.tid ≡ t
 
 -- each live number is that of its thread's held call, and the number of each held call is live
-pub record AreHeld (st : State) (alive : ℕ → Bool) (rows : List ThreadRow) : Type 0 where
+pub record AreLiveNumbersHeld (st : State) (alive : ℕ → Bool) (rows : List ThreadRow) : Type 0 where
   pub own : (q : ℕ) (head : Head) → alive q ≡ true → (st.messages q).head ≡ Some head → HasNumber (item_at_number rows head.tid) q
   pub lives : (t : ℕ) (row : ThreadRow) (q : ℕ) → item_at_number rows t ≡ Some row → number_held row ≡ Some q → IsNumberOf st alive t q
 
@@ -36,8 +36,8 @@ pub record HaveCalls (rows : List ThreadRow) (workers : UnderWay) : Type 0 where
   pub input : Input
   pub state : State
   pub alive : ℕ → Bool
-  pub kept : IsKept input state alive workers
-  pub held : AreHeld state alive rows
+  pub kept : RepresentsMessages input state alive workers
+  pub held : AreLiveNumbersHeld state alive rows
 
 -- ---- a call ends
 
@@ -47,7 +47,7 @@ life_without_number alive seq other = if is_number other seq then false else ali
 
 -- the messages and workers after the call has ended
 abbrev pub EndsCall : Option ℕ → UnderWay → UnderWay → Type 0
-EndsCall seq old new = (i : Input) (st : State) (alive : ℕ → Bool) → IsKept i st alive old → IsKept i st (life_without_number alive seq) new
+EndsCall seq old new = (i : Input) (st : State) (alive : ℕ → Bool) → RepresentsMessages i st alive old → RepresentsMessages i st (life_without_number alive seq) new
 
 -- ---- threads that are dying
 
@@ -77,7 +77,7 @@ life_but dies st alive other = if is_head_among dies (st.messages other).head th
 pub record HaveEnded (dies : ℕ → Bool) (before : List ThreadRow) (workers : UnderWay) (new : List ThreadRow) (left : UnderWay) : Type 0 where
   pub count : length new ≡ length before
   pub rows : (t : ℕ) → item_at_number new t ≡ option_map (λ row. row_dying_if (dies t) row) (item_at_number before t)
-  pub kept : (i : Input) (st : State) (alive : ℕ → Bool) → IsKept i st alive workers → AreHeld st alive before → IsKept i st (life_but dies st alive) left
+  pub kept : (i : Input) (st : State) (alive : ℕ → Bool) → RepresentsMessages i st alive workers → AreLiveNumbersHeld st alive before → RepresentsMessages i st (life_but dies st alive) left
 
 -- ---- what changes end
 

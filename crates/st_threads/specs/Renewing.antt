@@ -6,7 +6,7 @@ use Rattle.st_trace.specs.declared.entry.Change.{Change}
 use Rattle.st_trace.specs.declared.entry.Change.TheVariants.{Renewed}
 use Rattle.st_law.specs.declared.input.Input.{Input}
 use Rattle.st_law.specs.State.{Message, State}
-use Rattle.st_workers.specs.Kept.{messages_renewed, AreKept, IsKept, RenewsLife}
+use Rattle.st_workers.specs.Refinement.{messages_renewed, RepresentsMachineMessages, RepresentsMessages, RenewsLife}
 use Rattle.st_workers.specs.UnderWay.{UnderWay}
 use Rattle.st_threads.specs.Ending.{owner_of}
 use Rattle.st_threads.specs.Thread.{ThreadRow, number_held}
@@ -35,9 +35,9 @@ renewals_from next [] = []
 renewals_from next (q ∷ numbers) = Renewed q next ∷ renewals_from (suc next) numbers
 
 -- the next number after one was given or not
-abbrev pub next_behind : ℕ → Option ℕ → ℕ
-next_behind next None = next
-next_behind next (Some q) = suc next
+abbrev pub next_after : ℕ → Option ℕ → ℕ
+next_after next None = next
+next_after next (Some q) = suc next
 
 -- a thread whose held call has got a new number, or hasn't
 abbrev pub row_renewed : ℕ → Option ℕ → ThreadRow → ThreadRow
@@ -48,14 +48,14 @@ row_renewed next (Some q) row = record row { number = next }
 abbrev pub rows_renewed : Processes → ℕ → ℕ → ℕ → ℕ → List ThreadRow → List ThreadRow
 rows_renewed processes pid caller next t [] = []
 rows_renewed processes pid caller next t (row ∷ rows) =
-    row_renewed next (number_renewed processes pid caller t row) row ∷ rows_renewed processes pid caller (next_behind next (number_renewed processes pid caller t row)) (suc t) rows
+    row_renewed next (number_renewed processes pid caller t row) row ∷ rows_renewed processes pid caller (next_after next (number_renewed processes pid caller t row)) (suc t) rows
 
 -- ---- the messages
 
 -- a live number is renewed under the next one, by its process
 abbrev pub RenewsOne : Process → ℕ → UnderWay → UnderWay → Type 0
 RenewsOne process q old new = (i : Input) (messages : ℕ → Message) (turns : ℕ → Option ℕ) (alive later : ℕ → Bool) (posted : ℕ)
-    → AreKept i messages turns alive posted old → RenewsLife alive q (suc posted) later → AreKept i (messages_renewed process q (suc posted) messages) turns later (suc posted) new
+    → RepresentsMachineMessages i messages turns alive posted old → RenewsLife alive q (suc posted) later → RepresentsMachineMessages i (messages_renewed process q (suc posted) messages) turns later (suc posted) new
 
 -- an optional number is renewed
 abbrev pub RenewsIf : Process → Option ℕ → UnderWay → UnderWay → Type 0
@@ -73,17 +73,17 @@ AreOthers q [] = Unit {0}
 AreOthers q (p ∷ numbers) = (p ≢ q) × AreOthers q numbers
 
 -- each of these numbers is live, and no two of them are equal
-abbrev pub LiveApart : (ℕ → Bool) → List ℕ → Type 0
-LiveApart alive [] = Unit {0}
-LiveApart alive (q ∷ numbers) = (alive q ≡ true) × AreOthers q numbers × LiveApart alive numbers
+abbrev pub AreLiveAndDistinct : (ℕ → Bool) → List ℕ → Type 0
+AreLiveAndDistinct alive [] = Unit {0}
+AreLiveAndDistinct alive (q ∷ numbers) = (alive q ≡ true) × AreOthers q numbers × AreLiveAndDistinct alive numbers
 
 -- the messages under way are those of some state in which each of these numbers is live
 pub record CanRenew (workers : UnderWay) (numbers : List ℕ) : Type 0 where
   pub input : Input
   pub state : State
   pub alive : ℕ → Bool
-  pub kept : IsKept input state alive workers
-  pub live : LiveApart alive numbers
+  pub kept : RepresentsMessages input state alive workers
+  pub live : AreLiveAndDistinct alive numbers
 
 -- the held calls of a process except the caller's have got new numbers, in the order of threads
 pub record HaveRenewed (processes : Processes) (pid caller : ℕ) (rows : List ThreadRow) (workers : UnderWay) (new : List ThreadRow) (left : UnderWay) : Type 0 where

@@ -68,8 +68,8 @@ IsRowOf None thread = Unit {0}
 IsRowOf (Some row) thread = IsRow row thread
 
 -- the way of a call that is held
-abbrev pub IsHeld : Way → Type 0
-IsHeld (Held q) = Unit {0}
-IsHeld Fast = ⊥
-IsHeld (Barred n) = ⊥
-IsHeld Untraced = ⊥
+abbrev pub IsWayHeld : Way → Type 0
+IsWayHeld (Held q) = Unit {0}
+IsWayHeld Fast = ⊥
+IsWayHeld (Barred n) = ⊥
+IsWayHeld Untraced = ⊥

@@ -2,7 +2,7 @@
 ghost use Rattle.std.specs.Prelude.{◌≡◌, ◌<◌, ◌^◌, true, length, IfSome};
 ghost use Rattle.st_threads.specs.Ending.{EndsCall, HaveCalls, HaveEnded, ends_with, is_end_of, is_ended_by, owner_of, row_dying_if};
 ghost use Rattle.st_threads.specs.Thread.{number_held};
-ghost use Rattle.st_messages.specs.Messages.{is_live};
+ghost use Rattle.st_messages.specs.Messages.{is_live_number};
 
 use crate::thread::Thread;
 use st_base::{Pid, Seq, Tid};
@@ -12,7 +12,7 @@ use st_workers::Workers;
 
 /// Ends the call of this number, if there is one.
 pub fn end_call(workers: &mut Workers, seq: Option<Seq>)
-    requires { IfSome seq (λ q. is_live workers.old.calls q ≡ true) }
+    requires { IfSome seq (λ q. is_live_number workers.old.calls q ≡ true) }
     ensures { EndsCall seq workers.old workers.new }
 {
     if let Some(seq) = seq {
@@ -22,7 +22,7 @@ pub fn end_call(workers: &mut Workers, seq: Option<Seq>)
 
 // Makes a thread dying, and ends the call that it holds.
 fn make_dying(thread: &mut Thread<'_>, workers: &mut Workers)
-    requires { IfSome (number_held thread.old) (λ q. is_live workers.old.calls q ≡ true) }
+    requires { IfSome (number_held thread.old) (λ q. is_live_number workers.old.calls q ≡ true) }
     ensures thread { thread.new ≡ row_dying_if true thread.old }
     ensures kept { EndsCall (number_held thread.old) workers.old workers.new }
 {

@@ -1,8 +1,8 @@
 // Gives held calls new numbers after a call that sets ids of their process.
 ghost use Rattle.std.specs.Prelude.{◌≡◌, ◌≢◌, ◌<◌, ◌+◌, ◌-◌, ◌^◌, true, [], ◌∷◌, ◌++◌, length, replicate, IfSome, IfOk, OnOk};
 ghost use Rattle.st_lookaside.specs.Need.{IsShort};
-ghost use Rattle.st_threads.specs.Renewing.{next_behind, number_renewed, numbers_from, renewals_from, row_renewed, with_number, CanRenew, HaveRenewed, RenewsIf};
-ghost use Rattle.st_messages.specs.Messages.{is_live};
+ghost use Rattle.st_threads.specs.Renewing.{next_after, number_renewed, numbers_from, renewals_from, row_renewed, with_number, CanRenew, HaveRenewed, RenewsIf};
+ghost use Rattle.st_messages.specs.Messages.{is_live_number};
 ghost use Rattle.st_model.specs.Processes.{process_at, IsPid};
 ghost use Rattle.st_trace.specs.declared.entry.Change.TheVariants.{SetIds};
 
@@ -65,7 +65,7 @@ impl RenewalPlan {
         requires { IfSome seq (λ q. self.old.next < 2 ^ 64 - 1) }
         ensures changes { OnOk result (self.new.changes ≡ self.old.changes ++ renewals_from self.old.next (with_number seq [])) }
         ensures cwds { OnOk result (self.new.cwds.items ≡ self.old.cwds.items ++ replicate (length (with_number seq [])) cwd.now) }
-        ensures next { OnOk result (self.new.next ≡ next_behind self.old.next seq) }
+        ensures next { OnOk result (self.new.next ≡ next_after self.old.next seq) }
     {
         if let Some(old) = seq {
             let new = self.next;
@@ -115,7 +115,7 @@ fn renew_call(
     cwds: &mut Vec<Shared<AbsName>>,
 )
     requires there { IsPid system.now.processes pid }
-    requires live { IfSome seq (λ q. is_live workers.old.calls q ≡ true) }
+    requires live { IfSome seq (λ q. is_live_number workers.old.calls q ≡ true) }
     requires room { IfSome seq (λ q. workers.old.calls.next < 2 ^ 64 - 1) }
     requires cwds { IfSome seq (λ q. cwds.old.items ≢ []) }
     requires same { cwds.old.items ≡ replicate (length cwds.old.items) (process_at system.now.processes pid).cwd }

@@ -2,7 +2,7 @@
 use Rattle.std.proofs.Common.{◌≡◌, ◌≢◌, ◌⊎◌, ℕ, inl, inr, List, ◌++◌, Option, Some, None, refl, sym, ◌∙◌, subst}
 use Rattle.std.proofs.lemmas.Option.{same_Some}
 use Rattle.st_outside.specs.Count.{HasRisen}
-use Rattle.st_outside.specs.Sink.{Appends, AppendsFront}
+use Rattle.st_outside.specs.Sink.{Appends, AppendsPrefix}
 use Rattle.st_trace.specs.declared.entry.Choice.{Choice}
 use Rattle.st_law.specs.declared.input.Input.{Input}
 use Rattle.st_law.specs.declared.input.ReadSchedule.{ReadSchedule}
@@ -16,36 +16,36 @@ use Rattle.st_command.specs.Words.{Word}
 use Rattle.st_command.specs.Command.{StepWords, CheckWords}
 use Rattle.st_command.specs.declared.command.Command.{Command}
 use Rattle.st_command.specs.declared.command.Command.TheVariants.{Step, Check}
-use Rattle.st_reading.specs.Meaning.{Held, Means, Stops, Refuses, Runs, Prints}
+use Rattle.st_reading.specs.Meaning.{Contents, Means, Stops, Refuses, Runs, Prints}
 use Rattle.st_reading.specs.declared.refusal.Refusal.TheVariants as refusal
 use Rattle.st_reading.specs.declared.refusal.Which.{Which}
 use Rattle.st_reading.specs.declared.refusal.Which.TheVariants as which
-use Rattle.st_top.specs.Ends.{Ends, IsMeant, IsMeantBy, Meets, WantsMemoryFor, names_asked}
+use Rattle.st_top.specs.Ends.{EndsCommand, IsMeant, IsMeantBy, WordsMeanUpTo, WantsMemoryFor, names_asked}
 use Rattle.st_top.specs.Outcome.{printed}
 use Rattle.st_top.specs.declared.status.Status.{Status}
 use Rattle.st_top.specs.declared.status.Status.TheVariants as status
 
-module _ (words : List Word) (held : Held) (c : Command) (faults faults_after : ℕ) (asked asked_after : List Word) (sink sink_after : ℕ) (old new : Option (List ℕ)) (end : Status)
-    (spelled : command_in words ≡ Some c) (ends : Ends held c faults faults_after asked asked_after sink sink_after old new end) where
+module _ (words : List Word) (contents : Contents) (c : Command) (faults faults_after : ℕ) (asked asked_after : List Word) (sink sink_after : ℕ) (old new : Option (List ℕ)) (end : Status)
+    (spelled : command_in words ≡ Some c) (ends : EndsCommand contents c faults faults_after asked asked_after sink sink_after old new end) where
   -- the end of the command, given its status
-  of : (other : Status) → end ≡ other → Ends held c faults faults_after asked asked_after sink sink_after old new other
-  of other is = subst (Ends held c faults faults_after asked asked_after sink sink_after old new) is ends
+  of : (other : Status) → end ≡ other → EndsCommand contents c faults faults_after asked asked_after sink sink_after old new other
+  of other is = subst (EndsCommand contents c faults faults_after asked asked_after sink sink_after old new) is ends
 
   -- words spell one command only
   same : (d : Command) → command_in words ≡ Some d → c ≡ d
   same d is = same_Some c d (sym spelled ∙ is)
 
   pub run_written : end ≡ status.Done → (step : StepWords) → command_in words ≡ Some (Step step) →
-      (input : Input) × (schedule : ReadSchedule) × (choices : List Choice) × Means held (Step step) (Runs input schedule) × (played input schedule ≡ Choices choices) × Lawful input (run input choices) × Appends old new (printed step.print input choices)
+      (input : Input) × (schedule : ReadSchedule) × (choices : List Choice) × Means contents (Step step) (Runs input schedule) × (played input schedule ≡ Choices choices) × Lawful input (run input choices) × Appends old new (printed step.print input choices)
   run_written is step spells =
       let x = (of status.Done is).0 in
-      let m = subst (λ (d : Command). IsMeant held d x.0) (same (Step step) spells) x.1 in
+      let m = subst (λ (d : Command). IsMeant contents d x.0) (same (Step step) spells) x.1 in
       (m.input, m.schedule, m.choices, m.meant, m.played_to, m.lawful, subst (Appends old new) m.text_is x.2)
 
-  pub canon_written : end ≡ status.Done → (check : CheckWords) → command_in words ≡ Some (Check check) → (text : List ℕ) × Means held (Check check) (Prints text) × Appends old new text
+  pub canon_written : end ≡ status.Done → (check : CheckWords) → command_in words ≡ Some (Check check) → (text : List ℕ) × Means contents (Check check) (Prints text) × Appends old new text
   canon_written is check spells =
       let x = (of status.Done is).0 in
-      (x.0, subst (λ (d : Command). IsMeant held d x.0) (same (Check check) spells) x.1, x.2)
+      (x.0, subst (λ (d : Command). IsMeant contents d x.0) (same (Check check) spells) x.1, x.2)
 
   pub some_served : command_in words ≢ None
   some_served none = by (sym spelled ∙ none)
@@ -53,29 +53,29 @@ module _ (words : List Word) (held : Held) (c : Command) (faults faults_after : 
       by : Some c ≡ None → ⊥
       by e = cc
 
-  pub is_missing : (w : Which) → end ≡ status.Missing w → Meets words held (Refuses (refusal.Missing w)) w asked asked_after
+  pub is_missing : (w : Which) → end ≡ status.Missing w → WordsMeanUpTo words contents (Refuses (refusal.Missing w)) w asked asked_after
   is_missing w is = let x = (of (status.Missing w) is).0 in record { served = c; spelled = spelled; meant = x.0; asked = x.1 }
 
-  pub is_too_long : (w : Which) → end ≡ status.TooLong w → Meets words held (Refuses (refusal.TooLong w)) w asked asked_after
+  pub is_too_long : (w : Which) → end ≡ status.TooLong w → WordsMeanUpTo words contents (Refuses (refusal.TooLong w)) w asked asked_after
   is_too_long w is = let x = (of (status.TooLong w) is).0 in record { served = c; spelled = spelled; meant = x.0; asked = x.1 }
 
-  pub script_refused : (fault : ScriptFault) → end ≡ status.Script fault → Meets words held (Refuses (refusal.Script fault)) which.Script asked asked_after
+  pub script_refused : (fault : ScriptFault) → end ≡ status.Script fault → WordsMeanUpTo words contents (Refuses (refusal.Script fault)) which.Script asked asked_after
   script_refused fault is = let x = (of (status.Script fault) is).0 in record { served = c; spelled = spelled; meant = x.0; asked = x.1 }
 
-  pub policy_refused : (n : ℕ) (fault : PolicyRefusal) → end ≡ status.Policy n fault → Meets words held (Refuses (refusal.Policy n fault)) (which.Policy n) asked asked_after
+  pub policy_refused : (n : ℕ) (fault : PolicyRefusal) → end ≡ status.Policy n fault → WordsMeanUpTo words contents (Refuses (refusal.Policy n fault)) (which.Policy n) asked asked_after
   policy_refused n fault is = let x = (of (status.Policy n fault) is).0 in record { served = c; spelled = spelled; meant = x.0; asked = x.1 }
 
-  pub bad_line : (line : ℕ) → end ≡ status.Schedule line → (input : Input) × (schedule : ReadSchedule) × Meets words held (Runs input schedule) which.Schedule asked asked_after × (played input schedule ≡ BadLine line)
+  pub bad_line : (line : ℕ) → end ≡ status.Schedule line → (input : Input) × (schedule : ReadSchedule) × WordsMeanUpTo words contents (Runs input schedule) which.Schedule asked asked_after × (played input schedule ≡ BadLine line)
   bad_line line is = let x = (of (status.Schedule line) is).0 in (x.0.input, x.0.schedule, record { served = c; spelled = spelled; meant = x.0.meant; asked = x.1 }, x.0.bad)
 
-  pub unreadable : end ≡ status.ReadFault → HasRisen faults faults_after × ((w : Which) × Meets words held (Stops w) w asked asked_after)
+  pub unreadable : end ≡ status.ReadFault → HasRisen faults faults_after × ((w : Which) × WordsMeanUpTo words contents (Stops w) w asked asked_after)
   unreadable is = let x = (of status.ReadFault is).0 in (x.0, (x.1.0, record { served = c; spelled = spelled; meant = x.1.1.meant; asked = x.1.1.asked }))
 
-  pub unwritable : end ≡ status.WriteFault → HasRisen sink sink_after × ((text : List ℕ) × IsMeantBy words held text × AppendsFront old new text)
+  pub unwritable : end ≡ status.WriteFault → HasRisen sink sink_after × ((text : List ℕ) × IsMeantBy words contents text × AppendsPrefix old new text)
   unwritable is = let x = of status.WriteFault is in let y = x.1 in (x.0, (y.0, record { served = c; spelled = spelled; meant = y.1 }, y.2))
 
-  pub memory_wanting : end ≡ status.NoMemory → WantsMemoryFor held (command_in words) asked asked_after
-  memory_wanting is = subst (λ (o : Option Command). WantsMemoryFor held o asked asked_after) (sym spelled) (of status.NoMemory is).0
+  pub memory_wanting : end ≡ status.NoMemory → WantsMemoryFor contents (command_in words) asked asked_after
+  memory_wanting is = subst (λ (o : Option Command). WantsMemoryFor contents o asked asked_after) (sym spelled) (of status.NoMemory is).0
 
   pub not_usage : end ≡ status.Usage → (command_in words ≡ None) × (asked_after ≡ asked)
   not_usage is = absurd (of status.Usage is).0
@@ -90,7 +90,7 @@ module _ (words : List Word) (held : Held) (c : Command) (faults faults_after : 
   pub nothing_written : end ≢ status.Done → end ≢ status.WriteFault → new ≡ old
   nothing_written not_done not_failed = by end ends not_done not_failed
     where
-      by : (other : Status) → Ends held c faults faults_after asked asked_after sink sink_after old new other → other ≢ status.Done → other ≢ status.WriteFault → new ≡ old
+      by : (other : Status) → EndsCommand contents c faults faults_after asked asked_after sink sink_after old new other → other ≢ status.Done → other ≢ status.WriteFault → new ≡ old
       by status.Done x no_done no_fault = absurd (no_done refl)
       by (status.Missing w) x no_done no_fault = x.1
       by status.Usage x no_done no_fault = x.1

@@ -10,11 +10,11 @@ use Rattle.st_command.specs.declared.command.Command.{Command}
 use Rattle.st_command.specs.declared.command.Command.TheVariants.{Step, Check}
 use Rattle.st_command.specs.declared.given.Print.{Print}
 use Rattle.st_reading.specs.Meaning as meaning
-use Rattle.st_reading.specs.Meaning.{AreTold, Held, Meaning, Means}
+use Rattle.st_reading.specs.Meaning.{AreFilesKnown, Contents, Meaning, Means}
 use Rattle.st_reading.specs.declared.refusal.Refusal.TheVariants as refusal
 use Rattle.st_reading.proofs.Meanings.{one_meaning, some_meaning}
-use Rattle.st_top.specs.Ends.{Ends, EndsAs, IsMeant, names_asked}
-use Rattle.st_top.specs.Outcome.{Outcome, ComesTo, Refuses, WordsComeTo, is_stop, outcome_of, outcome_of_play, print_of}
+use Rattle.st_top.specs.Ends.{EndsCommand, EndsAs, IsMeant, names_asked}
+use Rattle.st_top.specs.Outcome.{CommandOutcome, HasOutcome, Refuses, WordsHaveOutcome, is_stop, command_outcome, outcome_of_play, print_of}
 use Rattle.st_top.specs.declared.status.Status.{Status}
 use Rattle.st_top.specs.declared.status.Status.TheVariants as status
 
@@ -25,39 +25,39 @@ play_goes_on print i (Choices choices) = refl
 play_goes_on print i (BadLine line) = refl
 
 -- the outcome of a command is a stop exactly when its meaning is one
-stops : (print : Print) (m : Meaning) → is_stop (outcome_of print m) ≡ meaning.is_stop m
+stops : (print : Print) (m : Meaning) → is_stop (command_outcome print m) ≡ meaning.is_stop m
 stops print (meaning.Stops w) = refl
 stops print (meaning.Refuses r) = refl
 stops print (meaning.Runs i schedule) = play_goes_on print i (played i schedule)
 stops print (meaning.Prints text) = refl
 
-goes_on : (print : Print) (m : Meaning) (o : Outcome) → is_stop o ≡ false → o ≡ outcome_of print m → meaning.is_stop m ≡ false
+goes_on : (print : Print) (m : Meaning) (o : CommandOutcome) → is_stop o ≡ false → o ≡ command_outcome print m → meaning.is_stop m ≡ false
 goes_on print m o go is = sym (stops print m) ∙ ap is_stop (sym is) ∙ go
 
 -- ---- one outcome
 
-module _ (held : Held) where
-  one_of : (spelled : Option Command) (a b : Outcome) → AreTold held (names_asked spelled) → is_stop a ≡ false → is_stop b ≡ false → ComesTo held spelled a → ComesTo held spelled b → a ≡ b
-  one_of None a b told u v p q = p ∙ sym q
-  one_of (Some c) a b told u v p q =
-      p.2 ∙ ap (outcome_of (print_of c)) (one_meaning held c told p.0 q.0 (goes_on (print_of c) p.0 a u p.2) (goes_on (print_of c) q.0 b v q.2) p.1 q.1) ∙ sym q.2
+module _ (contents : Contents) where
+  one_of : (spelled : Option Command) (a b : CommandOutcome) → AreFilesKnown contents (names_asked spelled) → is_stop a ≡ false → is_stop b ≡ false → HasOutcome contents spelled a → HasOutcome contents spelled b → a ≡ b
+  one_of None a b known u v p q = p ∙ sym q
+  one_of (Some c) a b known u v p q =
+      p.2 ∙ ap (command_outcome (print_of c)) (one_meaning contents c known p.0 q.0 (goes_on (print_of c) p.0 a u p.2) (goes_on (print_of c) q.0 b v q.2) p.1 q.1) ∙ sym q.2
 
-  some_of : (spelled : Option Command) → AreTold held (names_asked spelled) → (o : Outcome) × (is_stop o ≡ false) × ComesTo held spelled o
-  some_of None told = (Refuses status.Usage, refl, refl)
-  some_of (Some c) told =
-      let x = some_meaning held c told in
-      (outcome_of (print_of c) x.0, stops (print_of c) x.0 ∙ x.1, (x.0, x.2, refl))
+  some_of : (spelled : Option Command) → AreFilesKnown contents (names_asked spelled) → (o : CommandOutcome) × (is_stop o ≡ false) × HasOutcome contents spelled o
+  some_of None known = (Refuses status.Usage, refl, refl)
+  some_of (Some c) known =
+      let x = some_meaning contents c known in
+      (command_outcome (print_of c) x.0, stops (print_of c) x.0 ∙ x.1, (x.0, x.2, refl))
 
-pub one_outcome : (words : List Word) (held : Held) (a b : Outcome) → AreTold held (names_asked (command_in words)) → is_stop a ≡ false → is_stop b ≡ false → WordsComeTo words held a → WordsComeTo words held b → a ≡ b
-one_outcome words held a b told u v p q = one_of held (command_in words) a b told u v p q
+pub one_outcome : (words : List Word) (contents : Contents) (a b : CommandOutcome) → AreFilesKnown contents (names_asked (command_in words)) → is_stop a ≡ false → is_stop b ≡ false → WordsHaveOutcome words contents a → WordsHaveOutcome words contents b → a ≡ b
+one_outcome words contents a b known u v p q = one_of contents (command_in words) a b known u v p q
 
-pub some_outcome : (words : List Word) (held : Held) → AreTold held (names_asked (command_in words)) → (o : Outcome) × (is_stop o ≡ false) × WordsComeTo words held o
-some_outcome words held told = some_of held (command_in words) told
+pub some_outcome : (words : List Word) (contents : Contents) → AreFilesKnown contents (names_asked (command_in words)) → (o : CommandOutcome) × (is_stop o ≡ false) × WordsHaveOutcome words contents o
+some_outcome words contents known = some_of contents (command_in words) known
 
 -- ---- the end of a command
 
-module _ (held : Held) (faults faults_after : ℕ) (asked asked_after : List Word) (sink sink_after : ℕ) (old new : Option (List ℕ)) where
-  written : (c : Command) (text : List ℕ) → IsMeant held c text → Appends old new text → (m : Meaning) × (meaning.is_stop m ≡ false) × Means held c m × EndsAs (outcome_of (print_of c) m) old new status.Done
+module _ (contents : Contents) (faults faults_after : ℕ) (asked asked_after : List Word) (sink sink_after : ℕ) (old new : Option (List ℕ)) where
+  written : (c : Command) (text : List ℕ) → IsMeant contents c text → Appends old new text → (m : Meaning) × (meaning.is_stop m ≡ false) × Means contents c m × EndsAs (command_outcome (print_of c) m) old new status.Done
   written (Step step) text meant appends = (
     meaning.Runs meant.input meant.schedule,
     refl,
@@ -66,8 +66,8 @@ module _ (held : Held) (faults faults_after : ℕ) (asked asked_after : List Wor
   )
   written (Check check) text meant appends = (meaning.Prints text, refl, meant, (refl, appends))
 
-  settled : (c : Command) (end : Status) → Ends held c faults faults_after asked asked_after sink sink_after old new end → (HasRisen faults faults_after → ⊥) → (HasRisen sink sink_after → ⊥) →
-      (end ≡ status.NoMemory) ⊎ ((m : Meaning) × (meaning.is_stop m ≡ false) × Means held c m × EndsAs (outcome_of (print_of c) m) old new end)
+  settled : (c : Command) (end : Status) → EndsCommand contents c faults faults_after asked asked_after sink sink_after old new end → (HasRisen faults faults_after → ⊥) → (HasRisen sink sink_after → ⊥) →
+      (end ≡ status.NoMemory) ⊎ ((m : Meaning) × (meaning.is_stop m ≡ false) × Means contents c m × EndsAs (command_outcome (print_of c) m) old new end)
   settled c status.Done x quiet sink_quiet = inr (written c x.0.0 x.0.1 x.0.2)
   settled c (status.Missing w) x quiet sink_quiet = inr (meaning.Refuses (refusal.Missing w), refl, x.0.0, refl)
   settled c status.Usage x quiet sink_quiet = absurd x.0
@@ -86,18 +86,18 @@ module _ (held : Held) (faults faults_after : ℕ) (asked asked_after : List Wor
   settled c (status.TooLong w) x quiet sink_quiet = inr (meaning.Refuses (refusal.TooLong w), refl, x.0.0, refl)
 
   -- so the command ended with the outcome of its words, unless memory ran out
-  pub ended_as : (c : Command) (end : Status) → Ends held c faults faults_after asked asked_after sink sink_after old new end → (HasRisen faults faults_after → ⊥) → (HasRisen sink sink_after → ⊥) →
-      (words : List Word) → command_in words ≡ Some c → AreTold held (names_asked (command_in words)) → (outcome : Outcome) → is_stop outcome ≡ false → WordsComeTo words held outcome →
+  pub ended_as : (c : Command) (end : Status) → EndsCommand contents c faults faults_after asked asked_after sink sink_after old new end → (HasRisen faults faults_after → ⊥) → (HasRisen sink sink_after → ⊥) →
+      (words : List Word) → command_in words ≡ Some c → AreFilesKnown contents (names_asked (command_in words)) → (outcome : CommandOutcome) → is_stop outcome ≡ false → WordsHaveOutcome words contents outcome →
       (end ≡ status.NoMemory) ⊎ EndsAs outcome old new end
-  ended_as c end x quiet sink_quiet words spelled told outcome go comes = by (settled c end x quiet sink_quiet)
+  ended_as c end x quiet sink_quiet words spelled known outcome go comes = by (settled c end x quiet sink_quiet)
     where
-      by : (end ≡ status.NoMemory) ⊎ ((m : Meaning) × (meaning.is_stop m ≡ false) × Means held c m × EndsAs (outcome_of (print_of c) m) old new end) → (end ≡ status.NoMemory) ⊎ EndsAs outcome old new end
+      by : (end ≡ status.NoMemory) ⊎ ((m : Meaning) × (meaning.is_stop m ≡ false) × Means contents c m × EndsAs (command_outcome (print_of c) m) old new end) → (end ≡ status.NoMemory) ⊎ EndsAs outcome old new end
       by (inl none) = inl none
       by (inr p) =
-          let one : outcome_of (print_of c) p.0 ≡ outcome = one_of held (Some c) (outcome_of (print_of c) p.0) outcome (subst (λ (o : Option Command). AreTold held (names_asked o)) spelled told) (stops (print_of c) p.0 ∙ p.1) go (p.0, p.2, refl) (subst (λ (o : Option Command). ComesTo held o outcome) spelled comes) in
-          inr (subst (λ (o : Outcome). EndsAs o old new end) one p.3)
+          let one : command_outcome (print_of c) p.0 ≡ outcome = one_of contents (Some c) (command_outcome (print_of c) p.0) outcome (subst (λ (o : Option Command). AreFilesKnown contents (names_asked o)) spelled known) (stops (print_of c) p.0 ∙ p.1) go (p.0, p.2, refl) (subst (λ (o : Option Command). HasOutcome contents o outcome) spelled comes) in
+          inr (subst (λ (o : CommandOutcome). EndsAs o old new end) one p.3)
 
 -- the outcome of words that spell no command is wrong usage, and the call ends with it
-pub ended_unserved : (words : List Word) (held : Held) (old new : Option (List ℕ)) (outcome : Outcome) → command_in words ≡ None → WordsComeTo words held outcome → EndsAs outcome old new status.Usage
-ended_unserved words held old new outcome none comes =
-    subst (λ (o : Outcome). EndsAs o old new status.Usage) (sym (subst (λ (o : Option Command). ComesTo held o outcome) none comes)) refl
+pub ended_unserved : (words : List Word) (contents : Contents) (old new : Option (List ℕ)) (outcome : CommandOutcome) → command_in words ≡ None → WordsHaveOutcome words contents outcome → EndsAs outcome old new status.Usage
+ended_unserved words contents old new outcome none comes =
+    subst (λ (o : CommandOutcome). EndsAs o old new status.Usage) (sym (subst (λ (o : Option Command). HasOutcome contents o outcome) none comes)) refl

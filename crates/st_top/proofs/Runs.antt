@@ -9,7 +9,7 @@ use Rattle.st_law.specs.declared.input.Input.{Input}
 use Rattle.st_law.specs.declared.input.ReadSchedule.{ReadSchedule}
 use Rattle.st_law.proofs.Laws.{run_lawful}
 use Rattle.st_command.specs.declared.given.Print.{Print}
-use Rattle.st_kernel.specs.Kernel.{Course, standing, trace_of}
+use Rattle.st_kernel.specs.Kernel.{RunSoFar, played_so_far, trace_of}
 use Rattle.st_kernel.specs.declared.play.PlayFault.{PlayFault}
 use Rattle.st_kernel.specs.declared.play.PlayFault.TheVariants as play
 use Rattle.st_trace.specs.declared.entry.Choice.{Choice}
@@ -19,15 +19,15 @@ use Rattle.st_top.specs.Outcome.{printed, status_of_play}
 use Rattle.st_top.specs.declared.status.Status.{Status}
 use Rattle.st_top.specs.declared.status.Status.TheVariants.{NoMemory}
 
-module _ (print : Print) (schedule : ReadSchedule) (course : Course) (choices : course.choices ≡ []) where
+module _ (print : Print) (schedule : ReadSchedule) (course : RunSoFar) (choices : course.choices ≡ []) where
   abbrev i : Input
   i = course.input
 
   -- playing the lines from the first state on is playing the schedule
-  from_first : lines_played schedule.lines schedule.bad i (standing course) ≡ played i schedule
-  from_first = ap (λ (made : List Choice). lines_played schedule.lines schedule.bad i (standing (record { input = i; choices = made }))) choices
+  from_first : lines_played schedule.lines schedule.bad i (played_so_far course) ≡ played i schedule
+  from_first = ap (λ (made : List Choice). lines_played schedule.lines schedule.bad i (played_so_far (record { input = i; choices = made }))) choices
 
-  pub refused : (fault : PlayFault) → ((line : ℕ) → fault ≡ play.BadLine line → lines_played schedule.lines schedule.bad i (standing course) ≡ BadLine line) →
+  pub refused : (fault : PlayFault) → ((line : ℕ) → fault ≡ play.BadLine line → lines_played schedule.lines schedule.bad i (played_so_far course) ≡ BadLine line) →
       (result : Result (List ℕ) Status) → IsErr result → IsErrAnd result (λ s. s ≡ status_of_play fault) → RunShown print i schedule result
   refused fault bad (Ok text) failed same = cc
   refused (play.BadLine line) bad (Err s) failed same = subst (λ (end : Status). RunShown print i schedule (Err end)) (sym same) (sym from_first ∙ bad line refl)
@@ -38,7 +38,7 @@ module _ (print : Print) (schedule : ReadSchedule) (course : Course) (choices : 
   none_yet P x = subst (λ (made : List Choice). P i (run i made)) (sym choices) x
 
   -- the text that is asked for is printed
-  pub shown : (new : Course) (text : List ℕ) → new.input ≡ i → lines_played schedule.lines schedule.bad i (standing course) ≡ Choices new.choices → text ≡ printed print new.input new.choices → RunShown print i schedule (Ok text)
+  pub shown : (new : RunSoFar) (text : List ℕ) → new.input ≡ i → lines_played schedule.lines schedule.bad i (played_so_far course) ≡ Choices new.choices → text ≡ printed print new.input new.choices → RunShown print i schedule (Ok text)
   shown new text same played_to is = (new.choices, sym from_first ∙ played_to, is ∙ ap (λ (j : Input). printed print j new.choices) same)
 
 -- if memory runs out, nothing more is required
@@ -47,8 +47,8 @@ out_of_memory print i schedule (Ok text) failed same = cc
 out_of_memory print i schedule (Err s) failed same = subst (λ (end : Status). RunShown print i schedule (Err end)) (sym same) tt
 
 -- a run keeps the input that it started with, and is lawful
-pub starts_so : (i : Input) (new : Course) → new.input ≡ i → IsStartable i → IsStartable new.input
+pub starts_so : (i : Input) (new : RunSoFar) → new.input ≡ i → IsStartable i → IsStartable new.input
 starts_so i new same startable = subst IsStartable (sym same) startable
 
-pub lawful_so : (i : Input) (new : Course) → new.input ≡ i → IsStartable i → Lawful new.input (trace_of new)
+pub lawful_so : (i : Input) (new : RunSoFar) → new.input ≡ i → IsStartable i → Lawful new.input (trace_of new)
 lawful_so i new same startable = run_lawful new.input (starts_so i new same startable) new.choices

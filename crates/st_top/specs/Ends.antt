@@ -1,7 +1,7 @@
 -- How a call of the program ends, compared with what its words and files mean.
 use Rattle.std.specs.Prelude.{◌≡◌, ◌⊎◌, ℕ, List, [], Option, Some, None, Result, Ok, Err}
 use Rattle.st_outside.specs.Count.{HasRisen}
-use Rattle.st_outside.specs.Sink.{Appends, AppendsFront}
+use Rattle.st_outside.specs.Sink.{Appends, AppendsPrefix}
 use Rattle.st_trace.specs.declared.entry.Choice.{Choice}
 use Rattle.st_law.specs.declared.input.Input.{Input}
 use Rattle.st_law.specs.declared.input.ReadSchedule.{ReadSchedule}
@@ -16,79 +16,79 @@ use Rattle.st_command.specs.declared.command.Command.TheVariants as command
 use Rattle.st_command.specs.declared.given.Print.{Print}
 use Rattle.st_reading.specs.Ends.{AskedTo}
 use Rattle.st_reading.specs.Ends as reading
-use Rattle.st_reading.specs.Meaning.{Held, Meaning, Refuses, Runs, Prints, Means, names_of, last_file}
+use Rattle.st_reading.specs.Meaning.{Contents, Meaning, Refuses, Runs, Prints, Means, names_of, last_file}
 use Rattle.st_reading.specs.declared.refusal.Refusal.TheVariants as refusal
 use Rattle.st_reading.specs.declared.refusal.Which.{Which}
 use Rattle.st_reading.specs.declared.refusal.Which.TheVariants as which
 use Rattle.st_top.specs.Outcome as outcome
-use Rattle.st_top.specs.Outcome.{Outcome, printed}
+use Rattle.st_top.specs.Outcome.{CommandOutcome, printed}
 use Rattle.st_top.specs.declared.status.Status.{Status}
 use Rattle.st_top.specs.declared.status.Status.TheVariants.{Done, Missing, Usage, Policy, Script, ReadFault, WriteFault, NoMemory, Schedule, TooLong}
 
 -- ---- what is written
 
 -- a text is what `step` and its files ask to be printed of the run that they mean, and the run is lawful
-pub record IsOfRun (held : Held) (step : StepWords) (text : List ℕ) : Type 0 where
+pub record IsOfRun (contents : Contents) (step : StepWords) (text : List ℕ) : Type 0 where
   pub input : Input
   pub schedule : ReadSchedule
   pub choices : List Choice
-  pub meant : Means held (command.Step step) (Runs input schedule)
+  pub meant : Means contents (command.Step step) (Runs input schedule)
   pub played_to : played input schedule ≡ Choices choices
   pub lawful : Lawful input (run input choices)
   pub text_is : text ≡ printed step.print input choices
 
 -- a text is what a command and its files ask to be written
-abbrev pub IsMeant : Held → Command → List ℕ → Type 0
-IsMeant held (command.Step step) text = IsOfRun held step text
-IsMeant held (command.Check check) text = Means held (command.Check check) (Prints text)
+abbrev pub IsMeant : Contents → Command → List ℕ → Type 0
+IsMeant contents (command.Step step) text = IsOfRun contents step text
+IsMeant contents (command.Check check) text = Means contents (command.Check check) (Prints text)
 
 -- ---- what is refused
 
 -- a line of the schedule is bad: the schedule of the run that is meant can be played only up to it
-pub record HasBadLine (held : Held) (c : Command) (line : ℕ) : Type 0 where
+pub record HasBadLine (contents : Contents) (c : Command) (line : ℕ) : Type 0 where
   pub input : Input
   pub schedule : ReadSchedule
-  pub meant : Means held c (Runs input schedule)
+  pub meant : Means contents c (Runs input schedule)
   pub bad : played input schedule ≡ BadLine line
 
 -- a command and its files mean a run
-pub record MeansRun (held : Held) (c : Command) : Type 0 where
+pub record MeansRun (contents : Contents) (c : Command) : Type 0 where
   pub input : Input
   pub schedule : ReadSchedule
-  pub meant : Means held c (Runs input schedule)
+  pub meant : Means contents c (Runs input schedule)
 
 -- memory ran out while the command was read, or for the run that it and its files mean, after all its files were asked for
-abbrev pub WantsMemory : Held → Command → List Word → List Word → Type 0
-WantsMemory held c old new = reading.WantsMemory held c old new ⊎ (MeansRun held c × AskedTo c (last_file c) old new)
+abbrev pub RunsOutOfMemory : Contents → Command → List Word → List Word → Type 0
+RunsOutOfMemory contents c old new = reading.ReadingIsOutOfMemory contents c old new ⊎ (MeansRun contents c × AskedTo c (last_file c) old new)
 
 -- before anything is written: the status is what the command means, and the names up to the file of the status were asked for; or a file
 -- that was reached couldn't be read and the count of faults rose; or memory ran out
-abbrev pub Refused : Held → Command → ℕ → ℕ → List Word → List Word → Status → Type 0
-Refused held c faults faults_after old new (Missing w) = Means held c (Refuses (refusal.Missing w)) × AskedTo c w old new
-Refused held c faults faults_after old new (TooLong w) = Means held c (Refuses (refusal.TooLong w)) × AskedTo c w old new
-Refused held c faults faults_after old new (Script fault) = Means held c (Refuses (refusal.Script fault)) × AskedTo c which.Script old new
-Refused held c faults faults_after old new (Policy n fault) = Means held c (Refuses (refusal.Policy n fault)) × AskedTo c (which.Policy n) old new
-Refused held c faults faults_after old new (Schedule line) = HasBadLine held c line × AskedTo c which.Schedule old new
-Refused held c faults faults_after old new ReadFault = HasRisen faults faults_after × ((w : Which) × reading.StopsAt held c old new w)
-Refused held c faults faults_after old new NoMemory = WantsMemory held c old new
-Refused held c faults faults_after old new Usage = ⊥
-Refused held c faults faults_after old new Done = ⊥
-Refused held c faults faults_after old new WriteFault = ⊥
+abbrev pub RefusesCommand : Contents → Command → ℕ → ℕ → List Word → List Word → Status → Type 0
+RefusesCommand contents c faults faults_after old new (Missing w) = Means contents c (Refuses (refusal.Missing w)) × AskedTo c w old new
+RefusesCommand contents c faults faults_after old new (TooLong w) = Means contents c (Refuses (refusal.TooLong w)) × AskedTo c w old new
+RefusesCommand contents c faults faults_after old new (Script fault) = Means contents c (Refuses (refusal.Script fault)) × AskedTo c which.Script old new
+RefusesCommand contents c faults faults_after old new (Policy n fault) = Means contents c (Refuses (refusal.Policy n fault)) × AskedTo c (which.Policy n) old new
+RefusesCommand contents c faults faults_after old new (Schedule line) = HasBadLine contents c line × AskedTo c which.Schedule old new
+RefusesCommand contents c faults faults_after old new ReadFault = HasRisen faults faults_after × ((w : Which) × reading.StopsAt contents c old new w)
+RefusesCommand contents c faults faults_after old new NoMemory = RunsOutOfMemory contents c old new
+RefusesCommand contents c faults faults_after old new Usage = ⊥
+RefusesCommand contents c faults faults_after old new Done = ⊥
+RefusesCommand contents c faults faults_after old new WriteFault = ⊥
 
 -- what is prepared before anything is written: the text that is meant, with all names asked for, or the status of a refusal
-abbrev pub Prepares : Held → Command → ℕ → ℕ → List Word → List Word → Result (List ℕ) Status → Type 0
-Prepares held c faults faults_after old new (Ok text) = IsMeant held c text × AskedTo c (last_file c) old new
-Prepares held c faults faults_after old new (Err status) = Refused held c faults faults_after old new status
+abbrev pub Prepares : Contents → Command → ℕ → ℕ → List Word → List Word → Result (List ℕ) Status → Type 0
+Prepares contents c faults faults_after old new (Ok text) = IsMeant contents c text × AskedTo c (last_file c) old new
+Prepares contents c faults faults_after old new (Err status) = RefusesCommand contents c faults faults_after old new status
 
 -- ---- how a command ends
 
 -- the text that is meant was written, all of it or, if writing failed, a front of it; or a status refuses and nothing was written
-abbrev pub Ends : Held → Command → ℕ → ℕ → List Word → List Word → ℕ → ℕ → Option (List ℕ) → Option (List ℕ) → Status → Type 0
-Ends held c faults faults_after asked asked_after sink sink_after old new Done =
-    ((text : List ℕ) × IsMeant held c text × Appends old new text) × AskedTo c (last_file c) asked asked_after
-Ends held c faults faults_after asked asked_after sink sink_after old new WriteFault =
-    HasRisen sink sink_after × ((text : List ℕ) × IsMeant held c text × AppendsFront old new text) × AskedTo c (last_file c) asked asked_after
-Ends held c faults faults_after asked asked_after sink sink_after old new status = Refused held c faults faults_after asked asked_after status × (new ≡ old)
+abbrev pub EndsCommand : Contents → Command → ℕ → ℕ → List Word → List Word → ℕ → ℕ → Option (List ℕ) → Option (List ℕ) → Status → Type 0
+EndsCommand contents c faults faults_after asked asked_after sink sink_after old new Done =
+    ((text : List ℕ) × IsMeant contents c text × Appends old new text) × AskedTo c (last_file c) asked asked_after
+EndsCommand contents c faults faults_after asked asked_after sink sink_after old new WriteFault =
+    HasRisen sink sink_after × ((text : List ℕ) × IsMeant contents c text × AppendsPrefix old new text) × AskedTo c (last_file c) asked asked_after
+EndsCommand contents c faults faults_after asked asked_after sink sink_after old new status = RefusesCommand contents c faults faults_after asked asked_after status × (new ≡ old)
 
 -- ---- runs
 
@@ -102,22 +102,22 @@ RunShown print i schedule (Err _) = ⊥
 -- ---- by the words
 
 -- words spell a command that with its files has this meaning, and its names up to this file were asked for
-pub record Meets (words : List Word) (held : Held) (m : Meaning) (w : Which) (old new : List Word) : Type 0 where
+pub record WordsMeanUpTo (words : List Word) (contents : Contents) (m : Meaning) (w : Which) (old new : List Word) : Type 0 where
   pub served : Command
   pub spelled : command_in words ≡ Some served
-  pub meant : Means held served m
+  pub meant : Means contents served m
   pub asked : AskedTo served w old new
 
 -- a text is what words and files ask to be written
-pub record IsMeantBy (words : List Word) (held : Held) (text : List ℕ) : Type 0 where
+pub record IsMeantBy (words : List Word) (contents : Contents) (text : List ℕ) : Type 0 where
   pub served : Command
   pub spelled : command_in words ≡ Some served
-  pub meant : IsMeant held served text
+  pub meant : IsMeant contents served text
 
 -- memory ran out before any file was asked for, or for a command
-abbrev pub WantsMemoryFor : Held → Option Command → List Word → List Word → Type 0
-WantsMemoryFor held None old new = new ≡ old
-WantsMemoryFor held (Some c) old new = WantsMemory held c old new
+abbrev pub WantsMemoryFor : Contents → Option Command → List Word → List Word → Type 0
+WantsMemoryFor contents None old new = new ≡ old
+WantsMemoryFor contents (Some c) old new = RunsOutOfMemory contents c old new
 
 -- the names that a command asks for, if it asks for any
 abbrev pub names_asked : Option Command → List Word
@@ -125,7 +125,7 @@ names_asked None = []
 names_asked (Some c) = names_of c
 
 -- the status is that of the outcome, and the outcome's text was written; a stop is left open
-abbrev pub EndsAs : Outcome → Option (List ℕ) → Option (List ℕ) → Status → Type 0
+abbrev pub EndsAs : CommandOutcome → Option (List ℕ) → Option (List ℕ) → Status → Type 0
 EndsAs (outcome.Stops w) old new status = Unit {0}
 EndsAs (outcome.Refuses refused) old new status = status ≡ refused
 EndsAs (outcome.Writes text) old new status = (status ≡ Done) × Appends old new text

@@ -16,8 +16,8 @@ use Rattle.st_learn.specs.Learnt.{learnt_policies}
 use Rattle.st_learn.specs.Permitted.{IsPermittedBy}
 
 -- the policies after the run by these choices: those that were read, with what the run has added
-abbrev pub policies_behind : Input → List Choice → List BinaryPolicy
-policies_behind i choices = learnt_policies i.policies (session_at i (reverse (run i choices)))
+abbrev pub policies_after : Input → List Choice → List BinaryPolicy
+policies_after i choices = learnt_policies i.policies (session_at i (reverse (run i choices)))
 
 -- each held call that was made is permitted by these policies alone, under the ids that it was made under
 abbrev pub PermitsWhatWasMade : Input → List BinaryPolicy → History → Type 0

@@ -17,7 +17,7 @@ use Rattle.st_command.specs.declared.given.Print.TheVariants as print
 use Rattle.st_kernel.specs.declared.play.PlayFault.{PlayFault}
 use Rattle.st_kernel.specs.declared.play.PlayFault.TheVariants as play
 use Rattle.st_reading.specs.Meaning as meaning
-use Rattle.st_reading.specs.Meaning.{Held, Meaning, Means}
+use Rattle.st_reading.specs.Meaning.{Contents, Meaning, Means}
 use Rattle.st_reading.specs.declared.refusal.Refusal.{Refusal}
 use Rattle.st_reading.specs.declared.refusal.Refusal.TheVariants as refusal
 use Rattle.st_reading.specs.declared.refusal.Which.{Which}
@@ -57,34 +57,34 @@ print_of (command.Check check) = print.Audit
 -- ---- outcomes
 
 -- the outcome of a call of the program: a stop at a file that can't be read, a refusal, or a text to be written
-pub data Outcome : Type 0 where
-  Stops : Which → Outcome
-  Refuses : Status → Outcome
-  Writes : List ℕ → Outcome
+pub data CommandOutcome : Type 0 where
+  Stops : Which → CommandOutcome
+  Refuses : Status → CommandOutcome
+  Writes : List ℕ → CommandOutcome
 
 -- whether an outcome is a stop, which any file that is reached can cause
-abbrev pub is_stop : Outcome → Bool
+abbrev pub is_stop : CommandOutcome → Bool
 is_stop (Stops which) = true
 is_stop (Refuses status) = false
 is_stop (Writes text) = false
 
 -- the text of the run of a schedule that can be played, or the refusal of a schedule with a bad line
-abbrev pub outcome_of_play : Print → Input → ScheduleOutcome → Outcome
+abbrev pub outcome_of_play : Print → Input → ScheduleOutcome → CommandOutcome
 outcome_of_play print i (Choices choices) = Writes (printed print i choices)
 outcome_of_play print i (BadLine line) = Refuses (Schedule line)
 
 -- the outcome of a command, by what it and its files mean
-abbrev pub outcome_of : Print → Meaning → Outcome
-outcome_of print (meaning.Stops which) = Stops which
-outcome_of print (meaning.Refuses refusal) = Refuses (status_of refusal)
-outcome_of print (meaning.Runs i schedule) = outcome_of_play print i (played i schedule)
-outcome_of print (meaning.Prints text) = Writes text
+abbrev pub command_outcome : Print → Meaning → CommandOutcome
+command_outcome print (meaning.Stops which) = Stops which
+command_outcome print (meaning.Refuses refusal) = Refuses (status_of refusal)
+command_outcome print (meaning.Runs i schedule) = outcome_of_play print i (played i schedule)
+command_outcome print (meaning.Prints text) = Writes text
 
 -- the outcome of words, by the command that they spell: wrong usage if they spell none
-abbrev pub ComesTo : Held → Option Command → Outcome → Type 0
-ComesTo held None outcome = outcome ≡ Refuses Usage
-ComesTo held (Some c) outcome = (m : Meaning) × Means held c m × (outcome ≡ outcome_of (print_of c) m)
+abbrev pub HasOutcome : Contents → Option Command → CommandOutcome → Type 0
+HasOutcome contents None outcome = outcome ≡ Refuses Usage
+HasOutcome contents (Some c) outcome = (m : Meaning) × Means contents c m × (outcome ≡ command_outcome (print_of c) m)
 
 -- the outcome of words over files of which this much is known
-abbrev pub WordsComeTo : List Word → Held → Outcome → Type 0
-WordsComeTo words held outcome = ComesTo held (command_in words) outcome
+abbrev pub WordsHaveOutcome : List Word → Contents → CommandOutcome → Type 0
+WordsHaveOutcome words contents outcome = HasOutcome contents (command_in words) outcome

@@ -9,28 +9,28 @@ ghost use Rattle.st_law.specs.declared.input.Input.{Input};
 ghost use Rattle.st_law.specs.declared.input.Mode.TheVariants.{Learn};
 ghost use Rattle.st_law.specs.declared.input.ReadSchedule.{ReadSchedule};
 ghost use Rattle.st_printing.specs.Canon.{canon};
-ghost use Rattle.st_reading.specs.Meaning.{Held, AreTold, Means, Runs};
+ghost use Rattle.st_reading.specs.Meaning.{Contents, AreFilesKnown, Means, Runs};
 ghost use Rattle.st_top.specs.Ends.{names_asked};
-ghost use Rattle.st_top.specs.Learning.{PermitsWhatWasMade, policies_behind};
-ghost use Rattle.st_top.specs.Outcome.{Outcome, WordsComeTo, is_stop, printed};
+ghost use Rattle.st_top.specs.Learning.{PermitsWhatWasMade, policies_after};
+ghost use Rattle.st_top.specs.Outcome.{CommandOutcome, WordsHaveOutcome, is_stop, printed};
 ghost use Rattle.st_trace.specs.declared.entry.Choice.{Choice};
 
 use st_learn::law::what_was_made_is_permitted_by_what_was_learnt;
 use st_reading::law::what_is_meant_to_run_can_run;
 
 /// Over known files words have exactly one outcome, besides the files at which reading may stop.
-pub fn words_come_to_one_thing()
-    ensures some { (words : List Word) (held : Held) → AreTold held (names_asked (command_in words)) → (outcome : Outcome) × (is_stop outcome ≡ false) × WordsComeTo words held outcome }
-    ensures one { (words : List Word) (held : Held) (a b : Outcome) → AreTold held (names_asked (command_in words)) → is_stop a ≡ false → is_stop b ≡ false →
-        WordsComeTo words held a → WordsComeTo words held b → a ≡ b }
+pub fn words_have_one_outcome()
+    ensures some { (words : List Word) (contents : Contents) → AreFilesKnown contents (names_asked (command_in words)) → (outcome : CommandOutcome) × (is_stop outcome ≡ false) × WordsHaveOutcome words contents outcome }
+    ensures one { (words : List Word) (contents : Contents) (a b : CommandOutcome) → AreFilesKnown contents (names_asked (command_in words)) → is_stop a ≡ false → is_stop b ≡ false →
+        WordsHaveOutcome words contents a → WordsHaveOutcome words contents b → a ≡ b }
 {}
 
 /// Each held call that a run which learns has made is permitted, under the ids that it was made under, by the policies that `step` writes
 /// of the run if it is asked for them. These policies alone suffice.
 pub fn what_was_made_is_permitted_by_what_is_written()
-    ensures written { (input : Input) (choices : List Choice) → printed print.Policy input choices ≡ canon (policies_behind input choices) }
-    ensures permitted { (held : Held) (step : StepWords) (input : Input) (schedule : ReadSchedule) → IsWithinLimits (Step step) → step.options.mode ≡ Learn → Means held (Step step) (Runs input schedule) →
-        (choices : List Choice) → PermitsWhatWasMade input (policies_behind input choices) (reverse (run input choices)) }
+    ensures written { (input : Input) (choices : List Choice) → printed print.Policy input choices ≡ canon (policies_after input choices) }
+    ensures permitted { (contents : Contents) (step : StepWords) (input : Input) (schedule : ReadSchedule) → IsWithinLimits (Step step) → step.options.mode ≡ Learn → Means contents (Step step) (Runs input schedule) →
+        (choices : List Choice) → PermitsWhatWasMade input (policies_after input choices) (reverse (run input choices)) }
 {
     what_is_meant_to_run_can_run();
     what_was_made_is_permitted_by_what_was_learnt();

@@ -1,6 +1,6 @@
 ghost use Rattle.std.specs.Prelude.{◌≡◌, ◌≢◌, ◌⊎◌, ◌++◌, ℕ, List, Some, None, true, false};
 ghost use Rattle.st_outside.specs.Count.{HasRisen};
-ghost use Rattle.st_outside.specs.Sink.{Appends, AppendsFront};
+ghost use Rattle.st_outside.specs.Sink.{Appends, AppendsPrefix};
 ghost use Rattle.st_trace.specs.declared.entry.Choice.{Choice};
 ghost use Rattle.st_law.specs.declared.input.Input.{Input};
 ghost use Rattle.st_law.specs.declared.input.ReadSchedule.{ReadSchedule};
@@ -12,12 +12,12 @@ ghost use Rattle.st_command.specs.Reading.{command_in, IsWithinLimits};
 ghost use Rattle.st_command.specs.declared.command.Command.TheVariants.{Step, Check};
 ghost use Rattle.st_grammar.specs.declared.fault.PolicyRefusal.{PolicyRefusal};
 ghost use Rattle.st_script_faults.specs.declared.fault.ScriptFault.{ScriptFault};
-ghost use Rattle.st_reading.specs.Meaning.{Means, Stops, Refuses, Runs, Prints, AreTold};
+ghost use Rattle.st_reading.specs.Meaning.{Means, Stops, Refuses, Runs, Prints, AreFilesKnown};
 ghost use Rattle.st_reading.specs.declared.refusal.Refusal.TheVariants as refusal;
 ghost use Rattle.st_reading.specs.declared.refusal.Which.{Which};
 ghost use Rattle.st_reading.specs.declared.refusal.Which.TheVariants as which;
-ghost use Rattle.st_top.specs.Outcome.{Outcome, WordsComeTo, is_stop, print_of, printed};
-ghost use Rattle.st_top.specs.Ends.{Prepares, Ends, IsMeantBy, Meets, WantsMemoryFor, EndsAs, names_asked};
+ghost use Rattle.st_top.specs.Outcome.{CommandOutcome, WordsHaveOutcome, is_stop, print_of, printed};
+ghost use Rattle.st_top.specs.Ends.{Prepares, EndsCommand, IsMeantBy, WordsMeanUpTo, WantsMemoryFor, EndsAs, names_asked};
 
 use crate::run::text_of_run;
 use crate::status::Status;
@@ -41,8 +41,8 @@ fn print_of(command: &Command<'_>) -> Print
 // The text that a command writes, or why the command is refused.
 fn prepare<F: Files>(alloc: Global, command: &Command<'_>, files: &mut F) -> Result<Text, Status>
     requires limits { IsWithinLimits command.now }
-    ensures held { F.held files.new ≡ F.held files.old }
-    ensures prepares { Prepares (F.held files.old) command.now (F.faults files.old) (F.faults files.new) (F.asked files.old) (F.asked files.new) result }
+    ensures contents { F.contents files.new ≡ F.contents files.old }
+    ensures prepares { Prepares (F.contents files.old) command.now (F.faults files.old) (F.faults files.new) (F.asked files.old) (F.asked files.new) result }
     ensures quiet { result ≢ Err Status.ReadFault → F.faults files.new ≡ F.faults files.old }
 {
     what_is_meant_to_run_can_run();
@@ -60,8 +60,8 @@ fn serve<F: Files, S: Sink>(
     out: &mut S,
 ) -> Status
     requires limits { IsWithinLimits command.now }
-    ensures held { F.held files.new ≡ F.held files.old }
-    ensures ends { Ends (F.held files.old) command.now (F.faults files.old) (F.faults files.new) (F.asked files.old) (F.asked files.new) (S.faults out.old) (S.faults out.new) (S.written out.old) (S.written out.new) result }
+    ensures contents { F.contents files.new ≡ F.contents files.old }
+    ensures ends { EndsCommand (F.contents files.old) command.now (F.faults files.old) (F.faults files.new) (F.asked files.old) (F.asked files.new) (S.faults out.old) (S.faults out.new) (S.written out.old) (S.written out.new) result }
     ensures quiet { result ≢ Status.ReadFault → F.faults files.new ≡ F.faults files.old }
     ensures sink_quiet { result ≢ Status.WriteFault → S.faults out.new ≡ S.faults out.old }
 {
@@ -86,13 +86,13 @@ pub fn systrace_plain<F: Files, S: Sink>(
     // `step` writes what its words ask for of the run that the words and files mean, and that run is lawful.
     ensures step { result ≡ Status.Done → (step : StepWords) → command_in words.now ≡ Some (Step step) →
         (input : Input) × (schedule : ReadSchedule) × (choices : List Choice) ×
-        Means (F.held files.old) (Step step) (Runs input schedule) ×
+        Means (F.contents files.old) (Step step) (Runs input schedule) ×
         (played input schedule ≡ Choices choices) ×
         Lawful input (run input choices) ×
         Appends (S.written out.old) (S.written out.new) (printed step.print input choices) }
     // `check` writes the canonical text of the policies that its words and files mean.
     ensures check { result ≡ Status.Done → (check : CheckWords) → command_in words.now ≡ Some (Check check) →
-        (text : List ℕ) × Means (F.held files.old) (Check check) (Prints text) × Appends (S.written out.old) (S.written out.new) text }
+        (text : List ℕ) × Means (F.contents files.old) (Check check) (Prints text) × Appends (S.written out.old) (S.written out.new) text }
     ensures served { result ≡ Status.Done → command_in words.now ≢ None }
     // If a text was written, whole or in part, all names of the command were asked for, in order.
     ensures asked { (result ≡ Status.Done) ⊎ (result ≡ Status.WriteFault) → F.asked files.new ≡ F.asked files.old ++ names_asked (command_in words.now) }
@@ -100,26 +100,26 @@ pub fn systrace_plain<F: Files, S: Sink>(
     // Each refusal is what the words and files mean, and the names that were asked for are those up to the refused file: none if the words
     // spell no command.
     ensures usage { result ≡ Status.Usage → (command_in words.now ≡ None) × (F.asked files.new ≡ F.asked files.old) }
-    ensures missing { (w : Which) → result ≡ Status.Missing w → Meets words.now (F.held files.old) (Refuses (refusal.Missing w)) w (F.asked files.old) (F.asked files.new) }
-    ensures too_long { (w : Which) → result ≡ Status.TooLong w → Meets words.now (F.held files.old) (Refuses (refusal.TooLong w)) w (F.asked files.old) (F.asked files.new) }
-    ensures script { (fault : ScriptFault) → result ≡ Status.Script fault → Meets words.now (F.held files.old) (Refuses (refusal.Script fault)) which.Script (F.asked files.old) (F.asked files.new) }
-    ensures policy { (n : ℕ) (fault : PolicyRefusal) → result ≡ Status.Policy n fault → Meets words.now (F.held files.old) (Refuses (refusal.Policy n fault)) (which.Policy n) (F.asked files.old) (F.asked files.new) }
+    ensures missing { (w : Which) → result ≡ Status.Missing w → WordsMeanUpTo words.now (F.contents files.old) (Refuses (refusal.Missing w)) w (F.asked files.old) (F.asked files.new) }
+    ensures too_long { (w : Which) → result ≡ Status.TooLong w → WordsMeanUpTo words.now (F.contents files.old) (Refuses (refusal.TooLong w)) w (F.asked files.old) (F.asked files.new) }
+    ensures script { (fault : ScriptFault) → result ≡ Status.Script fault → WordsMeanUpTo words.now (F.contents files.old) (Refuses (refusal.Script fault)) which.Script (F.asked files.old) (F.asked files.new) }
+    ensures policy { (n : ℕ) (fault : PolicyRefusal) → result ≡ Status.Policy n fault → WordsMeanUpTo words.now (F.contents files.old) (Refuses (refusal.Policy n fault)) (which.Policy n) (F.asked files.old) (F.asked files.new) }
     ensures schedule { (line : ℕ) → result ≡ Status.Schedule line → (input : Input) × (schedule : ReadSchedule) ×
-        Meets words.now (F.held files.old) (Runs input schedule) which.Schedule (F.asked files.old) (F.asked files.new) × (played input schedule ≡ BadLine line) }
-    ensures read_fault { result ≡ Status.ReadFault → HasRisen (F.faults files.old) (F.faults files.new) × ((w : Which) × Meets words.now (F.held files.old) (Stops w) w (F.asked files.old) (F.asked files.new)) }
+        WordsMeanUpTo words.now (F.contents files.old) (Runs input schedule) which.Schedule (F.asked files.old) (F.asked files.new) × (played input schedule ≡ BadLine line) }
+    ensures read_fault { result ≡ Status.ReadFault → HasRisen (F.faults files.old) (F.faults files.new) × ((w : Which) × WordsMeanUpTo words.now (F.contents files.old) (Stops w) w (F.asked files.old) (F.asked files.new)) }
     ensures write_fault { result ≡ Status.WriteFault → HasRisen (S.faults out.old) (S.faults out.new) ×
-        ((text : List ℕ) × IsMeantBy words.now (F.held files.old) text × AppendsFront (S.written out.old) (S.written out.new) text) }
-    ensures no_memory { result ≡ Status.NoMemory → WantsMemoryFor (F.held files.old) (command_in words.now) (F.asked files.old) (F.asked files.new) }
+        ((text : List ℕ) × IsMeantBy words.now (F.contents files.old) text × AppendsPrefix (S.written out.old) (S.written out.new) text) }
+    ensures no_memory { result ≡ Status.NoMemory → WantsMemoryFor (F.contents files.old) (command_in words.now) (F.asked files.old) (F.asked files.new) }
 
     // Nothing is written unless the call succeeds or writing fails, the files stay as they are, and no count rises without its fault.
     ensures unwritten { result ≢ Status.Done → result ≢ Status.WriteFault → S.written out.new ≡ S.written out.old }
-    ensures held { F.held files.new ≡ F.held files.old }
+    ensures contents { F.contents files.new ≡ F.contents files.old }
     ensures quiet { result ≢ Status.ReadFault → F.faults files.new ≡ F.faults files.old }
     ensures sink_quiet { result ≢ Status.WriteFault → S.faults out.new ≡ S.faults out.old }
 
     // If each name of the words is known and no count rose, the answer is the outcome of the words, unless memory runs out.
-    ensures complete { AreTold (F.held files.old) (names_asked (command_in words.now)) → (HasRisen (F.faults files.old) (F.faults files.new) → ⊥) → (HasRisen (S.faults out.old) (S.faults out.new) → ⊥) →
-        (outcome : Outcome) → is_stop outcome ≡ false → WordsComeTo words.now (F.held files.old) outcome →
+    ensures complete { AreFilesKnown (F.contents files.old) (names_asked (command_in words.now)) → (HasRisen (F.faults files.old) (F.faults files.new) → ⊥) → (HasRisen (S.faults out.old) (S.faults out.new) → ⊥) →
+        (outcome : CommandOutcome) → is_stop outcome ≡ false → WordsHaveOutcome words.now (F.contents files.old) outcome →
         (result ≡ Status.NoMemory) ⊎ EndsAs outcome (S.written out.old) (S.written out.new) result }
 {
     match read_words(alloc, words) {

@@ -8,7 +8,7 @@ use Rattle.st_calls.specs.declared.argument.PartKind.TheVariants as part_kind
 use Rattle.st_model.specs.Spelling.{blank}
 use Rattle.st_model.proofs.Spelled.{few_words_of_text}
 use Rattle.st_model.proofs.Words.{few_words_of}
-use Rattle.st_translate.specs.Stage.{AsksWord, Reaches, most_added, most_text, most_words}
+use Rattle.st_translate.specs.Stage.{NeedsNextWord, Reaches, most_added, most_text, most_words}
 use Rattle.st_translate.specs.declared.stage.TheConstants.{NAME_ROOM, NAME_WORDS}
 use Rattle.st_translate.specs.declared.stage.Stage.{Stage}
 use Rattle.st_translate.specs.declared.stage.Stage.TheVariants.{Text, Address, Pointer, Part, Fault, Done}
@@ -41,7 +41,7 @@ enough_text part_kind.Argv = omega arith
 enough_text kind = omega arith
 
 -- if a word is asked for, there is capacity for what it adds to the text
-pub letters_fit : (kind : PartKind) (at : ℕ) (words text : List ℕ) (stage : Stage) → Reaches kind at words text stage → AsksWord stage → length text + most_added stage ≤ most_text kind
+pub letters_fit : (kind : PartKind) (at : ℕ) (words text : List ℕ) (stage : Stage) → Reaches kind at words text stage → NeedsNextWord stage → length text + most_added stage ≤ most_text kind
 letters_fit kind at words text (Text next read longest) r asks =
     let room = enough_text kind in
     let count = r.1.count in let short = r.0.1.0 in let bound = r.0.1.1 in omega (arith, room, count, short, bound)
@@ -64,7 +64,7 @@ letters_fit kind at words text (Fault errno) r asks = absurd asks
 letters_fit kind at words text Done r asks = absurd asks
 
 -- there is capacity for the word too
-pub word_fits : (kind : PartKind) (at : ℕ) (words text : List ℕ) (stage : Stage) → Reaches kind at words text stage → AsksWord stage → length words < most_words kind
+pub word_fits : (kind : PartKind) (at : ℕ) (words text : List ℕ) (stage : Stage) → Reaches kind at words text stage → NeedsNextWord stage → length words < most_words kind
 word_fits kind at words text (Text next read longest) r asks =
     let room = enough_words kind in
     let few = few_words_of_text longest at (next / 8) words (sym (r.1.is_text words) ∙ spells kind at words text (Text next read longest) r) in

@@ -10,8 +10,8 @@ use Rattle.st_model.specs.Spelling as spelling
 use Rattle.st_model.specs.Spelling.{Spelled, next_word, spell, spell_address}
 use Rattle.st_model.specs.declared.limits.TheConstants.{SPACE_WORDS, SPACE_BYTES, LONGEST_TEXT}
 use Rattle.st_names.specs.declared.limits.TheConstants.{LONGEST_NAME}
-use Rattle.st_translate.specs.Copied.{IsDone, asked_word, lies_in_memory}
-use Rattle.st_translate.specs.Stage.{AsksWord, IsWithin, Reaches, Reads, ReadsAddress, spelled_at}
+use Rattle.st_translate.specs.Copied.{HasAllWords, asked_word, lies_in_memory}
+use Rattle.st_translate.specs.Stage.{NeedsNextWord, IsStageWithin, Reaches, ReadsWords, ReadsAddress, spelled_at}
 use Rattle.st_translate.specs.declared.stage.Stage.{Stage}
 use Rattle.st_translate.specs.declared.stage.Stage.TheVariants.{Text, Address, Pointer, Part, Fault, Done}
 use Rattle.st_translate.proofs.Letters.{bytes_of_none, open_text}
@@ -30,7 +30,7 @@ pub same_place : (n place : ℕ) → Some n ≡ Some place → n ≡ place
 same_place n place e = cc
 
 -- a stage that asks for a word says which word is next
-goes_on : (kind : PartKind) (at : ℕ) (words text : List ℕ) (stage : Stage) (place : ℕ) → asked_word (spelled_at stage text) ≡ Some place → IsWithin stage → Reads kind at words text stage → spell kind at words ≡ next_word place
+goes_on : (kind : PartKind) (at : ℕ) (words text : List ℕ) (stage : Stage) (place : ℕ) → asked_word (spelled_at stage text) ≡ Some place → IsStageWithin stage → ReadsWords kind at words text stage → spell kind at words ≡ next_word place
 goes_on kind at words text (Text next read longest) place e within r = text_goes_on r within.0 ∙ ap next_word (same_place (next / 8) place e)
 goes_on kind at words text (Address next) place e within r = address_goes_on r ∙ ap next_word (same_place (next / 8) place e)
 goes_on kind at words text (Pointer vector) place e within r = pointer_goes_on r ∙ ap next_word (same_place (vector.pointer / 8) place e)
@@ -39,11 +39,11 @@ goes_on kind at words text (Fault errno) place e within r = cc
 goes_on kind at words text Done place e within r = cc
 
 -- if that word is outside memory, there is a fault
-pub outside : (kind : PartKind) (at : ℕ) (words text : List ℕ) (stage : Stage) (place : ℕ) → asked_word (spelled_at stage text) ≡ Some place → SPACE_WORDS ≤ place → IsWithin stage → Reads kind at words text stage → spell kind at words ≡ spelling.Fault EFAULT
+pub outside : (kind : PartKind) (at : ℕ) (words text : List ℕ) (stage : Stage) (place : ℕ) → asked_word (spelled_at stage text) ≡ Some place → SPACE_WORDS ≤ place → IsStageWithin stage → ReadsWords kind at words text stage → spell kind at words ≡ spelling.Fault EFAULT
 outside kind at words text stage place e far within r = goes_on kind at words text stage place e within r ∙ next_outside place far
 
 -- a stage that asks for no word, or for one in memory
-pub inside : (kind : PartKind) (at : ℕ) (words text : List ℕ) (stage : Stage) → ((place : ℕ) → asked_word (spelled_at stage text) ≡ Some place → place < SPACE_WORDS) → IsWithin stage → Reads kind at words text stage → Reaches kind at words text stage
+pub inside : (kind : PartKind) (at : ℕ) (words text : List ℕ) (stage : Stage) → ((place : ℕ) → asked_word (spelled_at stage text) ≡ Some place → place < SPACE_WORDS) → IsStageWithin stage → ReadsWords kind at words text stage → Reaches kind at words text stage
 inside kind at words text (Text next read longest) near within r = ((near (next / 8) refl, within), r)
 inside kind at words text (Address next) near within r = (near (next / 8) refl, r)
 inside kind at words text (Pointer vector) near within r = ((near (vector.pointer / 8) refl, within), r)
@@ -61,7 +61,7 @@ spells kind at words text (Fault errno) r = r
 spells kind at words text Done r = r
 
 -- if words ask for another, so does the stage that they reach
-pub asks : (kind : PartKind) (at : ℕ) (words text : List ℕ) (stage : Stage) → Reaches kind at words text stage → IsSome (asked_word (spell kind at words)) → AsksWord stage
+pub asks : (kind : PartKind) (at : ℕ) (words text : List ℕ) (stage : Stage) → Reaches kind at words text stage → IsSome (asked_word (spell kind at words)) → NeedsNextWord stage
 asks kind at words text (Text next read longest) r some = r.0
 asks kind at words text (Address next) r some = r.0
 asks kind at words text (Pointer vector) r some = r.0
@@ -100,12 +100,12 @@ pub further : (kind : PartKind) (at : ℕ) (words text : List ℕ) (stage : Stag
 further kind at words text stage i below r = subst (λ (ws : List ℕ). Reaches kind at ws text stage) (sym (take_more words i 0 below)) r
 
 -- if words are complete, the text that was read is the one they spell
-pub all_read : (kind : PartKind) (at : ℕ) (words text : List ℕ) (stage : Stage) → Reaches kind at words text stage → IsDone (spell kind at words) → spell kind at words ≡ spelling.Text text
+pub all_read : (kind : PartKind) (at : ℕ) (words text : List ℕ) (stage : Stage) → Reaches kind at words text stage → HasAllWords (spell kind at words) → spell kind at words ≡ spelling.Text text
 all_read kind at words text stage r done = by_stage stage (spells kind at words text stage r) where
   by_stage : (stage : Stage) → spell kind at words ≡ spelled_at stage text → spell kind at words ≡ spelling.Text text
-  by_stage (Text next read longest) e = absurd (subst IsDone e done)
-  by_stage (Address next) e = absurd (subst IsDone e done)
-  by_stage (Pointer vector) e = absurd (subst IsDone e done)
-  by_stage (Part next vector) e = absurd (subst IsDone e done)
-  by_stage (Fault errno) e = absurd (subst IsDone e done)
+  by_stage (Text next read longest) e = absurd (subst HasAllWords e done)
+  by_stage (Address next) e = absurd (subst HasAllWords e done)
+  by_stage (Pointer vector) e = absurd (subst HasAllWords e done)
+  by_stage (Part next vector) e = absurd (subst HasAllWords e done)
+  by_stage (Fault errno) e = absurd (subst HasAllWords e done)
   by_stage Done e = e

@@ -40,20 +40,20 @@ join-last (first ∷ second ∷ parts) part more =
     ∙ sym (append_assoc first (blank ∷ join_with_byte blank (second ∷ (parts ++ part ∷ []))) more)
 
 -- the text that comes before one more part: the parts so far, and a blank if there are any
-blank_behind : List (List ℕ) → List ℕ
-blank_behind [] = []
-blank_behind (first ∷ parts) = blank ∷ []
+blank_after : List (List ℕ) → List ℕ
+blank_after [] = []
+blank_after (first ∷ parts) = blank ∷ []
 
-join-empty : (parts : List (List ℕ)) → join_with_byte blank (parts ++ [] ∷ []) ≡ join_with_byte blank parts ++ blank_behind parts
-unfolding blank_behind
+join-empty : (parts : List (List ℕ)) → join_with_byte blank (parts ++ [] ∷ []) ≡ join_with_byte blank parts ++ blank_after parts
+unfolding blank_after
 join-empty [] = refl
 join-empty (first ∷ []) = refl
 join-empty (first ∷ second ∷ parts) =
     ap (λ (bs : List ℕ). first ++ (blank ∷ bs)) (join-empty (second ∷ parts))
     ∙ sym (append_assoc first (blank ∷ join_with_byte blank (second ∷ parts)) (blank ∷ []))
 
-blank_added : (parts : List (List ℕ)) (word : ℕ) (b : Bool) → (word == 0) ≡ b → 0 < word → cond (b || (length parts == 0)) [] (blank ∷ []) ≡ blank_behind parts
-unfolding blank_behind
+blank_added : (parts : List (List ℕ)) (word : ℕ) (b : Bool) → (word == 0) ≡ b → 0 < word → cond (b || (length parts == 0)) [] (blank ∷ []) ≡ blank_after parts
+unfolding blank_after
 blank_added parts word true t l = let e = eqb-true word 0 t in absurd (omega (arith, e, l))
 blank_added [] word false t l = refl
 blank_added (first ∷ parts) word false t l = ap (λ (b : Bool). cond b [] (blank ∷ [])) (ne_eqb (length (first ∷ parts)) 0 (λ e. absurd (omega (arith, e))))
@@ -84,7 +84,7 @@ module _ {kind : PartKind} {at : ℕ} {words text : List ℕ} {vector : Vector} 
     joined =
         ap (λ (n : ℕ). text ++ cond ((word == 0) || (n == 0)) [] (blank ∷ [])) r.count
         ∙ ap (λ (bs : List ℕ). text ++ bs) (blank_added r.parts word (word == 0) refl some)
-        ∙ ap (λ (bs : List ℕ). bs ++ blank_behind r.parts) r.joined
+        ∙ ap (λ (bs : List ℕ). bs ++ blank_after r.parts) r.joined
         ∙ sym (join-empty r.parts);
     count = r.count;
     bytes = (let its = r.bytes in omega (arith, its));

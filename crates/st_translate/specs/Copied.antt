@@ -23,8 +23,8 @@ pub record Copied : Type 0 where
   pub words : List ℕ
 
 -- what the words spell
-abbrev pub spelled : Copied → Spelled
-spelled copied = spell copied.kind copied.at copied.words
+abbrev pub spelled_words : Copied → Spelled
+spelled_words copied = spell copied.kind copied.at copied.words
 
 -- the same part with one more word
 abbrev pub with_word : Copied → ℕ → Copied
@@ -37,13 +37,13 @@ asked_word (Fault errno) = None
 asked_word (More place) = Some place
 
 -- the fault of words, if they have one
-abbrev pub fault_of : Spelled → Option Errno
-fault_of (Text text) = None
-fault_of (Fault errno) = Some errno
-fault_of (More place) = None
+abbrev pub copy_fault : Spelled → Option Errno
+copy_fault (Text text) = None
+copy_fault (Fault errno) = Some errno
+copy_fault (More place) = None
 
 -- the words are complete
-abbrev pub IsDone : Spelled → Type 0
-IsDone (Text text) = Unit {0}
-IsDone (Fault errno) = ⊥
-IsDone (More place) = ⊥
+abbrev pub HasAllWords : Spelled → Type 0
+HasAllWords (Text text) = Unit {0}
+HasAllWords (Fault errno) = ⊥
+HasAllWords (More place) = ⊥

@@ -53,22 +53,22 @@ most_text part_kind.Argv = VECTOR_ROOM
 most_text kind = NAME_ROOM
 
 -- what was read is within the limits
-abbrev pub IsWithin : Stage → Type 0
-IsWithin (Text next read longest) = (read ≤ longest) × (longest ≤ LONGEST_NAME)
-IsWithin (Address next) = Unit {0}
-IsWithin (Pointer vector) = (vector.parts ≤ ARGV_PARTS) × (vector.bytes ≤ ARGV_BYTES)
-IsWithin (Part next vector) = (vector.parts < ARGV_PARTS) × (vector.pointer / 8 ≤ SPACE_WORDS) × (vector.bytes ≤ ARGV_BYTES)
-IsWithin (Fault errno) = Unit {0}
-IsWithin Done = Unit {0}
+abbrev pub IsStageWithin : Stage → Type 0
+IsStageWithin (Text next read longest) = (read ≤ longest) × (longest ≤ LONGEST_NAME)
+IsStageWithin (Address next) = Unit {0}
+IsStageWithin (Pointer vector) = (vector.parts ≤ ARGV_PARTS) × (vector.bytes ≤ ARGV_BYTES)
+IsStageWithin (Part next vector) = (vector.parts < ARGV_PARTS) × (vector.pointer / 8 ≤ SPACE_WORDS) × (vector.bytes ≤ ARGV_BYTES)
+IsStageWithin (Fault errno) = Unit {0}
+IsStageWithin Done = Unit {0}
 
 -- another word is needed, and it is in memory
-abbrev pub AsksWord : Stage → Type 0
-AsksWord (Text next read longest) = (next / 8 < SPACE_WORDS) × IsWithin (Text next read longest)
-AsksWord (Address next) = next / 8 < SPACE_WORDS
-AsksWord (Pointer vector) = (vector.pointer / 8 < SPACE_WORDS) × IsWithin (Pointer vector)
-AsksWord (Part next vector) = (next / 8 < SPACE_WORDS) × IsWithin (Part next vector)
-AsksWord (Fault errno) = ⊥
-AsksWord Done = ⊥
+abbrev pub NeedsNextWord : Stage → Type 0
+NeedsNextWord (Text next read longest) = (next / 8 < SPACE_WORDS) × IsStageWithin (Text next read longest)
+NeedsNextWord (Address next) = next / 8 < SPACE_WORDS
+NeedsNextWord (Pointer vector) = (vector.pointer / 8 < SPACE_WORDS) × IsStageWithin (Pointer vector)
+NeedsNextWord (Part next vector) = (next / 8 < SPACE_WORDS) × IsStageWithin (Part next vector)
+NeedsNextWord (Fault errno) = ⊥
+NeedsNextWord Done = ⊥
 
 -- words have spelled a prefix of a text, up to this byte of memory, and no byte of the prefix is zero
 pub record ReadsText (kind : PartKind) (at : ℕ) (words text : List ℕ) (next read longest : ℕ) : Type 0 where
@@ -112,29 +112,29 @@ pub record ReadsPart (kind : PartKind) (at : ℕ) (words text : List ℕ) (next 
   pub bytes : vector.bytes ≡ length (concat parts) + length part
 
 -- what words of a part have spelled at a stage, with this text
-abbrev pub Reads : PartKind → ℕ → List ℕ → List ℕ → Stage → Type 0
-Reads kind at words text (Text next read longest) = ReadsText kind at words text next read longest
-Reads kind at words text (Address next) = ReadsAddress kind at words text next
-Reads kind at words text (Pointer vector) = ReadsPointer kind at words text vector
-Reads kind at words text (Part next vector) = ReadsPart kind at words text next vector
-Reads kind at words text (Fault errno) = spell kind at words ≡ spelling.Fault errno
-Reads kind at words text Done = spell kind at words ≡ spelling.Text text
+abbrev pub ReadsWords : PartKind → ℕ → List ℕ → List ℕ → Stage → Type 0
+ReadsWords kind at words text (Text next read longest) = ReadsText kind at words text next read longest
+ReadsWords kind at words text (Address next) = ReadsAddress kind at words text next
+ReadsWords kind at words text (Pointer vector) = ReadsPointer kind at words text vector
+ReadsWords kind at words text (Part next vector) = ReadsPart kind at words text next vector
+ReadsWords kind at words text (Fault errno) = spell kind at words ≡ spelling.Fault errno
+ReadsWords kind at words text Done = spell kind at words ≡ spelling.Text text
 
 -- the same, and if another word is needed, it is in memory
 abbrev pub Reaches : PartKind → ℕ → List ℕ → List ℕ → Stage → Type 0
-Reaches kind at words text (Text next read longest) = AsksWord (Text next read longest) × Reads kind at words text (Text next read longest)
-Reaches kind at words text (Address next) = AsksWord (Address next) × Reads kind at words text (Address next)
-Reaches kind at words text (Pointer vector) = AsksWord (Pointer vector) × Reads kind at words text (Pointer vector)
-Reaches kind at words text (Part next vector) = AsksWord (Part next vector) × Reads kind at words text (Part next vector)
-Reaches kind at words text (Fault errno) = Reads kind at words text (Fault errno)
-Reaches kind at words text Done = Reads kind at words text Done
+Reaches kind at words text (Text next read longest) = NeedsNextWord (Text next read longest) × ReadsWords kind at words text (Text next read longest)
+Reaches kind at words text (Address next) = NeedsNextWord (Address next) × ReadsWords kind at words text (Address next)
+Reaches kind at words text (Pointer vector) = NeedsNextWord (Pointer vector) × ReadsWords kind at words text (Pointer vector)
+Reaches kind at words text (Part next vector) = NeedsNextWord (Part next vector) × ReadsWords kind at words text (Part next vector)
+Reaches kind at words text (Fault errno) = ReadsWords kind at words text (Fault errno)
+Reaches kind at words text Done = ReadsWords kind at words text Done
 
 -- each word was asked for by the words before it
 abbrev pub AreAsked : PartKind → ℕ → List ℕ → Type 0
 AreAsked kind at words = (count : ℕ) → count < length words → IsSome (asked_word (spell kind at (take count words)))
 
 -- the invariant of copying a part: its text so far, its stage, and capacity for every word and byte
-pub record IsCopied (kind : PartKind) (at : ℕ) (words text : List ℕ) (stage : Stage) (room text_room : ℕ) : Type 0 where
+pub record IsCopyStage (kind : PartKind) (at : ℕ) (words text : List ℕ) (stage : Stage) (room text_room : ℕ) : Type 0 where
   pub lies : lies_in_memory kind ≡ true
   pub asked : AreAsked kind at words
   pub reached : Reaches kind at words text stage

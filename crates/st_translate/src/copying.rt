@@ -2,7 +2,7 @@ ghost use Rattle.std.specs.Prelude.{◌≡◌, ℕ, ◌<◌, ◌≤◌, true, Li
 ghost use Rattle.st_calls.specs.declared.argument.PartKind.{PartKind};
 ghost use Rattle.st_model.specs.Spelling as spelling;
 ghost use Rattle.st_model.specs.declared.limits.TheConstants.{SPACE_WORDS};
-ghost use Rattle.st_translate.specs.Copied.{Copied, IsDone, asked_word, fault_of, lies_in_memory, spelled, with_word};
+ghost use Rattle.st_translate.specs.Copied.{Copied, HasAllWords, asked_word, copy_fault, lies_in_memory, spelled_words, with_word};
 ghost use Rattle.st_translate.specs.Stage.{AreAsked, Reaches, most_text, spelled_at};
 ghost use Rattle.st_translate.specs.Taken.{took_of};
 
@@ -38,13 +38,13 @@ pub struct Copying {
 impl Model for Copying {
     ghost use Rattle.std.specs.Prelude.{vec_capacity};
     ghost use Rattle.st_translate.specs.Copied.{Copied};
-    ghost use Rattle.st_translate.specs.Stage.{IsCopied};
+    ghost use Rattle.st_translate.specs.Stage.{IsCopyStage};
 
     ghost Value = { Copied };
 
     ghost view = { λ c. record { kind = c.kind; at = c.at; words = c.words.items } };
 
-    ghost invariant = { λ c. IsCopied c.kind c.at c.words.items c.text.items c.stage (vec_capacity c.words) (vec_capacity c.text) };
+    ghost invariant = { λ c. IsCopyStage c.kind c.at c.words.items c.text.items c.stage (vec_capacity c.words) (vec_capacity c.text) };
 }
 
 // What the last word led to, by the stage after it.
@@ -92,7 +92,7 @@ impl Copying {
 
     /// The index of the word that is copied next; `None` if the part is complete or has a fault.
     pub fn next_word(&self) -> Option<u32>
-        ensures value { result ≡ asked_word (spelled self.now) }
+        ensures value { result ≡ asked_word (spelled_words self.now) }
         ensures inside { IfSome result (λ place. place < SPACE_WORDS) }
     {
         self.stage.place()
@@ -107,16 +107,16 @@ impl Copying {
 
     /// The fault of the words, or that the part begins outside memory.
     pub fn fault(&self) -> Option<Errno>
-        ensures { result ≡ fault_of (spelled self.now) }
+        ensures { result ≡ copy_fault (spelled_words self.now) }
     {
         self.stage.fault()
     }
 
     /// Takes the word at the index that `next_word` gives.
     pub fn take(&mut self, word: u64) -> Took
-        requires { IsSome (asked_word (spelled self.old)) }
+        requires { IsSome (asked_word (spelled_words self.old)) }
         ensures words { self.new ≡ with_word self.old word }
-        ensures took { result ≡ took_of (spelled self.new) }
+        ensures took { result ≡ took_of (spelled_words self.new) }
     {
         self.words.push_reserved(word);
         self.stage.take(&mut self.text, word);
@@ -143,8 +143,8 @@ impl Copying {
 
     /// The text of a complete part.
     pub fn text(&self) -> &[u8]
-        requires { IsDone (spelled self.now) }
-        ensures { spelled self.now ≡ spelling.Text result.now }
+        requires { HasAllWords (spelled_words self.now) }
+        ensures { spelled_words self.now ≡ spelling.Text result.now }
     {
         &self.text
     }

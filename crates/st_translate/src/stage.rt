@@ -2,8 +2,8 @@ ghost use Rattle.std.specs.Prelude.{◌≡◌, ℕ, ◌+◌, ◌/◌, ◌<◌, �
 ghost use Rattle.std.specs.List.{list_any, prefix_len, take_while};
 ghost use Rattle.st_model.specs.Spelling.{is_zero};
 ghost use Rattle.st_translate.specs.Bytes.{ends_at, is_letter, letter_count, letters_at, next_word_byte};
-ghost use Rattle.st_translate.specs.Copied.{asked_word, fault_of, lies_in_memory};
-ghost use Rattle.st_translate.specs.Stage.{AsksWord, IsWithin, Reaches, Reads, most_added, most_text, most_words, spelled_at, text_added};
+ghost use Rattle.st_translate.specs.Copied.{asked_word, copy_fault, lies_in_memory};
+ghost use Rattle.st_translate.specs.Stage.{NeedsNextWord, IsStageWithin, Reaches, ReadsWords, most_added, most_text, most_words, spelled_at, text_added};
 ghost use Rattle.st_calls.specs.declared.argument.PartKind.{PartKind};
 ghost use Rattle.st_model.specs.declared.limits.TheConstants.{SPACE_WORDS};
 
@@ -141,9 +141,9 @@ fn push_blank(text: &mut Vec<u8>, vector: Vector, word: u64)
 
 // The stage of a text after one more word, which has this many letters and may end the text.
 fn after_text(next: u32, read: usize, longest: usize, letters: usize, ended: bool) -> Stage
-    requires asks { AsksWord (Stage.Text next read longest) }
+    requires asks { NeedsNextWord (Stage.Text next read longest) }
     requires few { letters ≤ 8 }
-    ensures { (kind : PartKind) (at word : ℕ) (words text : List ℕ) → letters ≡ letter_count next word → ended ≡ ends_at next word → Reads kind at words text (Stage.Text next read longest) → Reaches kind at (words ++ word ∷ []) (text ++ letters_at next word) result }
+    ensures { (kind : PartKind) (at word : ℕ) (words text : List ℕ) → letters ≡ letter_count next word → ended ≡ ends_at next word → ReadsWords kind at words text (Stage.Text next read longest) → Reaches kind at (words ++ word ∷ []) (text ++ letters_at next word) result }
 {
     let read = read + letters;
     if read > longest {
@@ -163,8 +163,8 @@ fn after_text(next: u32, read: usize, longest: usize, letters: usize, ended: boo
 
 // The stage of an address after its word.
 fn after_address(next: u32, word: u64) -> Stage
-    requires { AsksWord (Stage.Address next) }
-    ensures { (kind : PartKind) (at : ℕ) (words text : List ℕ) → Reads kind at words text (Stage.Address next) → Reaches kind at (words ++ word ∷ []) (text ++ text_added (Stage.Address next) word) result }
+    requires { NeedsNextWord (Stage.Address next) }
+    ensures { (kind : PartKind) (at : ℕ) (words text : List ℕ) → ReadsWords kind at words text (Stage.Address next) → Reaches kind at (words ++ word ∷ []) (text ++ text_added (Stage.Address next) word) result }
 {
     if is_internet(word) {
         Stage::Done
@@ -175,8 +175,8 @@ fn after_address(next: u32, word: u64) -> Stage
 
 // The stage of an argument vector after one more pointer.
 fn after_pointer(vector: Vector, word: u64) -> Stage
-    requires { AsksWord (Stage.Pointer vector) }
-    ensures { (kind : PartKind) (at : ℕ) (words text : List ℕ) → Reads kind at words text (Stage.Pointer vector) → Reaches kind at (words ++ word ∷ []) (text ++ text_added (Stage.Pointer vector) word) result }
+    requires { NeedsNextWord (Stage.Pointer vector) }
+    ensures { (kind : PartKind) (at : ℕ) (words text : List ℕ) → ReadsWords kind at words text (Stage.Pointer vector) → Reaches kind at (words ++ word ∷ []) (text ++ text_added (Stage.Pointer vector) word) result }
 {
     if word == 0 {
         Stage::Done
@@ -195,9 +195,9 @@ fn after_pointer(vector: Vector, word: u64) -> Stage
 
 // The stage of an argument vector after one more word of a part, which has this many letters and may end the part.
 fn after_part(next: u32, vector: Vector, letters: usize, ended: bool) -> Stage
-    requires asks { AsksWord (Stage.Part next vector) }
+    requires asks { NeedsNextWord (Stage.Part next vector) }
     requires few { letters ≤ 8 }
-    ensures { (kind : PartKind) (at word : ℕ) (words text : List ℕ) → letters ≡ letter_count next word → ended ≡ ends_at next word → Reads kind at words text (Stage.Part next vector) → Reaches kind at (words ++ word ∷ []) (text ++ letters_at next word) result }
+    ensures { (kind : PartKind) (at word : ℕ) (words text : List ℕ) → letters ≡ letter_count next word → ended ≡ ends_at next word → ReadsWords kind at words text (Stage.Part next vector) → Reaches kind at (words ++ word ∷ []) (text ++ letters_at next word) result }
 {
     let bytes = vector.bytes + letters;
     if bytes > ARGV_BYTES {
@@ -265,7 +265,7 @@ impl Stage {
 
     /// The fault of the part, if it has one.
     pub fn fault(self) -> Option<Errno>
-        ensures { (text : List ℕ) → result ≡ fault_of (spelled_at self text) }
+        ensures { (text : List ℕ) → result ≡ copy_fault (spelled_at self text) }
     {
         if let Stage::Fault(errno) = self {
             Some(errno)
@@ -276,8 +276,8 @@ impl Stage {
 
     // The stage itself, or a fault if the next word is past the end of memory.
     fn inside(self) -> Self
-        requires { IsWithin self }
-        ensures { (kind : PartKind) (at : ℕ) (words text : List ℕ) → Reads kind at words text self → Reaches kind at words text result }
+        requires { IsStageWithin self }
+        ensures { (kind : PartKind) (at : ℕ) (words text : List ℕ) → ReadsWords kind at words text self → Reaches kind at words text result }
     {
         let Some(place) = self.place() else {
             return self;
@@ -293,7 +293,7 @@ impl Stage {
     #[inline]
     pub fn take(&mut self, text: &mut Vec<u8>, word: u64)
         requires room { vec_len text.old + most_added self.old ≤ vec_capacity text.old }
-        requires asks { AsksWord self.old }
+        requires asks { NeedsNextWord self.old }
         ensures stage { (kind : PartKind) (at : ℕ) (words : List ℕ) → Reaches kind at words text.old.items self.old → Reaches kind at (words ++ word ∷ []) text.new.items self.new }
         ensures capacity { vec_capacity text.new ≡ vec_capacity text.old }
     {

@@ -14,7 +14,7 @@ use Rattle.std.specs.Ordering.{nat_cmp}
 use Rattle.std.specs.Prelude.{if◌then◌else◌, slice_get}
 use Rattle.st_names.specs.Name.{Components, last_part, parent}
 use Rattle.st_model.specs.Tree.{Node, Tree, add_object, is_prefix, sorted_names, is_directory, link_object, with_prefix_replaced, remove_name, root_node, root_only, with_name, without_name}
-use Rattle.st_tree.specs.Objects.{dirs_of, entries_at, entries_of_body, is_dir_at, is_dir_of, node_of, tree_of, IsNumber, IsWhole}
+use Rattle.st_tree.specs.Objects.{dirs_of, entries_at, entries_of_body, is_dir_at, is_dir_of, object_node, tree_of, IsNumber, IsValidTree}
 use Rattle.st_tree.specs.Paths.{AreDirectories, Entries, dir_entry, object_from, names_under, with_entry, without_entry}
 use Rattle.st_tree.specs.Reached.{IsEmpty, IsFree, IsRenamePlan, Replaces}
 use Rattle.st_tree.specs.Refusals.{tree_after_rename}
@@ -36,7 +36,7 @@ dir_of_node : Option Node → Bool
 dir_of_node None = false
 dir_of_node (Some node) = is_directory node.kind
 
-dir_of_object : (at : Option Object) → is_dir_at at ≡ dir_of_node (option_map node_of at)
+dir_of_object : (at : Option Object) → is_dir_at at ≡ dir_of_node (option_map object_node at)
 unfolding dir_of_node
 dir_of_object None = refl
 dir_of_object (Some object) = refl
@@ -45,26 +45,26 @@ dir_in : List Node → ℕ → Bool
 dir_in nodes zero = false
 dir_in nodes (suc before) = dir_of_node (slice_get nodes before)
 
-dir_by_nodes : (objects : List Object) (number : ℕ) → is_dir_of objects number ≡ dir_in (map node_of objects) number
+dir_by_nodes : (objects : List Object) (number : ℕ) → is_dir_of objects number ≡ dir_in (map object_node objects) number
 unfolding dir_in
 dir_by_nodes objects zero = refl
-dir_by_nodes objects (suc before) = dir_of_object (slice_get objects before) ∙ ap dir_of_node (sym (slice_get-map node_of objects before))
+dir_by_nodes objects (suc before) = dir_of_object (slice_get objects before) ∙ ap dir_of_node (sym (slice_get-map object_node objects before))
 
-pub dirs_kept : (old new : List Object) → map node_of new ≡ map node_of old → (number : ℕ) → is_dir_of new number ≡ is_dir_of old number
+pub dirs_kept : (old new : List Object) → map object_node new ≡ map object_node old → (number : ℕ) → is_dir_of new number ≡ is_dir_of old number
 dirs_kept old new nodes number = dir_by_nodes new number ∙ ap (λ (ns : List Node). dir_in ns number) nodes ∙ sym (dir_by_nodes old number)
 
-pub same_count : (old new : List Object) → map node_of new ≡ map node_of old → length new ≡ length old
-same_count old new nodes = sym (length-map new node_of) ∙ ap length nodes ∙ length-map old node_of
+pub same_count : (old new : List Object) → map object_node new ≡ map object_node old → length new ≡ length old
+same_count old new nodes = sym (length-map new object_node) ∙ ap length nodes ∙ length-map old object_node
 
 -- ---- names that are linked, removed and renamed
 
 -- the objects represent this tree
 pub record Makes (objects : List Object) (tree : Tree) : Type 0 where
-  pub whole : IsWhole objects
+  pub whole : IsValidTree objects
   pub view : tree_of objects ≡ tree
 
 -- changes of entries alone
-module _ (old new : List Object) (whole : IsWhole old) (nodes : map node_of new ≡ map node_of old) where
+module _ (old new : List Object) (whole : IsValidTree old) (nodes : map object_node new ≡ map object_node old) where
   pub made_after : (after : ℕ → Entries) (names : List (Components × ℕ)) → ((number : ℕ) → dirs_of new number ≡ after number) → AreDirectories (length old) (is_dir_of old) after → names_under (length old) after 1 ≡ names
       → Makes new (record { names = names; objects = (tree_of old).objects })
   unfolding tree_of
@@ -158,21 +158,21 @@ push_dir objects object zero inside = refl
 push_dir objects object (suc before) inside = ap is_dir_at (push_before objects object before (omega (arith, inside)))
 
 -- a new object is added under a new name
-pub made_added : (old new : List Object) (object : Object) → IsWhole old → length old < MOST_OBJECTS → map node_of new ≡ map node_of old → (name : Components) (holder : ℕ) → IsFree old name holder
+pub made_added : (old new : List Object) (object : Object) → IsValidTree old → length old < MOST_OBJECTS → map object_node new ≡ map object_node old → (name : Components) (holder : ℕ) → IsFree old name holder
     → ((number : ℕ) → dirs_of new number ≡ with_entry (dirs_of old) holder (last_part name) (suc (length old)) number) → entries_of_body object.body ≡ []
-    → Makes (new ++ object ∷ []) (add_object (tree_of old) name (node_of object))
+    → Makes (new ++ object ∷ []) (add_object (tree_of old) name (object_node object))
 unfolding tree_of
 made_added old new object whole room nodes name holder free entries none =
     let all : List Object = new ++ object ∷ [] in
     let count : length all ≡ suc (length old) = omega (arith, length-append new (object ∷ []), same_count old new nodes) in
-    let counted : length (map node_of old) ≡ length old = length-map old node_of in
-    let nodes_are : map node_of all ≡ map node_of old ++ node_of object ∷ [] = map-append node_of new (object ∷ []) ∙ ap (λ (ns : List Node). ns ++ node_of object ∷ []) nodes in
+    let counted : length (map object_node old) ≡ length old = length-map old object_node in
+    let nodes_are : map object_node all ≡ map object_node old ++ object_node object ∷ [] = map-append object_node new (object ∷ []) ∙ ap (λ (ns : List Node). ns ++ object_node object ∷ []) nodes in
     let dirs : (number : ℕ) → dirs_of all number ≡ with_entry (dirs_of old) holder (last_part name) (suc (length old)) number = λ number. push_dirs new object number none ∙ entries number in
     let kept : (number : ℕ) → number ≤ length old → is_dir_of all number ≡ is_dir_of old number =
     λ number inside. push_dir new object number (omega (arith, inside, same_count old new nodes)) ∙ dirs_kept old new nodes number in
     let are = whole.directories in
     let after : ℕ → Entries = with_entry (dirs_of old) holder (last_part name) (suc (length old)) in
-    let names_are : names_under (length all) (dirs_of all) 1 ≡ with_name (tree_of old).names name (suc (length (map node_of old))) =
+    let names_are : names_under (length all) (dirs_of all) 1 ≡ with_name (tree_of old).names name (suc (length (map object_node old))) =
     ap (λ (n : ℕ). names_under n (dirs_of all) 1) count
     ∙ same_names_under (dirs_of all) after dirs (suc (length old)) 1
     ∙ names-added are (parent name) (last_part name) free.place free.dir free.free
@@ -194,24 +194,24 @@ written objects new old tree change count is makes =
     subst (λ (items : List Object). Makes items (change tree)) (sym (with_items_is objects new (count ∙ sym objects.ok.0)))
     (subst (λ (t : Tree). Makes new (change t)) is makes)
 
-pub written_removed : (objects : Vec Object Global) (found at new : List Object) (tree : Tree) (name : Components) (holder : ℕ) (part : List ℕ) → IsWhole objects.items → tree_of objects.items ≡ tree → found ≡ objects.items → at ≡ objects.items
-    → IsEmpty found name holder → part ≡ last_part name → map node_of new ≡ map node_of at → ((number : ℕ) → dirs_of new number ≡ without_entry (dirs_of at) holder part number)
+pub written_removed : (objects : Vec Object Global) (found at new : List Object) (tree : Tree) (name : Components) (holder : ℕ) (part : List ℕ) → IsValidTree objects.items → tree_of objects.items ≡ tree → found ≡ objects.items → at ≡ objects.items
+    → IsEmpty found name holder → part ≡ last_part name → map object_node new ≡ map object_node at → ((number : ℕ) → dirs_of new number ≡ without_entry (dirs_of at) holder part number)
     → Makes (with_items objects new).items (remove_name tree name)
 written_removed objects found at new tree name holder part whole view found_is at_is empty part_is nodes entries =
-    let nodes_are : map node_of new ≡ map node_of objects.items = nodes ∙ ap (map node_of) at_is in
+    let nodes_are : map object_node new ≡ map object_node objects.items = nodes ∙ ap (map object_node) at_is in
     written objects new (tree_of objects.items) tree (λ t. remove_name t name) (same_count objects.items new nodes_are) view
     (made_removed objects.items new whole nodes_are name holder (subst (λ (os : List Object). IsEmpty os name holder) found_is empty)
     (λ number. entries number ∙ ap (λ (p : List ℕ). without_entry (dirs_of at) holder p number) part_is ∙ ap (λ (os : List Object). without_entry (dirs_of os) holder (last_part name) number) at_is))
 
 -- the same if nothing changes
-pub written_same : (objects : Vec Object Global) (old at new : List Object) (tree : Tree) → IsWhole old → tree_of old ≡ tree → objects.items ≡ old → at ≡ old → map node_of new ≡ map node_of at → ((number : ℕ) → dirs_of new number ≡ dirs_of at number)
+pub written_same : (objects : Vec Object Global) (old at new : List Object) (tree : Tree) → IsValidTree old → tree_of old ≡ tree → objects.items ≡ old → at ≡ old → map object_node new ≡ map object_node at → ((number : ℕ) → dirs_of new number ≡ dirs_of at number)
     → Makes (with_items objects new).items tree
 written_same objects old at new tree whole view items at_is nodes dirs =
-    let nodes_are : map node_of new ≡ map node_of old = nodes ∙ ap (map node_of) at_is in
+    let nodes_are : map object_node new ≡ map object_node old = nodes ∙ ap (map object_node) at_is in
     written objects new (tree_of old) tree (λ t. t) (same_count old new nodes_are ∙ sym (ap length items)) view
     (made_again old new whole nodes_are (λ number. dirs number ∙ ap (λ (os : List Object). dirs_of os number) at_is))
 
-module _ (object : Object) (node : node_of object ≡ root_node) (none : entries_of_body object.body ≡ []) where
+module _ (object : Object) (node : object_node object ≡ root_node) (none : entries_of_body object.body ≡ []) where
   -- ---- the tree with the root alone
 
   no_dirs : (number : ℕ) → dirs_of (object ∷ []) number ≡ []
@@ -234,7 +234,7 @@ module _ (object : Object) (node : node_of object ≡ root_node) (none : entries
   pub root_tree : Makes (object ∷ []) root_only
   unfolding tree_of IsStrictlySortedBy
   root_tree =
-      let nodes : node_of object ∷ [] ≡ root_node ∷ [] = ap (λ (n : Node). n ∷ []) node in
+      let nodes : object_node object ∷ [] ≡ root_node ∷ [] = ap (λ (n : Node). n ∷ []) node in
       let names : names_under 1 (dirs_of (object ∷ [])) 1 ≡ [] =
       ap (flat_map (λ held. (held.0 ∷ [], held.1) ∷ map (λ named. (held.0 ∷ named.0, named.1)) (names_under 0 (dirs_of (object ∷ [])) held.1))) none in
       record {

@@ -33,8 +33,8 @@ abbrev AreSorted : (ℕ → Entries) → Type 0
 AreSorted dirs = (number : ℕ) → IsStrictlySortedBy (slice_cmp nat_cmp) (keys_of (dirs number))
 
 -- names after a component
-abbrev behind : List ℕ → List (Components × ℕ) → List (Components × ℕ)
-behind part names = map (λ named. (part ∷ named.0, named.1)) names
+abbrev following : List ℕ → List (Components × ℕ) → List (Components × ℕ)
+following part names = map (λ named. (part ∷ named.0, named.1)) names
 
 -- the object itself, and the names that lead on from it
 abbrev names_from : ℕ → (ℕ → Entries) → ℕ → List (Components × ℕ)
@@ -42,8 +42,8 @@ names_from depth dirs from = ([], from) ∷ names_under depth dirs from
 
 -- ---- the object to which a name leads
 
-number-behind : (part : List ℕ) (names : List (Components × ℕ)) (other : List ℕ) (rest : Components) → number_of_name (behind part names) (other ∷ rest) ≡ (if bytes_eq part other then number_of_name names rest else None)
-number-behind part names other rest = lookup-map_keys (λ name. part ∷ name) (λ name. is_same_name name (other ∷ rest)) names ∙ by (bytes_eq part other) where
+number-following : (part : List ℕ) (names : List (Components × ℕ)) (other : List ℕ) (rest : Components) → number_of_name (following part names) (other ∷ rest) ≡ (if bytes_eq part other then number_of_name names rest else None)
+number-following part names other rest = lookup-map_keys (λ name. part ∷ name) (λ name. is_same_name name (other ∷ rest)) names ∙ by (bytes_eq part other) where
   by : (b : Bool) → lookup (λ name. b && is_same_name name rest) names ≡ (if b then number_of_name names rest else None)
   by true = refl
   by false = lookup_never names
@@ -56,12 +56,12 @@ option_or-None None = refl
 option_or-None (Some x) = refl
 
 -- among the names after the entries of a directory, a name has the number that its rest has after the entry of its first component
-number-flat_map : (f : ℕ → List (Components × ℕ)) (es : Entries) (part : List ℕ) (rest : Components) → IsStrictlySortedBy (slice_cmp nat_cmp) (keys_of es) → number_of_name (flat_map (λ held. behind held.0 (f held.1)) es) (part ∷ rest) ≡ option_and_then (λ number. number_of_name (f number) rest) (lookup (is_at (slice_cmp nat_cmp part)) es)
+number-flat_map : (f : ℕ → List (Components × ℕ)) (es : Entries) (part : List ℕ) (rest : Components) → IsStrictlySortedBy (slice_cmp nat_cmp) (keys_of es) → number_of_name (flat_map (λ held. following held.0 (f held.1)) es) (part ∷ rest) ≡ option_and_then (λ number. number_of_name (f number) rest) (lookup (is_at (slice_cmp nat_cmp part)) es)
 number-flat_map f [] part rest sorted = refl
 number-flat_map f (e ∷ es) part rest sorted =
     let later = number-flat_map f es part rest (sorted_tail (slice_cmp nat_cmp) e.0 (keys_of es) sorted) in
-    lookup-append (λ name. is_same_name name (part ∷ rest)) (behind e.0 (f e.1)) (flat_map (λ held. behind held.0 (f held.1)) es) ∙
-    (λ i. option_or (number-behind e.0 (f e.1) part rest i) (later i)) ∙
+    lookup-append (λ name. is_same_name name (part ∷ rest)) (following e.0 (f e.1)) (flat_map (λ held. following held.0 (f held.1)) es) ∙
+    (λ i. option_or (number-following e.0 (f e.1) part rest i) (later i)) ∙
     by (bytes_eq e.0 part) (same_part part e.0) where
       by : (b : Bool) → is_eq (slice_cmp nat_cmp part e.0) ≡ b → option_or (cond b (number_of_name (f e.1) rest) None) (option_and_then (λ number. number_of_name (f number) rest) (lookup (is_at (slice_cmp nat_cmp part)) es)) ≡ option_and_then (λ number. number_of_name (f number) rest) (cond (is_eq (slice_cmp nat_cmp part e.0)) (Some e.1) (lookup (is_at (slice_cmp nat_cmp part)) es))
       by true here =
@@ -98,31 +98,31 @@ no_number_beyond depth dirs from part rest = number_beyond depth dirs from (part
 -- ---- the order of the names
 
 module _ (P : Components → Type 0) where
-  all_behind : (part : List ℕ) (names rest : List (Components × ℕ)) → AllByRecursion (λ name. P (part ∷ name)) (keys_of names) → AllByRecursion P (keys_of rest) → AllByRecursion P (keys_of (behind part names ++ rest))
-  all_behind part [] rest h g = g
-  all_behind part (named ∷ names) rest h g = (h.0, all_behind part names rest h.1 g)
+  all_after : (part : List ℕ) (names rest : List (Components × ℕ)) → AllByRecursion (λ name. P (part ∷ name)) (keys_of names) → AllByRecursion P (keys_of rest) → AllByRecursion P (keys_of (following part names ++ rest))
+  all_after part [] rest h g = g
+  all_after part (named ∷ names) rest h g = (h.0, all_after part names rest h.1 g)
 
-  all_joined : (Q : List ℕ → Type 0) → ((part : List ℕ) (name : Components) → Q part → P (part ∷ name)) → (f : ℕ → List (Components × ℕ)) (es : Entries) → AllByRecursion Q (keys_of es) → AllByRecursion P (keys_of (flat_map (λ held. behind held.0 (f held.1)) es))
+  all_joined : (Q : List ℕ → Type 0) → ((part : List ℕ) (name : Components) → Q part → P (part ∷ name)) → (f : ℕ → List (Components × ℕ)) (es : Entries) → AllByRecursion Q (keys_of es) → AllByRecursion P (keys_of (flat_map (λ held. following held.0 (f held.1)) es))
   all_joined Q leads_on f [] h = tt
   all_joined Q leads_on f (e ∷ es) h =
-      all_behind e.0 (f e.1) _ (recursion_from_All _ (keys_of (f e.1)) (λ k d _. leads_on e.0 _ h.0)) (all_joined Q leads_on f es h.1)
+      all_after e.0 (f e.1) _ (recursion_from_All _ (keys_of (f e.1)) (λ k d _. leads_on e.0 _ h.0)) (all_joined Q leads_on f es h.1)
 
 -- names after a component keep their order
 after_keeps : (part : List ℕ) (name other : Components) → compare_names (part ∷ name) (part ∷ other) ≡ compare_names name other
 after_keeps part name other = rw (tied_itself nat_list_cmp_total part) refl
 
 -- names after a component come before names that begin with a later component
-ordered_after : (part : List ℕ) (names rest : List (Components × ℕ)) → IsOrdered names → AllByRecursion (λ name. (more : Components) → compare_names (part ∷ more) name ≡ Less) (keys_of rest) → IsOrdered rest → IsOrdered (behind part names ++ rest)
+ordered_after : (part : List ℕ) (names rest : List (Components × ℕ)) → IsOrdered names → AllByRecursion (λ name. (more : Components) → compare_names (part ∷ more) name ≡ Less) (keys_of rest) → IsOrdered rest → IsOrdered (following part names ++ rest)
 unfolding IsStrictlySortedBy
 ordered_after part [] rest h after g = g
 ordered_after part (named ∷ names) rest h after g = (
-  all_behind (λ name. compare_names (part ∷ named.0) name ≡ Less) part names rest
+  all_after (λ name. compare_names (part ∷ named.0) name ≡ Less) part names rest
       (recursion_from_All _ (keys_of names) (All-weaker (λ name. compare_names named.0 name ≡ Less) _ (λ name less. after_keeps part named.0 name ∙ less) (keys_of names) (All-from_recursion _ _ h.0)))
       (recursion_from_All _ (keys_of rest) (All-weaker (λ name. (more : Components) → compare_names (part ∷ more) name ≡ Less) _ (λ name less. less named.0) (keys_of rest) (All-from_recursion _ _ after))),
   ordered_after part names rest h.1 after g,
 )
 
-ordered_joined : (f : ℕ → List (Components × ℕ)) → ((number : ℕ) → IsOrdered (f number)) → (es : Entries) → IsStrictlySortedBy (slice_cmp nat_cmp) (keys_of es) → IsOrdered (flat_map (λ held. behind held.0 (f held.1)) es)
+ordered_joined : (f : ℕ → List (Components × ℕ)) → ((number : ℕ) → IsOrdered (f number)) → (es : Entries) → IsStrictlySortedBy (slice_cmp nat_cmp) (keys_of es) → IsOrdered (flat_map (λ held. following held.0 (f held.1)) es)
 unfolding IsStrictlySortedBy
 ordered_joined f ordered [] sorted = tt
 ordered_joined f ordered (e ∷ es) sorted =
@@ -159,8 +159,8 @@ pub leads-append : (dirs : ℕ → Entries) (from : ℕ) (name more : Components
 leads-append dirs from [] more = refl
 leads-append dirs from (part ∷ rest) more = by (dir_entry dirs from part) (λ number. leads-append dirs number rest more) where
   by : (o : Option ℕ) → ((number : ℕ) → object_from dirs number (rest ++ more) ≡ option_and_then (λ last. object_from dirs last more) (object_from dirs number rest)) → option_and_then (λ number. object_from dirs number (rest ++ more)) o ≡ option_and_then (λ last. object_from dirs last more) (option_and_then (λ number. object_from dirs number rest) o)
-  by None behind = refl
-  by (Some number) behind = behind number
+  by None following = refl
+  by (Some number) following = following number
 
 -- if `n` numbers below a bound all differ, `n` is at most the bound
 differing_below : (f : ℕ → ℕ) (n bound : ℕ) → ((k : ℕ) → k < n → f k < bound) → ((i j : ℕ) → i < j → j < n → f i ≢ f j) → n ≤ bound

@@ -6,13 +6,13 @@ use Rattle.std.proofs.lemmas.List.{get_or-set_other, get_or-set_same, length-app
 use Rattle.st_names.specs.Name.{Components}
 use Rattle.st_model.specs.Tree.{Node, Tree, add_object, node_with_number, root_node, with_node}
 use Rattle.st_tree.specs.Answers.{KeepsKinds}
-use Rattle.st_tree.specs.Refusals.{IsMade}
+use Rattle.st_tree.specs.Refusals.{IsObjectNumber}
 
 pub kinds_same : (old new : Tree) → new ≡ old → KeepsKinds old new
 kinds_same old new is = (ap (λ (t : Tree). length t.objects) is, λ number. ap (λ (t : Tree). (node_with_number t number).kind) is)
 
 -- an object is replaced by an object of the same kind
-pub kinds_kept : (old new : Tree) (number : ℕ) (node : Node) → IsMade old number → node.kind ≡ (node_with_number old number).kind → new ≡ with_node old number node → KeepsKinds old new
+pub kinds_kept : (old new : Tree) (number : ℕ) (node : Node) → IsObjectNumber old number → node.kind ≡ (node_with_number old number).kind → new ≡ with_node old number node → KeepsKinds old new
 kinds_kept old new number node made kind is =
     let objects : List Node = old.objects in
     let inside : number - 1 < length objects = omega (arith, made.0, made.1) in (
@@ -27,7 +27,7 @@ kinds_kept old new number node made kind is =
       ],
     )
 
-pub added_made : (old new : Tree) (name : Components) (node : Node) (number : ℕ) → new ≡ add_object old name node → number ≡ suc (length old.objects) → IsMade new number
+pub added_made : (old new : Tree) (name : Components) (node : Node) (number : ℕ) → new ≡ add_object old name node → number ≡ suc (length old.objects) → IsObjectNumber new number
 added_made old new name node number is number_is =
     (omega (arith, number_is), omega (arith, number_is, ap (λ (t : Tree). length t.objects) is, length-append old.objects (node ∷ [])))
 

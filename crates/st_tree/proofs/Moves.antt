@@ -38,14 +38,14 @@ module _ {count : ℕ} {is_dir : ℕ → Bool} {dirs others : ℕ → Entries} (
   reach_kept = leads_elsewhere place (ap (λ (a : Components). is_prefix a place) (sym (append-nil (place ++ part ∷ []))) ∙ longer_apart place part []) ∙ reach
 
   -- a name with the entry's name as a prefix leads on from the entry's object now
-  pub leads_behind : (rest : Components) → object_from others 1 ((place ++ part ∷ []) ++ rest) ≡ option_and_then (λ number. object_from others number rest) now
-  leads_behind rest =
+  pub leads_later : (rest : Components) → object_from others 1 ((place ++ part ∷ []) ++ rest) ≡ option_and_then (λ number. object_from others number rest) now
+  leads_later rest =
       ap (object_from others 1) (append-end place part rest) ∙ leads_on others 1 holder place (part ∷ rest) reach_kept
       ∙ ap (option_and_then (λ number. object_from others number rest)) one.here
 
   -- the entry's own name leads to the entry's object now, and any other name leads where it led before
   pub leads_one : (name : Components) → object_from others 1 name ≡ (if is_same_name (place ++ part ∷ []) name then now else object_from dirs 1 name)
-  leads_one name = ⊎_elim behind outside (cases_Bool (is_prefix (place ++ part ∷ []) name)) where
+  leads_one name = ⊎_elim following outside (cases_Bool (is_prefix (place ++ part ∷ []) name)) where
     outside : is_prefix (place ++ part ∷ []) name ≡ false → object_from others 1 name ≡ (if is_same_name (place ++ part ∷ []) name then now else object_from dirs 1 name)
     outside apart =
         let differs : is_same_name (place ++ part ∷ []) name ≡ false = false_from_ne_true _ (λ same. apart_from (place ++ part ∷ []) name [] apart (sym ((is_same_name-Decides (place ++ part ∷ []) name).0 same) ∙ sym (append-nil (place ++ part ∷ [])))) in
@@ -54,17 +54,17 @@ module _ {count : ℕ} {is_dir : ℕ → Bool} {dirs others : ℕ → Entries} (
     by : (rest : Components) → name ≡ (place ++ part ∷ []) ++ rest → object_from others 1 name ≡ (if is_same_name (place ++ part ∷ []) name then now else object_from dirs 1 name)
     by [] is =
         let same : is_same_name (place ++ part ∷ []) name ≡ true = (is_same_name-Decides (place ++ part ∷ []) name).1 (sym (is ∙ append-nil (place ++ part ∷ []))) in
-        ap (object_from others 1) is ∙ leads_behind [] ∙ ends_there others now ∙ sym (cond-true _ _ _ same)
+        ap (object_from others 1) is ∙ leads_later [] ∙ ends_there others now ∙ sym (cond-true _ _ _ same)
     by (next ∷ rest) is =
         let differs : is_same_name (place ++ part ∷ []) name ≡ false = false_from_ne_true _ (λ same.
         let none : [] ≡ next ∷ rest = append_cancel_left (place ++ part ∷ []) [] (next ∷ rest) (append-nil (place ++ part ∷ []) ∙ (is_same_name-Decides (place ++ part ∷ []) name).0 same ∙ is) in cc) in
-        let nowhere : object_from others 1 name ≡ None = ap (object_from others 1) is ∙ leads_behind (next ∷ rest) ∙ bare_end others now next rest one.is_bare in
+        let nowhere : object_from others 1 name ≡ None = ap (object_from others 1) is ∙ leads_later (next ∷ rest) ∙ bare_end others now next rest one.is_bare in
         let before : object_from dirs 1 name ≡ None =
         ap (object_from dirs 1) (is ∙ append-end place part (next ∷ rest)) ∙ leads_on dirs 1 holder place (part ∷ next ∷ rest) reach ∙ bare_end dirs (dir_entry dirs holder part) next rest one.was_bare in
         nowhere ∙ sym before ∙ sym (cond-false _ _ _ differs)
 
-    behind : is_prefix (place ++ part ∷ []) name ≡ true → object_from others 1 name ≡ (if is_same_name (place ++ part ∷ []) name then now else object_from dirs 1 name)
-    behind within = by (drop (length (place ++ part ∷ [])) name) (begins_rest (place ++ part ∷ []) name within)
+    following : is_prefix (place ++ part ∷ []) name ≡ true → object_from others 1 name ≡ (if is_same_name (place ++ part ∷ []) name then now else object_from dirs 1 name)
+    following within = by (drop (length (place ++ part ∷ [])) name) (begins_rest (place ++ part ∷ []) name within)
 
   -- the objects with old numbers keep their kinds; the entry's object now has a number, and is a directory only if no name led to it
   module _ {more : ℕ} {is_dir_now : ℕ → Bool} (at_least : count ≤ more) (alike : (number : ℕ) → number ≤ count → is_dir_now number ≡ is_dir number)

@@ -15,7 +15,7 @@ use Rattle.st_names.specs.Name.{Components, last_part, parent, is_root}
 use Rattle.st_model.specs.Tree.{Node, is_prefix, is_directory, node_with_number, object_of, seen_of, seen_of_kind}
 use Rattle.st_names.specs.declared.seen.SeenText.{SeenText}
 use Rattle.st_model.proofs.Objects.{is_same_name-Decides}
-use Rattle.st_tree.specs.Objects.{content_of_body, dirs_of, is_dir_of, is_dir_at, kind_of_body, node_of, tree_of, IsNumber, IsWhole}
+use Rattle.st_tree.specs.Objects.{content_of_body, dirs_of, is_dir_of, is_dir_at, kind_of_body, object_node, tree_of, IsNumber, IsValidTree}
 use Rattle.st_base.specs.Numbered.{item_at_number}
 use Rattle.st_tree.specs.Paths.{Entries, dir_entry, object_from}
 use Rattle.st_tree.specs.Reached.{and_then_from, directory_reached, errno_of_gap, object_or_gap, gap_or_entry, IsFree, IsTaken}
@@ -52,7 +52,7 @@ directory_of_body number (Dir entries) = refl
 directory_of_body number (File content) = refl
 directory_of_body number (Link target) = refl
 
-directory_of_object : (number : ℕ) (at : Option Object) → is_some at ≡ true → directory_reason (seen_of (option_map node_of at)) ≡ option_map errno_of_gap (result_err (if is_dir_at at then Ok number else Err NotDir))
+directory_of_object : (number : ℕ) (at : Option Object) → is_some at ≡ true → directory_reason (seen_of (option_map object_node at)) ≡ option_map errno_of_gap (result_err (if is_dir_at at then Ok number else Err NotDir))
 directory_of_object number None there = absurd (true≢false (sym there))
 directory_of_object number (Some object) there = directory_of_body number object.body
 
@@ -64,7 +64,7 @@ directory_of_reached objects (Err Missing) is = refl
 directory_of_reached objects (Err NotDir) is = refl
 
 -- the reason for refusal by a name's directory is the gap on the way to it
-pub no_directory_reached : (objects : List Object) → IsWhole objects → (name : Components) → no_directory (tree_of objects) name ≡ option_map errno_of_gap (result_err (directory_reached objects (parent name)))
+pub no_directory_reached : (objects : List Object) → IsValidTree objects → (name : Components) → no_directory (tree_of objects) name ≡ option_map errno_of_gap (result_err (directory_reached objects (parent name)))
 unfolding directory_reason
 no_directory_reached objects whole name =
     ap directory_reason (look_reached objects whole (parent name))
@@ -76,7 +76,7 @@ name_of_body (Dir entries) = refl
 name_of_body (File content) = refl
 name_of_body (Link target) = refl
 
-name_of_object : (at : Option Object) → is_some at ≡ true → name_reason (seen_of (option_map node_of at)) ≡ None
+name_of_object : (at : Option Object) → is_some at ≡ true → name_reason (seen_of (option_map object_node at)) ≡ None
 name_of_object None there = absurd (true≢false (sym there))
 name_of_object (Some object) there = name_of_body object.body
 
@@ -114,17 +114,17 @@ last-unmet reason condition errno none is = first_error-later None reason (error
 -- ---- names that are to be added
 
 -- a new name is refused for the gap on the way to its directory
-pub place_gap : (objects : List Object) → IsWhole objects → (name : Components) (gap : Gap) → Err gap ≡ directory_reached objects (parent name) → Some (errno_of_gap gap) ≡ place_refused (tree_of objects) name
+pub place_gap : (objects : List Object) → IsValidTree objects → (name : Components) (gap : Gap) → Err gap ≡ directory_reached objects (parent name) → Some (errno_of_gap gap) ≡ place_refused (tree_of objects) name
 place_gap objects whole name gap lost =
     first_error-here (errno_of_gap gap) (no_directory (tree_of objects) name) (error_if (is_some (object_of (tree_of objects) name)) EEXIST ∷ [])
     (sym (no_directory_reached objects whole name ∙ ap (λ (f : Result ℕ Gap). option_map errno_of_gap (result_err f)) (sym lost)))
 
-pub place_taken : (objects : List Object) → IsWhole objects → (name : Components) (holder : ℕ) → Ok holder ≡ directory_reached objects (parent name) → is_some (object_of (tree_of objects) name) ≡ true → Some EEXIST ≡ place_refused (tree_of objects) name
+pub place_taken : (objects : List Object) → IsValidTree objects → (name : Components) (holder : ℕ) → Ok holder ≡ directory_reached objects (parent name) → is_some (object_of (tree_of objects) name) ≡ true → Some EEXIST ≡ place_refused (tree_of objects) name
 place_taken objects whole name holder found there =
     last-met (no_directory (tree_of objects) name) (is_some (object_of (tree_of objects) name)) EEXIST
     (sym (no_directory_reached objects whole name ∙ ap (λ (f : Result ℕ Gap). option_map errno_of_gap (result_err f)) (sym found))) there
 
-pub place_free : (objects : List Object) → IsWhole objects → (name : Components) (holder : ℕ) → Ok holder ≡ directory_reached objects (parent name) → object_of (tree_of objects) name ≡ None → None ≡ place_refused (tree_of objects) name
+pub place_free : (objects : List Object) → IsValidTree objects → (name : Components) (holder : ℕ) → Ok holder ≡ directory_reached objects (parent name) → object_of (tree_of objects) name ≡ None → None ≡ place_refused (tree_of objects) name
 place_free objects whole name holder found none =
     last-unmet (no_directory (tree_of objects) name) (is_some (object_of (tree_of objects) name)) EEXIST
     (sym (no_directory_reached objects whole name ∙ ap (λ (f : Result ℕ Gap). option_map errno_of_gap (result_err f)) (sym found))) (ap is_some none)
@@ -141,12 +141,12 @@ directory_by objects (Ok number) holder is = by (is_dir_of objects number) refl 
   by false dir is = cc
 
 -- a directory that is reached is the directory to which the name leads
-pub directory_led : (objects : List Object) → IsWhole objects → (name : Components) (holder : ℕ) → Ok holder ≡ directory_reached objects name → (object_from (dirs_of objects) 1 name ≡ Some holder) × (is_dir_of objects holder ≡ true)
+pub directory_led : (objects : List Object) → IsValidTree objects → (name : Components) (holder : ℕ) → Ok holder ≡ directory_reached objects name → (object_from (dirs_of objects) 1 name ≡ Some holder) × (is_dir_of objects holder ≡ true)
 directory_led objects whole name holder found =
     let both = directory_by objects (object_or_gap objects 1 name) holder found in
     (sym (leads_reached objects whole 1 name) ∙ ap result_ok both.0, both.1)
 
-pub object_in : (objects : List Object) → IsWhole objects → (name : Components) (holder : ℕ) → 0 < length name → object_from (dirs_of objects) 1 (parent name) ≡ Some holder → object_of (tree_of objects) name ≡ dir_entry (dirs_of objects) holder (last_part name)
+pub object_in : (objects : List Object) → IsValidTree objects → (name : Components) (holder : ℕ) → 0 < length name → object_from (dirs_of objects) 1 (parent name) ≡ Some holder → object_of (tree_of objects) name ≡ dir_entry (dirs_of objects) holder (last_part name)
 object_in objects whole name holder named led =
     object_led objects whole name
     ∙ ap (object_from (dirs_of objects) 1) (sym (parent-last_part name named))
@@ -164,19 +164,19 @@ reached_last objects name named = ap (object_or_gap objects 1) (sym (parent-last
 -- ---- names that have to exist
 
 -- the reason for refusal by a name that has to exist is the gap on the way to it
-no_object_reached : (objects : List Object) → IsWhole objects → (name : Components) → no_object (tree_of objects) name ≡ option_map errno_of_gap (result_err (object_or_gap objects 1 name))
+no_object_reached : (objects : List Object) → IsValidTree objects → (name : Components) → no_object (tree_of objects) name ≡ option_map errno_of_gap (result_err (object_or_gap objects 1 name))
 unfolding name_reason
 no_object_reached objects whole name =
     ap name_reason (look_reached objects whole name)
     ∙ name_of_reached objects (object_or_gap objects 1 name) (reached_within objects whole 1 name (root_is objects whole))
 
-pub name_gap_before : (objects : List Object) → IsWhole objects → (name : Components) (gap : Gap) → 0 < length name → Err gap ≡ object_or_gap objects 1 (parent name) → Some (errno_of_gap gap) ≡ no_object (tree_of objects) name
+pub name_gap_before : (objects : List Object) → IsValidTree objects → (name : Components) (gap : Gap) → 0 < length name → Err gap ≡ object_or_gap objects 1 (parent name) → Some (errno_of_gap gap) ≡ no_object (tree_of objects) name
 name_gap_before objects whole name gap named lost =
     sym (no_object_reached objects whole name
     ∙ ap (λ (f : Result ℕ Gap). option_map errno_of_gap (result_err f)) (reached_last objects name named ∙ ap (λ (f : Result ℕ Gap). and_then_from f (λ number. object_or_gap objects number (last_part name ∷ []))) (sym lost)))
 
 -- the same by the way to its directory and the last step
-pub name_by : (objects : List Object) → IsWhole objects → (name : Components) (holder : ℕ) (step : Result ℕ Gap) → 0 < length name → Ok holder ≡ object_or_gap objects 1 (parent name)
+pub name_by : (objects : List Object) → IsValidTree objects → (name : Components) (holder : ℕ) (step : Result ℕ Gap) → 0 < length name → Ok holder ≡ object_or_gap objects 1 (parent name)
     → step ≡ gap_or_entry (is_dir_of objects holder) (dir_entry (dirs_of objects) holder (last_part name))
     → option_map errno_of_gap (result_err step) ≡ no_object (tree_of objects) name
 name_by objects whole name holder step named found step_is =
@@ -194,12 +194,12 @@ named_from (part ∷ rest) differs = omega arith
 -- ---- what a change finds of a name
 
 -- a name without an object is free in its directory
-pub is_free : (objects : List Object) → IsWhole objects → (name : Components) (holder : ℕ) → 0 < length name → Ok holder ≡ directory_reached objects (parent name) → IsNumber objects holder → dir_entry (dirs_of objects) holder (last_part name) ≡ None → IsFree objects name holder
+pub is_free : (objects : List Object) → IsValidTree objects → (name : Components) (holder : ℕ) → 0 < length name → Ok holder ≡ directory_reached objects (parent name) → IsNumber objects holder → dir_entry (dirs_of objects) holder (last_part name) ≡ None → IsFree objects name holder
 is_free objects whole name holder named found number none =
     let led = directory_led objects whole (parent name) holder found in
     record { number = number; place = led.0; dir = led.1; free = none; named = named }
 
-pub is_taken : (objects : List Object) → IsWhole objects → (name : Components) (holder held : ℕ) → 0 < length name → Ok holder ≡ object_or_gap objects 1 (parent name) → IsNumber objects holder
+pub is_taken : (objects : List Object) → IsValidTree objects → (name : Components) (holder held : ℕ) → 0 < length name → Ok holder ≡ object_or_gap objects 1 (parent name) → IsNumber objects holder
     → Ok held ≡ gap_or_entry (is_dir_of objects holder) (dir_entry (dirs_of objects) holder (last_part name)) → IsTaken objects name holder held
 is_taken objects whole name holder held named found number step =
     let both = stepped-ok _ _ held (sym step) in
@@ -219,7 +219,7 @@ dir_made (first ∷ objects) number is =
     let read : object ≡ get_or (first ∷ objects) (number - 1) object = get_or_default (first ∷ objects) (number - 1) first object (omega (arith, is.0, is.1)) in
     ap (λ (node : Node). is_directory node.kind) (node_at_number (first ∷ objects) number object is read) ∙ sym (is_dir_at_number (first ∷ objects) number object object is read)
 
-pub entries_made : (objects : List Object) → IsWhole objects → (name : Components) (holder held : ℕ) → IsTaken objects name holder held → has_entries (tree_of objects) (object_of (tree_of objects) name) ≡ nat_lt 0 (length (dirs_of objects held))
+pub entries_made : (objects : List Object) → IsValidTree objects → (name : Components) (holder held : ℕ) → IsTaken objects name holder held → has_entries (tree_of objects) (object_of (tree_of objects) name) ≡ nat_lt 0 (length (dirs_of objects held))
 entries_made objects whole name holder held taken =
     ap (has_entries (tree_of objects)) (object_in objects whole name holder taken.named taken.place ∙ taken.taken)
     ∙ ap (nat_lt 0) (entries_at_number objects held whole)
@@ -257,7 +257,7 @@ alike true false = refl
 alike false true = refl
 alike false false = refl
 
-module _ (objects : List Object) (whole : IsWhole objects) (held replaced : ℕ) (is : IsNumber objects held) (other : IsNumber objects replaced) where
+module _ (objects : List Object) (whole : IsValidTree objects) (held replaced : ℕ) (is : IsNumber objects held) (other : IsNumber objects replaced) where
   pub replaced_reason : (dir replaced_dir entries : Bool) → dir ≡ is_dir_of objects held → replaced_dir ≡ is_dir_of objects replaced → entries ≡ nat_lt 0 (length (dirs_of objects replaced))
       → replace_refused (tree_of objects) (Some held) (Some replaced) ≡ replace_reason dir replaced_dir entries
   unfolding replace_reason

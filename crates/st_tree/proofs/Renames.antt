@@ -99,8 +99,8 @@ module _ {count : ℕ} {is_dir : ℕ → Bool} {dirs : ℕ → Entries} (are : A
       (ap (λ (a : Components). a ++ other ∷ []) (begins_rest (source ++ part ∷ []) target within) ∙ append_assoc (source ++ part ∷ []) (drop (length (source ++ part ∷ [])) target) (other ∷ [])))) short_target ∙ reach_to
 
   -- a name with the new prefix leads where it led with the old prefix
-  pub moved_behind : (rest : Components) → object_from (with_moved dirs from part to other held) 1 ((target ++ other ∷ []) ++ rest) ≡ object_from dirs 1 ((source ++ part ∷ []) ++ rest)
-  moved_behind rest =
+  pub moved_after : (rest : Components) → object_from (with_moved dirs from part to other held) 1 ((target ++ other ∷ []) ++ rest) ≡ object_from dirs 1 ((source ++ part ∷ []) ++ rest)
+  moved_after rest =
       let named : object_from dirs 1 (source ++ part ∷ []) ≡ Some held = leads_end dirs 1 from source part reach ∙ has in
       ap (object_from (with_moved dirs from part to other held) 1) (append-end target other rest)
       ∙ leads_on (with_moved dirs from part to other held) 1 to target (other ∷ rest) target_kept
@@ -129,7 +129,7 @@ module _ {count : ℕ} {is_dir : ℕ → Bool} {dirs : ℕ → Entries} (are : A
   leads-renamed name = by (is_prefix (target ++ other ∷ []) name) (is_prefix (source ++ part ∷ []) name) refl refl where
     by : (to_new to_old : Bool) → is_prefix (target ++ other ∷ []) name ≡ to_new → is_prefix (source ++ part ∷ []) name ≡ to_old → object_from (with_moved dirs from part to other held) 1 name ≡ leads_after to_new to_old name
     by true to_old p q =
-        ap (object_from (with_moved dirs from part to other held) 1) (begins_rest (target ++ other ∷ []) name p) ∙ moved_behind (drop (length (target ++ other ∷ [])) name)
+        ap (object_from (with_moved dirs from part to other held) 1) (begins_rest (target ++ other ∷ []) name p) ∙ moved_after (drop (length (target ++ other ∷ [])) name)
     by false true p q =
         ap (object_from (with_moved dirs from part to other held) 1) (begins_rest (source ++ part ∷ []) name q) ∙ moved_away (drop (length (source ++ part ∷ [])) name)
     by false false p q = moved_elsewhere name q p
@@ -183,7 +183,7 @@ module _ {count : ℕ} {is_dir : ℕ → Bool} {dirs : ℕ → Entries} (are : A
       (has_or_not (dir_entry dirs to other) number) where
         by : (name : Components) → object_from dirs 1 name ≡ Some number → (to_new to_old : Bool) → is_prefix (target ++ other ∷ []) name ≡ to_new → is_prefix (source ++ part ∷ []) name ≡ to_old → (dir_entry dirs to other ≡ Some number → ⊥) → ⊥
         by name is to_new true p q differs =
-            none ((target ++ other ∷ []) ++ drop (length (source ++ part ∷ [])) name) (moved_behind (drop (length (source ++ part ∷ [])) name) ∙ ap (object_from dirs 1) (sym (begins_rest (source ++ part ∷ []) name q)) ∙ is)
+            none ((target ++ other ∷ []) ++ drop (length (source ++ part ∷ [])) name) (moved_after (drop (length (source ++ part ∷ [])) name) ∙ ap (object_from dirs 1) (sym (begins_rest (source ++ part ∷ []) name q)) ∙ is)
         by name is true false p q differs = differs (bare_target (drop (length (target ++ other ∷ [])) name) number (ap (object_from dirs 1) (sym (begins_rest (target ++ other ∷ []) name p)) ∙ is))
         by name is false false p q differs = none name (moved_elsewhere name q p ∙ is)
 

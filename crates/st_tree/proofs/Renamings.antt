@@ -11,7 +11,7 @@ use Rattle.st_base.specs.declared.errno.Errno.TheVariants.{EINVAL, EISDIR, ENOTD
 use Rattle.st_names.specs.Name.{Components, last_part, parent, is_root}
 use Rattle.st_model.specs.Tree.{Tree, is_prefix, is_directory, node_with_number, object_of, is_proper_prefix}
 use Rattle.st_model.proofs.Objects.{is_same_name-Decides}
-use Rattle.st_tree.specs.Objects.{dirs_of, tree_of, IsNumber, IsWhole}
+use Rattle.st_tree.specs.Objects.{dirs_of, tree_of, IsNumber, IsValidTree}
 use Rattle.st_tree.specs.Paths.{dir_entry}
 use Rattle.st_tree.specs.Reached.{directory_reached, errno_of_gap, IsTaken, IsRenamePlan, Replaces}
 use Rattle.st_tree.specs.Refusals.{is_same_object, no_directory, no_object, rename_refused, replace_refused}
@@ -31,7 +31,7 @@ no_object_there tree number = by (is_directory (node_with_number tree number).ki
   by false = refl
 
 -- neither name is the root's, and the old name is no proper prefix of the new name
-module _ (objects : List Object) (whole : IsWhole objects) (old new : Components) (named_old : 0 < length old) (named_new : 0 < length new) (apart : is_proper_prefix old new ≡ false) where
+module _ (objects : List Object) (whole : IsValidTree objects) (old new : Components) (named_old : 0 < length old) (named_new : 0 < length new) (apart : is_proper_prefix old new ≡ false) where
   no_reason : (is_root old || is_root new || is_proper_prefix old new) ≡ false
   no_reason =
       ap (λ (b : Bool). b || is_root new || is_proper_prefix old new) (named_no_root old named_old)
@@ -108,7 +108,7 @@ is_one-same : (there : Option ℕ) (number : ℕ) → there ≡ Some number → 
 is_one-same there number is = ap (λ (o : Option ℕ). is_same_object o o) is ∙ eq-eqb number number refl
 
 -- the old name neither is a prefix of the new name nor equals it
-pub way_apart : (objects : List Object) → IsWhole objects → (old new : Components) (way : RenamePlan) → IsRenamePlan objects old new way → is_prefix old new ≡ false
+pub way_apart : (objects : List Object) → IsValidTree objects → (old new : Components) (way : RenamePlan) → IsRenamePlan objects old new way → is_prefix old new ≡ false
 way_apart objects whole old new way is = false_from_ne_true (is_prefix old new) (λ e. by e (nat_lt (length old) (length new)) refl) where
   by : is_prefix old new ≡ true → (longer : Bool) → nat_lt (length old) (length new) ≡ longer → ⊥
   by e true longer = true≢false (sym (ap (λ (b : Bool). b && nat_lt (length old) (length new)) e ∙ longer) ∙ is.apart)

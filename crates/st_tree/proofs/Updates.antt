@@ -5,9 +5,9 @@ use Rattle.std.proofs.lemmas.List.{length-set, map-set}
 use Rattle.std.specs.Prelude.{slice_get}
 use Rattle.st_model.specs.Tree.{Node, Tree, is_directory, node_with_number, set_mode, set_owner, with_node}
 use Rattle.st_tree.specs.Nodes.{with_content}
-use Rattle.st_tree.specs.Objects.{dirs_of, entries_at, entries_of_body, is_dir_at, is_dir_of, kind_of_body, node_of, tree_of, IsWhole}
+use Rattle.st_tree.specs.Objects.{dirs_of, entries_at, entries_of_body, is_dir_at, is_dir_of, kind_of_body, object_node, tree_of, IsValidTree}
 use Rattle.st_tree.specs.Paths.{AreDirectories, names_under}
-use Rattle.st_tree.specs.Refusals.{IsMade}
+use Rattle.st_tree.specs.Refusals.{IsObjectNumber}
 use Rattle.st_tree.specs.declared.object.Object.{Object}
 use Rattle.st_tree.proofs.Changes.{Makes, made_again}
 use Rattle.st_tree.proofs.Flat.{same_names_under}
@@ -30,26 +30,26 @@ set_dir (first ∷ objects) zero (suc j) object d same = refl
 set_dir (first ∷ objects) (suc i) zero object d same = refl
 set_dir (first ∷ objects) (suc i) (suc j) object d same = set_dir objects i j object d same
 
-module _ (objects : List Object) (whole : IsWhole objects) (tree : Tree) (view : tree_of objects ≡ tree) (number : ℕ) (before object : Object) (read : before ≡ get_or objects (number - 1) before) (entries : entries_of_body object.body ≡ entries_of_body before.body) where
+module _ (objects : List Object) (whole : IsValidTree objects) (tree : Tree) (view : tree_of objects ≡ tree) (number : ℕ) (before object : Object) (read : before ≡ get_or objects (number - 1) before) (entries : entries_of_body object.body ≡ entries_of_body before.body) where
   dirs_kept : (other : ℕ) → dirs_of (set objects (number - 1) object) other ≡ dirs_of objects other
   dirs_kept zero = refl
   dirs_kept (suc j) = set_entries objects (number - 1) j object before (entries ∙ ap (λ (o : Object). entries_of_body o.body) read)
 
   -- the object has the same node as before
-  pub updated_same : node_of object ≡ node_of before → Makes (set objects (number - 1) object) tree
+  pub updated_same : object_node object ≡ object_node before → Makes (set objects (number - 1) object) tree
   updated_same same =
       subst (Makes (set objects (number - 1) object)) view
-      (made_again objects (set objects (number - 1) object) whole (map-set_same node_of objects (number - 1) object before (same ∙ ap node_of read)) dirs_kept)
+      (made_again objects (set objects (number - 1) object) whole (map-set_same object_node objects (number - 1) object before (same ∙ ap object_node read)) dirs_kept)
 
   -- the object has another node of the same kind
-  pub updated : (node : Node) → node_of object ≡ node → kind_of_body object.body ≡ kind_of_body before.body → Makes (set objects (number - 1) object) (with_node tree number node)
+  pub updated : (node : Node) → object_node object ≡ node → kind_of_body object.body ≡ kind_of_body before.body → Makes (set objects (number - 1) object) (with_node tree number node)
   unfolding tree_of
   updated node node_is kind =
       let new : List Object = set objects (number - 1) object in
       let count : length new ≡ length objects = length-set objects (number - 1) object in
       let names : names_under (length new) (dirs_of new) 1 ≡ names_under (length objects) (dirs_of objects) 1 =
       ap (λ (n : ℕ). names_under n (dirs_of new) 1) count ∙ same_names_under (dirs_of new) (dirs_of objects) dirs_kept (length objects) 1 in
-      let nodes : map node_of new ≡ set (map node_of objects) (number - 1) node = map-set node_of objects (number - 1) object ∙ ap (set (map node_of objects) (number - 1)) node_is in
+      let nodes : map object_node new ≡ set (map object_node objects) (number - 1) node = map-set object_node objects (number - 1) object ∙ ap (set (map object_node objects) (number - 1)) node_is in
       subst (λ (t : Tree). Makes new (with_node t number node)) view (record {
         whole = record {
           directories = subst (λ (n : ℕ). AreDirectories n (is_dir_of new) (dirs_of new)) (sym count) (same_directories (dir_by kind) dirs_kept whole.directories);
@@ -61,9 +61,9 @@ module _ (objects : List Object) (whole : IsWhole objects) (tree : Tree) (view :
         dir_by kind zero = refl
         dir_by kind (suc j) = set_dir objects (number - 1) j object before (kind ∙ ap (λ (o : Object). kind_of_body o.body) read)
 
-module _ (objects : List Object) (whole : IsWhole objects) (tree : Tree) (view : tree_of objects ≡ tree) (number : ℕ) (before : Object) (read : before ≡ get_or objects (number - 1) before) (made : IsMade tree number) where
+module _ (objects : List Object) (whole : IsValidTree objects) (tree : Tree) (view : tree_of objects ≡ tree) (number : ℕ) (before : Object) (read : before ≡ get_or objects (number - 1) before) (made : IsObjectNumber tree number) where
   -- the object's node in the tree
-  pub node_before : node_with_number tree number ≡ node_of before
+  pub node_before : node_with_number tree number ≡ object_node before
   node_before = ap (λ (t : Tree). node_with_number t number) (sym view) ∙ node_at_number objects number before (made_within objects tree number view made) read
 
   pub mode_set : (mode : ℕ) → Makes (set objects (number - 1) (record before { mode = mode })) (set_mode tree number mode)
@@ -73,7 +73,7 @@ module _ (objects : List Object) (whole : IsWhole objects) (tree : Tree) (view :
   owner_set uid gid = updated objects whole tree view number before (record before { uid = uid; gid = gid }) read refl _ (ap (λ (node : Node). record node { uid = uid; gid = gid }) (sym node_before)) refl
 
   -- the function `f` is applied to the object's content
-  pub content_set : (object : Object) (f : List ℕ → List ℕ) → node_of object ≡ with_content (node_of before) (f (node_of before).content) → entries_of_body object.body ≡ entries_of_body before.body
+  pub content_set : (object : Object) (f : List ℕ → List ℕ) → object_node object ≡ with_content (object_node before) (f (object_node before).content) → entries_of_body object.body ≡ entries_of_body before.body
       → Makes (set objects (number - 1) object) (with_node tree number (with_content (node_with_number tree number) (f (node_with_number tree number).content)))
   content_set object f is entries =
       updated objects whole tree view number before object read entries _ (is ∙ ap (λ (node : Node). with_content node (f node.content)) (sym node_before)) (ap (λ (node : Node). node.kind) is)

@@ -8,7 +8,7 @@ use Rattle.std.specs.Option.{option_and_then}
 use Rattle.std.specs.Ordering.{nat_cmp}
 use Rattle.std.specs.Result.{result_ok}
 use Rattle.st_names.specs.Name.{Components}
-use Rattle.st_tree.specs.Objects.{dirs_of, is_dir_of, IsNumber, IsWhole}
+use Rattle.st_tree.specs.Objects.{dirs_of, is_dir_of, IsNumber, IsValidTree}
 use Rattle.st_tree.specs.Paths.{dir_entry, object_from}
 use Rattle.st_tree.specs.Reached.{and_then_from, object_or_gap, gap_or_entry}
 use Rattle.st_tree.specs.declared.object.Object.{Object}
@@ -19,13 +19,13 @@ stepped-ok false found number is = cc
 stepped-ok true None number is = cc
 stepped-ok true (Some other) number is = (refl, cc)
 
-pub entry_within : (objects : List Object) (from number : ℕ) (part : List ℕ) → IsWhole objects → dir_entry (dirs_of objects) from part ≡ Some number → IsNumber objects number
+pub entry_within : (objects : List Object) (from number : ℕ) (part : List ℕ) → IsValidTree objects → dir_entry (dirs_of objects) from part ≡ Some number → IsNumber objects number
 entry_within objects from number part whole is =
     let held = whole.directories.numbered from part number is in
     (omega (arith, held.0), held.1)
 
 -- a step leads to the number of an object
-pub step_within : (objects : List Object) (from number : ℕ) (part : List ℕ) → IsWhole objects → Ok number ≡ gap_or_entry (is_dir_of objects from) (dir_entry (dirs_of objects) from part) → IsNumber objects number
+pub step_within : (objects : List Object) (from number : ℕ) (part : List ℕ) → IsValidTree objects → Ok number ≡ gap_or_entry (is_dir_of objects from) (dir_entry (dirs_of objects) from part) → IsNumber objects number
 step_within objects from number part whole is = entry_within objects from number part whole (stepped-ok _ _ number (sym is)).1
 
 -- one more component
@@ -61,7 +61,7 @@ step_leads objects rest true None only more = refl
 step_leads objects rest true (Some number) only more = more number
 
 -- the object that is reached is the object to which the name leads
-pub leads_reached : (objects : List Object) → IsWhole objects → (from : ℕ) (name : Components) → result_ok (object_or_gap objects from name) ≡ object_from (dirs_of objects) from name
+pub leads_reached : (objects : List Object) → IsValidTree objects → (from : ℕ) (name : Components) → result_ok (object_or_gap objects from name) ≡ object_from (dirs_of objects) from name
 leads_reached objects whole from [] = refl
 leads_reached objects whole from (part ∷ rest) =
     step_leads objects rest (is_dir_of objects from) (dir_entry (dirs_of objects) from part) (λ plain. ap (lookup (is_at (slice_cmp nat_cmp part))) (whole.directories.only from plain)) (λ number. leads_reached objects whole number rest)
@@ -70,7 +70,7 @@ number_on : (objects : List Object) (step : Result ℕ Gap) (f : ℕ → Result 
 number_on objects (Ok number) f more = more number refl
 number_on objects (Err gap) f more = tt
 
-pub reached_within : (objects : List Object) → IsWhole objects → (from : ℕ) (name : Components) → IsNumber objects from → IfOk (object_or_gap objects from name) (IsNumber objects)
+pub reached_within : (objects : List Object) → IsValidTree objects → (from : ℕ) (name : Components) → IsNumber objects from → IfOk (object_or_gap objects from name) (IsNumber objects)
 reached_within objects whole from [] is = is
 reached_within objects whole from (part ∷ rest) is =
     number_on objects (gap_or_entry (is_dir_of objects from) (dir_entry (dirs_of objects) from part)) (λ number. object_or_gap objects number rest)

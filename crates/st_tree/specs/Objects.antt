@@ -42,8 +42,8 @@ entries_of_body (File content) = []
 entries_of_body (Link target) = []
 
 -- an object without its entries
-abbrev pub node_of : Object → Node
-node_of object = record {
+abbrev pub object_node : Object → Node
+object_node object = record {
   kind = kind_of_body object.body;
   uid = object.uid;
   gid = object.gid;
@@ -71,10 +71,10 @@ is_dir_of objects number = is_dir_at (item_at_number objects number)
 
 -- the tree that the objects represent: the names that their entries form, and the objects without their entries
 unfoldable pub tree_of : List Object → Tree
-tree_of objects = record { names = names_under (length objects) (dirs_of objects) 1; objects = map node_of objects }
+tree_of objects = record { names = names_under (length objects) (dirs_of objects) 1; objects = map object_node objects }
 
 -- the objects' entries form a tree, and there are at most as many objects as there may be
-pub record IsWhole (objects : List Object) : Type 0 where
+pub record IsValidTree (objects : List Object) : Type 0 where
   pub directories : AreDirectories (length objects) (is_dir_of objects) (dirs_of objects)
   pub few : length objects ≤ MOST_OBJECTS
 

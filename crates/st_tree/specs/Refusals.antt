@@ -11,12 +11,12 @@ use Rattle.st_names.specs.declared.seen.SeenText.TheVariants.{Missing, NotDir, D
 use Rattle.st_model.specs.declared.limits.TheConstants.{LONGEST_FILE, MOST_OBJECTS}
 
 -- some object has this number
-abbrev pub IsMade : Tree → ℕ → Type 0
-IsMade tree number = (1 ≤ number) × (number ≤ length tree.objects)
+abbrev pub IsObjectNumber : Tree → ℕ → Type 0
+IsObjectNumber tree number = (1 ≤ number) × (number ≤ length tree.objects)
 
 -- some object has this number, and it is a file
 abbrev pub IsFile : Tree → ℕ → Type 0
-IsFile tree number = IsMade tree number × ((node_with_number tree number).kind ≡ object_kind.File)
+IsFile tree number = IsObjectNumber tree number × ((node_with_number tree number).kind ≡ object_kind.File)
 
 -- whether a look finds that the name or a proper prefix is missing
 abbrev pub is_missing : SeenText → Bool
@@ -127,8 +127,8 @@ tree_after_rename tree old new = record {
 }
 
 -- why a write is refused: there are bytes, and they would end above the greatest length of a file
-abbrev pub write_refused : ℕ → List ℕ → Option Errno
-write_refused at bytes = error_if (nat_lt 0 (length bytes) && nat_lt LONGEST_FILE (at + length bytes)) ENOSPC
+abbrev pub write_too_long : ℕ → List ℕ → Option Errno
+write_too_long at bytes = error_if (nat_lt 0 (length bytes) && nat_lt LONGEST_FILE (at + length bytes)) ENOSPC
 
 -- why a truncation is refused: the length is above the greatest length of a file
 abbrev pub cut_refused : ℕ → Option Errno

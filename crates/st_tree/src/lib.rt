@@ -8,7 +8,7 @@ mod places;
 mod table;
 pub mod tree;
 
-pub use laws::{other_names_stay, what_is_below_moves_along};
+pub use laws::{one_name_changes, rename_moves_names_below};
 pub use object::Node;
 pub use places::is_proper_prefix;
 pub use st_model::{Kind, NewKind, NewNode, Want};

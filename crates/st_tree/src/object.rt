@@ -8,7 +8,7 @@ ghost use Rattle.st_model.specs.Permission.{allowed};
 ghost use Rattle.st_model.specs.Tree.{is_directory, bytes_after_write, bytes_after_cut, seen_of_kind, size_of_kind, content_of_new, kind_of_new, node_of_new};
 ghost use Rattle.st_model.specs.declared.object.Kind.TheVariants as object_kind;
 ghost use Rattle.st_names.specs.Seen.{seen_text};
-ghost use Rattle.st_tree.specs.Objects.{content_of_body, entries_of_body, kind_of_body, node_of, sorted_entries};
+ghost use Rattle.st_tree.specs.Objects.{content_of_body, entries_of_body, kind_of_body, object_node, sorted_entries};
 ghost use Rattle.st_tree.specs.Nodes.{with_content};
 ghost use Rattle.st_model.specs.declared.limits.TheConstants.{LONGEST_FILE};
 
@@ -93,7 +93,7 @@ fn entry_in(entries: &IndexMap<Vec<u8>, Obj>, part: &[u8]) -> Option<Obj>
 impl Object {
     // A new object without entries. It allocates no memory.
     pub(crate) fn of(alloc: Global, new: NewNode) -> Self
-        ensures node { node_of result ≡ node_of_new new }
+        ensures node { object_node result ≡ node_of_new new }
         ensures entries { entries_of_body result.body ≡ [] }
     {
         let NewNode {
@@ -131,11 +131,11 @@ impl Object {
 
     // The object's kind, owner, group, mode and size.
     pub(crate) fn node(&self) -> Node
-        ensures kind { result.kind ≡ (node_of self.now).kind }
+        ensures kind { result.kind ≡ (object_node self.now).kind }
         ensures uid { result.uid ≡ self.now.uid }
         ensures gid { result.gid ≡ self.now.gid }
         ensures mode { result.mode ≡ self.now.mode }
-        ensures size { result.size ≡ size_of_kind (node_of self.now).kind (length (entries_of_body self.now.body)) (node_of self.now).content }
+        ensures size { result.size ≡ size_of_kind (object_node self.now).kind (length (entries_of_body self.now.body)) (object_node self.now).content }
     {
         let (kind, size) = match &self.body {
             Body::Dir(entries) => (Kind::Dir, entries.len()),
@@ -153,7 +153,7 @@ impl Object {
 
     // Whether a user and a group have this access to the object.
     pub(crate) fn allows(&self, uid: u32, gid: u32, want: Want) -> bool
-        ensures { result ≡ allowed (node_of self.now) uid gid want }
+        ensures { result ≡ allowed (object_node self.now) uid gid want }
     {
         let permission = Permission {
             uid: self.uid,
@@ -165,7 +165,7 @@ impl Object {
 
     // The result of a look at the object.
     pub(crate) fn seen(&self) -> Seen<'_>
-        ensures { seen_text result ≡ seen_of_kind (node_of self.now).kind (node_of self.now).content }
+        ensures { seen_text result ≡ seen_of_kind (object_node self.now).kind (object_node self.now).content }
     {
         match &self.body {
             Body::Dir(_) => Seen::Dir,
@@ -189,7 +189,7 @@ impl Object {
         requires { is_directory (kind_of_body self.old.body) ≡ true }
         ensures ok { OnOk result (entries_of_body self.new.body ≡ insert_entry (slice_cmp nat_cmp) (entries_of_body self.old.body) part.now obj) }
         ensures err { OnErr result (entries_of_body self.new.body ≡ entries_of_body self.old.body) }
-        ensures node { node_of self.new ≡ node_of self.old }
+        ensures node { object_node self.new ≡ object_node self.old }
     {
         let part = Vec::from_slice(alloc, part)?;
         if let Body::Dir(entries) = &mut self.body {
@@ -201,7 +201,7 @@ impl Object {
     // Removes a component's entry, if it has one.
     pub(crate) fn take(&mut self, part: &[u8])
         ensures entries { entries_of_body self.new.body ≡ remove_entry (is_at (slice_cmp nat_cmp part.now)) (entries_of_body self.old.body) }
-        ensures node { node_of self.new ≡ node_of self.old }
+        ensures node { object_node self.new ≡ object_node self.old }
     {
         if let Body::Dir(entries) = &mut self.body {
             entries.swap_remove(part);
@@ -210,7 +210,7 @@ impl Object {
 
     // The bytes of a file or of a link's target. A directory has none.
     pub(crate) fn content(&self) -> &[u8]
-        ensures { result.now ≡ (node_of self.now).content }
+        ensures { result.now ≡ (object_node self.now).content }
     {
         match &self.body {
             Body::Dir(_) => b"",
@@ -221,7 +221,7 @@ impl Object {
 
     // `count` bytes from offset `at` on, or fewer if the content ends before.
     pub(crate) fn read(&self, alloc: Global, at: u64, count: u64) -> Result<Text, AllocError>
-        ensures bytes { IfOk result (λ text. text ≡ take count (drop at (node_of self.now).content)) }
+        ensures bytes { IfOk result (λ text. text ≡ take count (drop at (object_node self.now).content)) }
         ensures few { IfOk result (λ text. length text ≤ count) }
         ensures end { IfOk result (λ text. 0 < length text → at + length text < 2 ^ 64) }
     {
@@ -232,8 +232,8 @@ impl Object {
     pub(crate) fn write(&mut self, at: usize, bytes: &[u8]) -> Result<(), AllocError>
         requires file { kind_of_body self.old.body ≡ object_kind.File }
         requires fits { at + length bytes.now ≤ LONGEST_FILE }
-        ensures ok { OnOk result (node_of self.new ≡ with_content (node_of self.old) (bytes_after_write (node_of self.old).content at bytes.now)) }
-        ensures err { OnErr result (node_of self.new ≡ node_of self.old) }
+        ensures ok { OnOk result (object_node self.new ≡ with_content (object_node self.old) (bytes_after_write (object_node self.old).content at bytes.now)) }
+        ensures err { OnErr result (object_node self.new ≡ object_node self.old) }
         ensures entries { entries_of_body self.new.body ≡ entries_of_body self.old.body }
     {
         if let Body::File(content) = &mut self.body {
@@ -245,8 +245,8 @@ impl Object {
     // Truncates or extends a file to a length.
     pub(crate) fn cut(&mut self, len: usize) -> Result<(), AllocError>
         requires { kind_of_body self.old.body ≡ object_kind.File }
-        ensures ok { OnOk result (node_of self.new ≡ with_content (node_of self.old) (bytes_after_cut (node_of self.old).content len)) }
-        ensures err { OnErr result (node_of self.new ≡ node_of self.old) }
+        ensures ok { OnOk result (object_node self.new ≡ with_content (object_node self.old) (bytes_after_cut (object_node self.old).content len)) }
+        ensures err { OnErr result (object_node self.new ≡ object_node self.old) }
         ensures entries { entries_of_body self.new.body ≡ entries_of_body self.old.body }
     {
         if let Body::File(content) = &mut self.body {

@@ -2,7 +2,7 @@
 ghost use Rattle.std.specs.Prelude.{◌≡◌, ◌<◌, ◌≤◌, false, Some, [], length, map, ℕ, IfOk, OnOk, OnErr};
 ghost use Rattle.std.specs.Result.{result_err};
 ghost use Rattle.st_names.specs.Name.{last_part, parent};
-ghost use Rattle.st_tree.specs.Objects.{dirs_of, is_dir_of, node_of, tree_of, IsNumber, IsWhole};
+ghost use Rattle.st_tree.specs.Objects.{dirs_of, is_dir_of, object_node, tree_of, IsNumber, IsValidTree};
 ghost use Rattle.st_tree.specs.Paths.{dir_entry, with_entry, without_entry};
 ghost use Rattle.st_tree.specs.Reached.{directory_reached, errno_of_gap, object_or_gap, gap_or_entry, IsEmpty, IsFree, IsRenaming, IsTaken, IsRenamePlan};
 ghost use Rattle.st_tree.specs.Refusals.{add_refused, link_refused, no_object, place_refused, remove_refused, rename_refused, replace_refused};
@@ -59,7 +59,7 @@ fn step(objects: &[Object], from: Obj, part: &[u8]) -> Result<Obj, Gap>
 
 // The object to which components lead from the root.
 fn reach(objects: &[Object], parts: NameParts<'_>) -> Result<Obj, Gap>
-    requires { IsWhole objects.now }
+    requires { IsValidTree objects.now }
     ensures reached { result ≡ object_or_gap objects.now 1 parts.entry }
     ensures number { IfOk result (IsNumber objects.now) }
 {
@@ -72,7 +72,7 @@ fn reach(objects: &[Object], parts: NameParts<'_>) -> Result<Obj, Gap>
 
 // The object to which a name leads.
 pub(crate) fn find(objects: &[Object], name: &AbsName) -> Result<Obj, Gap>
-    requires { IsWhole objects.now }
+    requires { IsValidTree objects.now }
     ensures reached { result ≡ object_or_gap objects.now 1 name.now }
     ensures number { IfOk result (IsNumber objects.now) }
 {
@@ -81,7 +81,7 @@ pub(crate) fn find(objects: &[Object], name: &AbsName) -> Result<Obj, Gap>
 
 // The directory of a name, whether or not the name exists.
 fn directory_of(objects: &[Object], name: &AbsName) -> Result<Obj, Gap>
-    requires { IsWhole objects.now }
+    requires { IsValidTree objects.now }
     ensures reached { result ≡ directory_reached objects.now (parent name.now) }
     ensures number { IfOk result (IsNumber objects.now) }
 {
@@ -94,7 +94,7 @@ fn directory_of(objects: &[Object], name: &AbsName) -> Result<Obj, Gap>
 
 // The directory of a name that doesn't exist, or why the name can't be added.
 fn free_place(objects: &[Object], name: &AbsName) -> Result<Obj, Errno>
-    requires { IsWhole objects.now }
+    requires { IsValidTree objects.now }
     ensures free { IfOk result (IsFree objects.now name.now) }
     ensures refused { result_err result ≡ place_refused (tree_of objects.now) name.now }
 {
@@ -113,7 +113,7 @@ fn free_place(objects: &[Object], name: &AbsName) -> Result<Obj, Errno>
 
 // The directory and the object of a name other than the root's.
 fn taken_place(objects: &[Object], name: &AbsName) -> Result<(Obj, Obj), Errno>
-    requires whole { IsWhole objects.now }
+    requires whole { IsValidTree objects.now }
     requires named { 0 < length name.now }
     ensures taken { IfOk result (λ place. IsTaken objects.now name.now place.0 place.1) }
     ensures refused { result_err result ≡ no_object (tree_of objects.now) name.now }
@@ -130,7 +130,7 @@ fn taken_place(objects: &[Object], name: &AbsName) -> Result<(Obj, Obj), Errno>
 
 // The directory for the name of a new object, or why the object can't be added.
 pub(crate) fn place_to_add(objects: &[Object], name: &AbsName) -> Result<Obj, Errno>
-    requires { IsWhole objects.now }
+    requires { IsValidTree objects.now }
     ensures free { IfOk result (IsFree objects.now name.now) }
     ensures room { IfOk result (λ _. length objects.now < MOST_OBJECTS) }
     ensures refused { result_err result ≡ add_refused (tree_of objects.now) name.now }
@@ -144,7 +144,7 @@ pub(crate) fn place_to_add(objects: &[Object], name: &AbsName) -> Result<Obj, Er
 
 // The directory for one more name of an object, or why the name can't be added.
 pub(crate) fn place_to_link(objects: &[Object], obj: Obj, name: &AbsName) -> Result<Obj, Errno>
-    requires whole { IsWhole objects.now }
+    requires whole { IsValidTree objects.now }
     requires number { IsNumber objects.now obj }
     ensures free { IfOk result (IsFree objects.now name.now) }
     ensures plain { IfOk result (λ _. is_dir_of objects.now obj ≡ false) }
@@ -159,7 +159,7 @@ pub(crate) fn place_to_link(objects: &[Object], obj: Obj, name: &AbsName) -> Res
 
 // The directory of a name that may be removed, or why the name can't be removed.
 pub(crate) fn place_to_remove(objects: &[Object], name: &AbsName) -> Result<Obj, Errno>
-    requires { IsWhole objects.now }
+    requires { IsValidTree objects.now }
     ensures empty { IfOk result (IsEmpty objects.now name.now) }
     ensures refused { result_err result ≡ remove_refused (tree_of objects.now) name.now }
 {
@@ -182,7 +182,7 @@ pub fn is_proper_prefix(old: &AbsName, new: &AbsName) -> bool
 
 // Whether an object can replace another object, or why it can't.
 fn replace(objects: &[Object], obj: Obj, replaced: Obj) -> Result<(), Errno>
-    requires whole { IsWhole objects.now }
+    requires whole { IsValidTree objects.now }
     requires number { IsNumber objects.now obj }
     requires replaced { IsNumber objects.now replaced }
     ensures empty { OnOk result (dirs_of objects.now replaced ≡ []) }
@@ -204,7 +204,7 @@ pub(crate) fn rename_plan(
     old: &AbsName,
     new: &AbsName,
 ) -> Result<Option<RenamePlan>, Errno>
-    requires { IsWhole objects.now }
+    requires { IsValidTree objects.now }
     ensures way { IfOk result (IsRenaming objects.now old.now new.now) }
     ensures refused { result_err result ≡ rename_refused (tree_of objects.now) old.now new.now }
 {
@@ -237,7 +237,7 @@ pub(crate) fn move_entry(
     requires { IsRenamePlan objects.old old.now new.now way }
     ensures ok { OnOk result ((n : ℕ) → dirs_of objects.new n ≡ without_entry (with_entry (dirs_of objects.old) way.to (last_part new.now) way.obj) way.from (last_part old.now) n) }
     ensures err { OnErr result ((n : ℕ) → dirs_of objects.new n ≡ dirs_of objects.old n) }
-    ensures nodes { map node_of objects.new ≡ map node_of objects.old }
+    ensures nodes { map object_node objects.new ≡ map object_node objects.old }
 {
     table::put_entry(objects, alloc, way.to, new.last(), way.obj)?;
     table::take_entry(objects, way.from, old.last());

@@ -1,6 +1,6 @@
 // Objects by their numbers, and the entries of directories.
 ghost use Rattle.std.specs.Prelude.{◌≡◌, ℕ, true, nat_lt, length, map, OnOk, OnErr};
-ghost use Rattle.st_tree.specs.Objects.{dirs_of, is_dir_of, node_of, IsNumber};
+ghost use Rattle.st_tree.specs.Objects.{dirs_of, is_dir_of, object_node, IsNumber};
 ghost use Rattle.st_tree.specs.Paths.{dir_entry, with_entry, without_entry};
 
 use crate::object::Object;
@@ -43,7 +43,7 @@ pub(crate) fn put_entry(
     requires dir { is_dir_of objects.old holder ≡ true }
     ensures ok { OnOk result ((n : ℕ) → dirs_of objects.new n ≡ with_entry (dirs_of objects.old) holder part.now obj n) }
     ensures err { OnErr result ((n : ℕ) → dirs_of objects.new n ≡ dirs_of objects.old n) }
-    ensures nodes { map node_of objects.new ≡ map node_of objects.old }
+    ensures nodes { map object_node objects.new ≡ map object_node objects.old }
 {
     objects[holder as usize - 1].put(alloc, part, obj)
 }
@@ -52,7 +52,7 @@ pub(crate) fn put_entry(
 pub(crate) fn take_entry(objects: &mut [Object], holder: Obj, part: &[u8])
     requires { IsNumber objects.old holder }
     ensures entries { (n : ℕ) → dirs_of objects.new n ≡ without_entry (dirs_of objects.old) holder part.now n }
-    ensures nodes { map node_of objects.new ≡ map node_of objects.old }
+    ensures nodes { map object_node objects.new ≡ map object_node objects.old }
 {
     objects[holder as usize - 1].take(part);
 }

@@ -5,7 +5,7 @@ ghost use Rattle.st_model.specs.Tree.{add_object, cut_object, entry_count, is_di
 ghost use Rattle.st_model.specs.Permission.{allowed};
 ghost use Rattle.st_model.specs.declared.limits.TheConstants.{MOST_OBJECTS};
 ghost use Rattle.st_tree.specs.Answers.{KeepsKinds, Refuses};
-ghost use Rattle.st_tree.specs.Refusals.{add_refused, cut_refused, is_absent, link_refused, remove_refused, rename_refused, tree_after_rename, write_refused, IsFile, IsMade};
+ghost use Rattle.st_tree.specs.Refusals.{add_refused, cut_refused, is_absent, link_refused, remove_refused, rename_refused, tree_after_rename, write_too_long, IsFile, IsObjectNumber};
 
 use crate::object::{Node, Object};
 use crate::places::{self, Gap};
@@ -61,11 +61,11 @@ impl Model for Tree {
 
     ghost Value = { names.Tree };
 
-    ghost use Rattle.st_tree.specs.Objects.{tree_of, IsWhole};
+    ghost use Rattle.st_tree.specs.Objects.{tree_of, IsValidTree};
 
     ghost view = { λ t. tree_of t.objects.items };
 
-    ghost invariant = { λ t. IsWhole t.objects.items };
+    ghost invariant = { λ t. IsValidTree t.objects.items };
 }
 
 impl Tree {
@@ -99,7 +99,7 @@ impl Tree {
     pub fn object(&self, name: &AbsName) -> Option<Obj>
         ensures object { result ≡ object_of self.now name.now }
         ensures none { IsNone result ↔ (is_absent (look self.now name.now) ≡ true) }
-        ensures made { IfSome result (IsMade self.now) }
+        ensures made { IfSome result (IsObjectNumber self.now) }
     {
         places::find(&self.objects, name).ok()
     }
@@ -107,7 +107,7 @@ impl Tree {
     /// The root's number.
     pub fn root(&self) -> Obj
         ensures object { object_of self.now [] ≡ Some result }
-        ensures made { IsMade self.now result }
+        ensures made { IsObjectNumber self.now result }
         ensures directory { is_directory (node_with_number self.now result).kind ≡ true }
     {
         prove!(!self.objects.is_empty());
@@ -117,17 +117,17 @@ impl Tree {
     /// The object that a component has in this object; none in an object that is no directory. If there is none, no longer name has an
     /// object either.
     pub fn child(&self, obj: Obj, part: &[u8]) -> Option<Obj>
-        requires { IsMade self.now obj }
+        requires { IsObjectNumber self.now obj }
         ensures object { (name : Components) → object_of self.now name ≡ Some obj → result ≡ object_of self.now (name ++ part.now ∷ []) }
         ensures below { result ≡ None → (name rest : Components) → object_of self.now name ≡ Some obj → object_of self.now (name ++ part.now ∷ rest) ≡ None }
-        ensures made { IfSome result (IsMade self.now) }
+        ensures made { IfSome result (IsObjectNumber self.now) }
     {
         table::entry(&self.objects, obj, part)
     }
 
     /// The kind, owner, group, mode and size of an object.
     pub fn node(&self, obj: Obj) -> Node
-        requires { IsMade self.now obj }
+        requires { IsObjectNumber self.now obj }
         ensures kind { result.kind ≡ (node_with_number self.now obj).kind }
         ensures uid { result.uid ≡ (node_with_number self.now obj).uid }
         ensures gid { result.gid ≡ (node_with_number self.now obj).gid }
@@ -141,7 +141,7 @@ impl Tree {
     /// Whether a user and a group have this access to an object. The owner's bits decide for the owner, otherwise the group's bits for a
     /// member of the group, otherwise the others' bits. User 0 has every access, except that it may not execute what nobody may execute.
     pub fn allowed(&self, obj: Obj, uid: u32, gid: u32, want: Want) -> bool
-        requires { IsMade self.now obj }
+        requires { IsObjectNumber self.now obj }
         ensures { result ≡ allowed (node_with_number self.now obj) uid gid want }
     {
         self.objects[obj as usize - 1].allows(uid, gid, want)
@@ -149,7 +149,7 @@ impl Tree {
 
     /// The bytes of a file or of a link's target. A directory has none.
     pub fn content(&self, obj: Obj) -> &[u8]
-        requires { IsMade self.now obj }
+        requires { IsObjectNumber self.now obj }
         ensures { result.now ≡ (node_with_number self.now obj).content }
     {
         self.objects[obj as usize - 1].content()
@@ -169,7 +169,7 @@ impl Tree {
     pub fn add(&mut self, alloc: Global, name: &AbsName, new: NewNode) -> Result<Obj, TreeFault>
         ensures ok { OnOk result (self.new ≡ add_object self.old name.now (node_of_new new)) }
         ensures number { IfOk result (λ obj. obj ≡ suc (length self.old.objects)) }
-        ensures made { IfOk result (IsMade self.new) }
+        ensures made { IfOk result (IsObjectNumber self.new) }
         ensures node { IfOk result (λ obj. node_with_number self.new obj ≡ node_of_new new) }
         ensures may { OnOk result (add_refused self.old name.now ≡ None) }
         ensures refused { Refuses (add_refused self.old name.now) result }
@@ -186,7 +186,7 @@ impl Tree {
     /// Gives an object one more name. Fails with ENOENT, ENOTDIR and EEXIST as for a new object, then with EPERM if the object is a
     /// directory. After an error nothing is changed.
     pub fn link(&mut self, alloc: Global, obj: Obj, name: &AbsName) -> Result<(), TreeFault>
-        requires { IsMade self.old obj }
+        requires { IsObjectNumber self.old obj }
         ensures ok { OnOk result (self.new ≡ link_object self.old name.now obj) }
         ensures may { OnOk result (link_refused self.old obj name.now ≡ None) }
         ensures refused { Refuses (link_refused self.old obj name.now) result }
@@ -244,8 +244,8 @@ impl Tree {
         requires { IsFile self.old obj }
         ensures ok { OnOk result (self.new ≡ write_object self.old obj at bytes.now) }
         ensures kinds { KeepsKinds self.old self.new }
-        ensures may { OnOk result (write_refused at bytes.now ≡ None) }
-        ensures refused { Refuses (write_refused at bytes.now) result }
+        ensures may { OnOk result (write_too_long at bytes.now ≡ None) }
+        ensures refused { Refuses (write_too_long at bytes.now) result }
         ensures err { OnErr result (self.new ≡ self.old) }
     {
         if bytes.is_empty() {
@@ -277,7 +277,7 @@ impl Tree {
 
     /// Gives an object another mode.
     pub fn set_mode(&mut self, obj: Obj, mode: u32)
-        requires { IsMade self.old obj }
+        requires { IsObjectNumber self.old obj }
         ensures mode { self.new ≡ set_mode self.old obj mode }
         ensures kinds { KeepsKinds self.old self.new }
     {
@@ -286,7 +286,7 @@ impl Tree {
 
     /// Gives an object another owner and another group.
     pub fn set_owner(&mut self, obj: Obj, uid: u32, gid: u32)
-        requires { IsMade self.old obj }
+        requires { IsObjectNumber self.old obj }
         ensures owner { self.new ≡ set_owner self.old obj uid gid }
         ensures kinds { KeepsKinds self.old self.new }
     {

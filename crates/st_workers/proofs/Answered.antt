@@ -11,13 +11,13 @@ use Rattle.st_messages.specs.declared.message.Delivered.{Delivered}
 use Rattle.st_messages.specs.declared.message.Delivered.TheVariants.{Applied, Stale}
 use Rattle.st_messages.specs.declared.message.MsgState.{MsgState}
 use Rattle.st_messages.specs.declared.message.MsgState.TheVariants.{Answered, Claimed}
-use Rattle.st_messages.specs.Messages.{is_claimed, is_claimed_state, is_live, state_at, thread_at, with_state, HeldCalls}
+use Rattle.st_messages.specs.Messages.{is_claimed, is_claimed_state, is_live_number, message_state, thread_of_number, with_state, HeldCalls}
 use Rattle.st_messages.proofs.Whole.{states_moved, threads_moved}
 use Rattle.st_trace.specs.declared.entry.Entry.TheVariants as entry
 use Rattle.st_law.specs.declared.input.Input.{Input}
 use Rattle.st_law.specs.State.{progress_of_message, read_for, snapshot_of_message, Message, State}
-use Rattle.st_workers.specs.Kept.{at_work, Agrees, HasCome, IsDead, IsKept, IsKeptAfter, IsLive, IsTurn, IsWhole}
-use Rattle.st_workers.specs.UnderWay.{found_in, turn_at, UnderWay}
+use Rattle.st_workers.specs.Refinement.{at_work, AgreesWithMachine, HasMessageFlags, IsDead, RepresentsMessages, RepresentsMessagesAfter, IsLive, IsTurn, AreValidWorkers}
+use Rattle.st_workers.specs.UnderWay.{found_in, turn_of_worker, UnderWay}
 use Rattle.st_workers.specs.declared.turn.Turn.TheVariants.{Idle, Ready}
 use Rattle.st_workers.proofs.Ended.{dead_not_live, state_live, turned_claimed}
 use Rattle.st_workers.proofs.Steps.{all_turned, all_worked, count_kept, message_worked, stepped, verdicts_kept, IsStep}
@@ -38,24 +38,24 @@ stale_by : (d : Delivered) → (d ≡ Applied → ⊥) → d ≡ Stale
 stale_by Applied unlike = absurd (unlike refl)
 stale_by Stale unlike = refl
 
-module _ (old new : UnderWay) (w : ℕ) (s : Snapshot) (v : Verdict) (delivered : Delivered) (ready : turn_at old w ≡ Some (Ready s)) (is : IsDelivered old.calls new.calls s.seq v delivered)
+module _ (old new : UnderWay) (w : ℕ) (s : Snapshot) (v : Verdict) (delivered : Delivered) (ready : turn_of_worker old w ≡ Some (Ready s)) (is : IsDelivered old.calls new.calls s.seq v delivered)
     (slots : new.slots ≡ old.slots) (put : new.turns ≡ set old.turns (w - 1) Idle) where
   answered_other : (a : Bool) (q : ℕ) (m : Message) → q ≢ s.seq → message_worked (entry.Answered w s v a) q m ≡ m
   answered_other a q m ne =
       let e : (s.seq == q) ≡ false = ne_eqb s.seq q (λ x. ne (sym x)) in
       λ k. record { head = m.head; claimed = m.claimed; words = m.words; lookups = m.lookups; fault = m.fault; answered = (e k && a) || m.answered; closed = m.closed }
 
-  answered_come : (m : Message) → HasCome m true None false → HasCome (message_worked (entry.Answered w s v true) s.seq m) true None true
+  answered_come : (m : Message) → HasMessageFlags m true None false → HasMessageFlags (message_worked (entry.Answered w s v true) s.seq m) true None true
   answered_come m was = record { claimed = was.claimed; fault = was.fault; answered = ap (λ (b : Bool). (b && true) || m.answered) (eq-eqb s.seq s.seq refl) }
 
-  stale_come : (m : Message) → HasCome m true None false → HasCome (message_worked (entry.Answered w s v false) s.seq m) true None false
+  stale_come : (m : Message) → HasMessageFlags m true None false → HasMessageFlags (message_worked (entry.Answered w s v false) s.seq m) true None false
   stale_come m was = record { claimed = was.claimed; fault = was.fault; answered = ap (λ (b : Bool). b || m.answered) (and_false (s.seq == s.seq)) ∙ was.answered }
 
-  module _ (messages : ℕ → Message) (turns : ℕ → Option ℕ) (alive : ℕ → Bool) (posted : ℕ) (agrees : Agrees messages turns alive posted (found_in old)) where
+  module _ (messages : ℕ → Message) (turns : ℕ → Option ℕ) (alive : ℕ → Bool) (posted : ℕ) (agrees : AgreesWithMachine messages turns alive posted (found_in old)) where
     at : IsTurn messages alive (turns w) (Ready s)
     at = agrees.workers w (Ready s) ready
 
-    came : HasCome (messages s.seq) true None false
+    came : HasMessageFlags (messages s.seq) true None false
     came = agrees.turned w s.seq at.0
 
     gone : (a : Bool) → all_turned (entry.Answered w s v a) turns w ≡ None
@@ -67,7 +67,7 @@ module _ (old new : UnderWay) (w : ℕ) (s : Snapshot) (v : Verdict) (delivered 
     -- ---- in time
 
     module _ (live : alive s.seq ≡ true) where
-      claimed : (x : ℕ) × (state_at old.calls s.seq ≡ Some (Claimed x))
+      claimed : (x : ℕ) × (message_state old.calls s.seq ≡ Some (Claimed x))
       claimed = turned_claimed messages turns alive posted (found_in old) agrees w s.seq at.0 live
 
       pub is_applied : delivered ≡ Applied
@@ -76,17 +76,17 @@ module _ (old new : UnderWay) (w : ℕ) (s : Snapshot) (v : Verdict) (delivered 
       calls : new.calls ≡ with_state old.calls s.seq (Answered v)
       calls = is.ok is_applied
 
-      live_calls : is_live old.calls s.seq ≡ true
+      live_calls : is_live_number old.calls s.seq ≡ true
       live_calls = state_live old.calls s.seq (Claimed claimed.0) claimed.1
 
-      states : (q : ℕ) → q ≢ s.seq → state_at new.calls q ≡ state_at old.calls q
-      states q ne = ap (λ (c : HeldCalls). state_at c q) calls ∙ states_moved old.calls s.seq (Answered v) live_calls q ∙ ap (λ (b : Bool). cond b (Some (Answered v)) (state_at old.calls q)) (ne_eqb q s.seq ne)
+      states : (q : ℕ) → q ≢ s.seq → message_state new.calls q ≡ message_state old.calls q
+      states q ne = ap (λ (c : HeldCalls). message_state c q) calls ∙ states_moved old.calls s.seq (Answered v) live_calls q ∙ ap (λ (b : Bool). cond b (Some (Answered v)) (message_state old.calls q)) (ne_eqb q s.seq ne)
 
-      state : state_at new.calls s.seq ≡ Some (Answered v)
-      state = ap (λ (c : HeldCalls). state_at c s.seq) calls ∙ states_moved old.calls s.seq (Answered v) live_calls s.seq ∙ ap (λ (b : Bool). cond b (Some (Answered v)) (state_at old.calls s.seq)) (eq-eqb s.seq s.seq refl)
+      state : message_state new.calls s.seq ≡ Some (Answered v)
+      state = ap (λ (c : HeldCalls). message_state c s.seq) calls ∙ states_moved old.calls s.seq (Answered v) live_calls s.seq ∙ ap (λ (b : Bool). cond b (Some (Answered v)) (message_state old.calls s.seq)) (eq-eqb s.seq s.seq refl)
 
-      threads : (q : ℕ) → thread_at new.calls q ≡ thread_at old.calls q
-      threads q = ap (λ (c : HeldCalls). thread_at c q) calls ∙ threads_moved old.calls s.seq (Answered v) q
+      threads : (q : ℕ) → thread_of_number new.calls q ≡ thread_of_number old.calls q
+      threads q = ap (λ (c : HeldCalls). thread_of_number c q) calls ∙ threads_moved old.calls s.seq (Answered v) q
 
       was : IsLive turns s.seq (messages s.seq) (found_in old)
       was = agrees.live s.seq live
@@ -140,8 +140,8 @@ module _ (old new : UnderWay) (w : ℕ) (s : Snapshot) (v : Verdict) (delivered 
         put = put;
         next = ap (λ (c : HeldCalls). c.next) stale_calls;
         others = λ q ne. answered_other false q (messages q) ne;
-        states = λ q ne. ap (λ (c : HeldCalls). state_at c q) stale_calls;
-        threads = λ q. ap (λ (c : HeldCalls). thread_at c q) stale_calls;
+        states = λ q ne. ap (λ (c : HeldCalls). message_state c q) stale_calls;
+        threads = λ q. ap (λ (c : HeldCalls). thread_of_number c q) stale_calls;
         slots = λ q ne. ap (λ (l : List Slot). slot_at l q) slots;
         only = λ x ne turned. ne (agrees.apart x w s.seq turned at.0);
         stay = λ x ne other. stay false x ne;
@@ -152,8 +152,8 @@ module _ (old new : UnderWay) (w : ℕ) (s : Snapshot) (v : Verdict) (delivered 
         within = within;
         live = λ lives. absurd (true≢false (sym lives ∙ dead));
         dead = λ none. record {
-          state = ap (λ (c : HeldCalls). state_at c s.seq) stale_calls ∙ none_there.state;
-          thread = ap (λ (c : HeldCalls). thread_at c s.seq) stale_calls ∙ none_there.thread;
+          state = ap (λ (c : HeldCalls). message_state c s.seq) stale_calls ∙ none_there.state;
+          thread = ap (λ (c : HeldCalls). thread_of_number c s.seq) stale_calls ∙ none_there.thread;
           slot = ap (λ (l : List Slot). slot_at l s.seq) slots ∙ none_there.slot;
         };
       }
@@ -172,30 +172,30 @@ module _ (old new : UnderWay) (w : ℕ) (s : Snapshot) (v : Verdict) (delivered 
     answered_step : IsStep messages (all_worked (entry.Answered w s v (alive s.seq)) messages) turns (all_turned (entry.Answered w s v (alive s.seq)) turns) alive posted old new w s.seq Idle
     answered_step = step_by (alive s.seq) refl
 
-    answered_agrees : Agrees (all_worked (entry.Answered w s v (alive s.seq)) messages) (all_turned (entry.Answered w s v (alive s.seq)) turns) alive posted (found_in new)
+    answered_agrees : AgreesWithMachine (all_worked (entry.Answered w s v (alive s.seq)) messages) (all_turned (entry.Answered w s v (alive s.seq)) turns) alive posted (found_in new)
     answered_agrees = stepped messages (all_worked (entry.Answered w s v (alive s.seq)) messages) turns (all_turned (entry.Answered w s v (alive s.seq)) turns) alive posted old new w s.seq Idle answered_step agrees
 
     workers_by : (b : Bool) → alive s.seq ≡ b → new.calls.workers ≡ old.calls.workers
     workers_by true e = ap (λ (c : HeldCalls). c.workers) (calls e)
     workers_by false e = ap (λ (c : HeldCalls). c.workers) (stale_calls e)
 
-    states_by : (b : Bool) → alive s.seq ≡ b → (q : ℕ) → q ≢ s.seq → state_at new.calls q ≡ state_at old.calls q
+    states_by : (b : Bool) → alive s.seq ≡ b → (q : ℕ) → q ≢ s.seq → message_state new.calls q ≡ message_state old.calls q
     states_by true e q ne = states e q ne
-    states_by false e q ne = ap (λ (c : HeldCalls). state_at c q) (stale_calls e)
+    states_by false e q ne = ap (λ (c : HeldCalls). message_state c q) (stale_calls e)
 
     same_answer : (a b : Verdict) → Answered a ≡ Answered b → a ≡ b
     same_answer a b e = cc
 
-    verdict_by : (i : Input) → v ≡ judging.verdict (read_for i s.policy s.rule) s → (b : Bool) → alive s.seq ≡ b → (x : Verdict) (t : Snapshot) → state_at new.calls s.seq ≡ Some (Answered x)
+    verdict_by : (i : Input) → v ≡ judging.verdict (read_for i s.policy s.rule) s → (b : Bool) → alive s.seq ≡ b → (x : Verdict) (t : Snapshot) → message_state new.calls s.seq ≡ Some (Answered x)
         → snapshot_of_message s.seq (all_worked (entry.Answered w s v b) messages s.seq) ≡ Some t → x ≡ judging.verdict (read_for i t.policy t.rule) t
     verdict_by i is_verdict true e x t answered copies =
         let same : s ≡ t = same_Some s t (sym at.1 ∙ copies) in
         sym (same_answer v x (same_Some (Answered v) (Answered x) (sym (state e) ∙ answered))) ∙ is_verdict ∙ ap (λ (u : Snapshot). judging.verdict (read_for i u.policy u.rule) u) same
     verdict_by i is_verdict false e x t answered copies =
-        absurd (none-some (Answered x) (sym (ap (λ (c : HeldCalls). state_at c s.seq) (stale_calls e) ∙ (none_there e).state) ∙ answered))
+        absurd (none-some (Answered x) (sym (ap (λ (c : HeldCalls). message_state c s.seq) (stale_calls e) ∙ (none_there e).state) ∙ answered))
 
   -- the messages and workers stay whole
-  pub answered_whole : IsWhole old → IsWhole new
+  pub answered_whole : AreValidWorkers old → AreValidWorkers new
   answered_whole whole =
       let e = entry.Answered w s v (whole.alive s.seq) in
       record {
@@ -208,11 +208,11 @@ module _ (old new : UnderWay) (w : ℕ) (s : Snapshot) (v : Verdict) (delivered 
         agrees = answered_agrees whole.messages whole.turns whole.alive whole.posted whole.agrees;
       }
 
-  pub answered_workers : IsWhole old → new.calls.workers ≡ old.calls.workers
+  pub answered_workers : AreValidWorkers old → new.calls.workers ≡ old.calls.workers
   answered_workers whole = workers_by whole.messages whole.turns whole.alive whole.posted whole.agrees (whole.alive s.seq) refl
 
   -- the messages and workers represent the state after the entry
-  pub answered_kept : (i : Input) (st : State) (alive : ℕ → Bool) → IsKept i st alive old → v ≡ judging.verdict (read_for i s.policy s.rule) s → IsKeptAfter i st (entry.Answered w s v (alive s.seq)) alive new
+  pub answered_kept : (i : Input) (st : State) (alive : ℕ → Bool) → RepresentsMessages i st alive old → v ≡ judging.verdict (read_for i s.policy s.rule) s → RepresentsMessagesAfter i st (entry.Answered w s v (alive s.seq)) alive new
   answered_kept i st alive kept is_verdict = record {
     workers = workers_by st.messages st.turns alive st.posted kept.agrees (alive s.seq) refl ∙ kept.workers;
     agrees = answered_agrees st.messages st.turns alive st.posted kept.agrees;
@@ -220,14 +220,14 @@ module _ (old new : UnderWay) (w : ℕ) (s : Snapshot) (v : Verdict) (delivered 
         (states_by st.messages st.turns alive st.posted kept.agrees (alive s.seq) refl) (verdict_by st.messages st.turns alive st.posted kept.agrees i is_verdict (alive s.seq) refl) kept.verdicts;
   }
 
-  applied_by : (whole : IsWhole old) (b : Bool) → whole.alive s.seq ≡ b → is_live old.calls s.seq ≡ true → delivered ≡ Applied
+  applied_by : (whole : AreValidWorkers old) (b : Bool) → whole.alive s.seq ≡ b → is_live_number old.calls s.seq ≡ true → delivered ≡ Applied
   applied_by whole true e live = is_applied whole.messages whole.turns whole.alive whole.posted whole.agrees e
   applied_by whole false e live = absurd (dead_not_live old.calls s.seq (whole.agrees.dead s.seq e).state live)
 
-  claimed_live : (held : HeldCalls) (q : ℕ) (o : Option MsgState) → state_at held q ≡ o → is_claimed_state o ≡ true → is_live held q ≡ true
+  claimed_live : (held : HeldCalls) (q : ℕ) (o : Option MsgState) → message_state held q ≡ o → is_claimed_state o ≡ true → is_live_number held q ≡ true
   claimed_live held q None e claimed_is = absurd (true≢false (sym claimed_is))
   claimed_live held q (Some x) e claimed_is = state_live held q x e
 
   -- an answer is applied iff its number is live
-  pub applied_where : IsWhole old → (delivered ≡ Applied) ↔ (is_live old.calls s.seq ≡ true)
-  applied_where whole = (λ e. claimed_live old.calls s.seq (state_at old.calls s.seq) refl (is.applied.0 e), λ live. applied_by whole (whole.alive s.seq) refl live)
+  pub applied_where : AreValidWorkers old → (delivered ≡ Applied) ↔ (is_live_number old.calls s.seq ≡ true)
+  applied_where whole = (λ e. claimed_live old.calls s.seq (message_state old.calls s.seq) refl (is.applied.0 e), λ live. applied_by whole (whole.alive s.seq) refl live)

@@ -8,11 +8,11 @@ use Rattle.st_lookaside.specs.Slot.{Slot}
 use Rattle.st_lookaside.specs.Slots.{slot_at}
 use Rattle.st_messages.specs.declared.message.Message as message
 use Rattle.st_messages.specs.declared.message.MsgState.TheVariants.{Answered}
-use Rattle.st_messages.specs.Messages.{message_in, state_at}
+use Rattle.st_messages.specs.Messages.{message_in, message_state}
 use Rattle.st_law.specs.declared.input.Input.{Input}
 use Rattle.st_law.specs.Machine.{first_state, no_message}
 use Rattle.st_law.specs.State.{is_live}
-use Rattle.st_workers.specs.Kept.{Agrees, IsKept, IsTurn, IsWhole}
+use Rattle.st_workers.specs.Refinement.{AgreesWithMachine, RepresentsMessages, IsTurn, AreValidWorkers}
 use Rattle.st_workers.specs.UnderWay.{found_in, UnderWay}
 use Rattle.st_workers.specs.declared.turn.Turn.{Turn}
 use Rattle.st_workers.specs.declared.turn.Turn.TheVariants.{Idle}
@@ -22,10 +22,10 @@ idle_item turns all zero t is = absurd (none-some t is)
 idle_item turns all (suc k) t is = sym (get_or_from_slice_get turns k t t is) ∙ all k t (slice_get_within turns k t is)
 
 module _ (kept : UnderWay) (next : kept.calls.next ≡ 1) (live : kept.calls.live ≡ []) (slots : kept.slots ≡ []) (idle : All (λ turn. turn ≡ Idle) kept.turns) where
-  no_state : (q : ℕ) → state_at kept.calls q ≡ None
+  no_state : (q : ℕ) → message_state kept.calls q ≡ None
   no_state q = ap (λ (l : List message.Message). option_map (λ (m : message.Message). m.state) (message_in l q)) live
 
-  begun_agrees : (alive : ℕ → Bool) → ((q : ℕ) → alive q ≡ false) → Agrees (λ q. no_message) (λ w. None) alive 0 (found_in kept)
+  begun_agrees : (alive : ℕ → Bool) → ((q : ℕ) → alive q ≡ false) → AgreesWithMachine (λ q. no_message) (λ w. None) alive 0 (found_in kept)
   begun_agrees alive none = record {
     next = next;
     live = λ q is. absurd (true≢false (sym is ∙ none q));
@@ -41,10 +41,10 @@ module _ (kept : UnderWay) (next : kept.calls.next ≡ 1) (live : kept.calls.liv
     workers = λ w t is. subst (IsTurn (λ q. no_message) alive None) (sym (idle_item kept.turns idle w t is)) refl;
   }
 
-  pub begun_whole : length kept.turns ≡ kept.calls.workers → IsWhole kept
+  pub begun_whole : length kept.turns ≡ kept.calls.workers → AreValidWorkers kept
   begun_whole count = record { count = count; messages = λ q. no_message; turns = λ w. None; alive = λ q. false; posted = 0; agrees = begun_agrees (λ q. false) (λ q. refl) }
 
-  pub begun_kept : (i : Input) → kept.calls.workers ≡ i.options.workers → IsKept i (first_state i) (is_live (first_state i)) kept
+  pub begun_kept : (i : Input) → kept.calls.workers ≡ i.options.workers → RepresentsMessages i (first_state i) (is_live (first_state i)) kept
   begun_kept i workers = record {
     workers = workers;
     agrees = begun_agrees (is_live (first_state i)) (λ q. refl);

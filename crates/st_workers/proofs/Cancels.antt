@@ -8,11 +8,11 @@ use Rattle.st_lookaside.specs.Slots.{slot_at, ChangesSlot}
 use Rattle.st_messages.specs.declared.message.Message as message
 use Rattle.st_messages.specs.declared.message.MsgState.{MsgState}
 use Rattle.st_messages.specs.declared.message.MsgState.TheVariants.{Waiting, Claimed, Answered, Faulted}
-use Rattle.st_messages.specs.Messages.{calls_after_cancel, is_live, message_at, state_at, thread_at, ChangesState, HeldCalls}
+use Rattle.st_messages.specs.Messages.{calls_after_cancel, is_live_number, message_of_number, message_state, thread_of_number, ChangesState, HeldCalls}
 use Rattle.st_messages.proofs.Whole.{threads_cancelled}
 use Rattle.st_law.specs.declared.input.Input.{Input}
 use Rattle.st_law.specs.State.{is_ready, progress_of_message, Message}
-use Rattle.st_workers.specs.Kept.{at_work, Agrees, AreKept, ChangesLife, IsDead, IsLive, IsState, IsTurn, IsWhole}
+use Rattle.st_workers.specs.Refinement.{at_work, AgreesWithMachine, RepresentsMachineMessages, ChangesLife, IsDead, IsLive, IsState, IsTurn, AreValidWorkers}
 use Rattle.st_workers.specs.Leaving.{is_claimed_by, left, HasLeft}
 use Rattle.st_workers.specs.UnderWay.{found_in, Found, UnderWay}
 use Rattle.st_workers.specs.declared.turn.Turn.{Turn}
@@ -35,7 +35,7 @@ abbrev pub without_live : ℕ → (ℕ → Bool) → ℕ → Bool
 without_live p alive q = if q == p then false else alive q
 
 module _ (old new : Found) (p : ℕ) (ended : IsEnded old new p) (messages : ℕ → Message) (turns : ℕ → Option ℕ) (alive later : ℕ → Bool) (posted : ℕ)
-    (agrees : Agrees messages turns alive posted old) (live : alive p ≡ true) (lives : ChangesLife alive p false later) where
+    (agrees : AgreesWithMachine messages turns alive posted old) (live : alive p ≡ true) (lives : ChangesLife alive p false later) where
   was : IsLive turns p (messages p) old
   was = agrees.live p live
 
@@ -95,7 +95,7 @@ module _ (old new : Found) (p : ℕ) (ended : IsEnded old new p) (messages : ℕ
   each_by (Faulted errno) state_is is = (0, each_other (Faulted errno) state_is is (λ w e. cc) (λ v. refl))
 
   -- what is found agrees after the number has ended
-  pub ended_agrees : Agrees messages turns later posted new
+  pub ended_agrees : AgreesWithMachine messages turns later posted new
   ended_agrees =
       let each = each_by was.state was.state_is was.is_state in
       changed messages messages turns turns alive later posted posted p each.0 old new agrees (record {
@@ -115,39 +115,39 @@ module _ (old new : Found) (p : ℕ) (ended : IsEnded old new p) (messages : ℕ
 -- ---- a live number
 
 -- a live number has a message
-pub live_message : (calls : HeldCalls) (q : ℕ) → is_live calls q ≡ true → (m : message.Message) × (message_at calls q ≡ Some m)
-live_message calls q is = by (message_at calls q) is where
+pub live_message : (calls : HeldCalls) (q : ℕ) → is_live_number calls q ≡ true → (m : message.Message) × (message_of_number calls q ≡ Some m)
+live_message calls q is = by (message_of_number calls q) is where
   by : (o : Option message.Message) → is_some o ≡ true → (m : message.Message) × (o ≡ Some m)
   by None is = absurd (true≢false (sym is))
   by (Some m) is = (m, refl)
 
 -- a number that is live here is live in the law's machine
-pub live_there : (messages : ℕ → Message) (turns : ℕ → Option ℕ) (alive : ℕ → Bool) (posted : ℕ) (kept : UnderWay) → Agrees messages turns alive posted (found_in kept) → (q : ℕ) → is_live kept.calls q ≡ true → alive q ≡ true
+pub live_there : (messages : ℕ → Message) (turns : ℕ → Option ℕ) (alive : ℕ → Bool) (posted : ℕ) (kept : UnderWay) → AgreesWithMachine messages turns alive posted (found_in kept) → (q : ℕ) → is_live_number kept.calls q ≡ true → alive q ≡ true
 live_there messages turns alive posted kept agrees q is =
     let m = live_message kept.calls q is in
     live_by_state messages turns alive posted (found_in kept) agrees q m.0.state (ap (option_map (λ (x : message.Message). x.state)) m.1) (alive q) refl
 
-module _ (old new : UnderWay) (p : ℕ) (here : is_live old.calls p ≡ true) (calls : new.calls ≡ calls_after_cancel old.calls p) (states : ChangesState old.calls p None new.calls) (slots : ChangesSlot old.slots p None new.slots)
-    (turns_left : HasLeft old.turns (state_at old.calls p) new.turns) (count : length new.turns ≡ length old.turns) where
-  states_now : (q : ℕ) → q ≢ p → state_at new.calls q ≡ state_at old.calls q
-  states_now q ne = states q ∙ ap (λ (b : Bool). cond b None (state_at old.calls q)) (ne_eqb q p ne)
+module _ (old new : UnderWay) (p : ℕ) (here : is_live_number old.calls p ≡ true) (calls : new.calls ≡ calls_after_cancel old.calls p) (states : ChangesState old.calls p None new.calls) (slots : ChangesSlot old.slots p None new.slots)
+    (turns_left : HasLeft old.turns (message_state old.calls p) new.turns) (count : length new.turns ≡ length old.turns) where
+  states_now : (q : ℕ) → q ≢ p → message_state new.calls q ≡ message_state old.calls q
+  states_now q ne = states q ∙ ap (λ (b : Bool). cond b None (message_state old.calls q)) (ne_eqb q p ne)
 
-  state_now : state_at new.calls p ≡ None
-  state_now = states p ∙ ap (λ (b : Bool). cond b None (state_at old.calls p)) (eq-eqb p p refl)
+  state_now : message_state new.calls p ≡ None
+  state_now = states p ∙ ap (λ (b : Bool). cond b None (message_state old.calls p)) (eq-eqb p p refl)
 
-  threads_now : (q : ℕ) → thread_at new.calls q ≡ cond (q == p) None (thread_at old.calls q)
-  threads_now q = ap (λ (c : HeldCalls). thread_at c q) calls ∙ threads_cancelled old.calls p q
+  threads_now : (q : ℕ) → thread_of_number new.calls q ≡ cond (q == p) None (thread_of_number old.calls q)
+  threads_now q = ap (λ (c : HeldCalls). thread_of_number c q) calls ∙ threads_cancelled old.calls p q
 
   cancelled : IsEnded (found_in old) (found_in new) p
   cancelled = record {
     next = ap (λ (c : HeldCalls). c.next) calls;
     dead = record {
       state = state_now;
-      thread = threads_now p ∙ ap (λ (b : Bool). cond b None (thread_at old.calls p)) (eq-eqb p p refl);
+      thread = threads_now p ∙ ap (λ (b : Bool). cond b None (thread_of_number old.calls p)) (eq-eqb p p refl);
       slot = slots p ∙ ap (λ (b : Bool). cond b None (slot_at old.slots p)) (eq-eqb p p refl);
     };
     states = states_now;
-    threads = λ q ne. threads_now q ∙ ap (λ (b : Bool). cond b None (thread_at old.calls q)) (ne_eqb q p ne);
+    threads = λ q ne. threads_now q ∙ ap (λ (b : Bool). cond b None (thread_of_number old.calls q)) (ne_eqb q p ne);
     slots = λ q ne. slots q ∙ ap (λ (b : Bool). cond b None (slot_at old.slots q)) (ne_eqb q p ne);
     turn = turns_left;
   }
@@ -155,7 +155,7 @@ module _ (old new : UnderWay) (p : ℕ) (here : is_live old.calls p ≡ true) (c
   workers_now : new.calls.workers ≡ old.calls.workers
   workers_now = ap (λ (c : HeldCalls). c.workers) calls
 
-  pub cancelled_whole : IsWhole old → IsWhole new
+  pub cancelled_whole : AreValidWorkers old → AreValidWorkers new
   cancelled_whole whole = record {
     count = count ∙ whole.count ∙ sym workers_now;
     messages = whole.messages;
@@ -166,7 +166,7 @@ module _ (old new : UnderWay) (p : ℕ) (here : is_live old.calls p ≡ true) (c
         (live_there whole.messages whole.turns whole.alive whole.posted old whole.agrees p here) (λ other. refl);
   }
 
-  pub cancelled_kept : (i : Input) (messages : ℕ → Message) (turns : ℕ → Option ℕ) (alive later : ℕ → Bool) (posted : ℕ) → AreKept i messages turns alive posted old → ChangesLife alive p false later → AreKept i messages turns later posted new
+  pub cancelled_kept : (i : Input) (messages : ℕ → Message) (turns : ℕ → Option ℕ) (alive later : ℕ → Bool) (posted : ℕ) → RepresentsMachineMessages i messages turns alive posted old → ChangesLife alive p false later → RepresentsMachineMessages i messages turns later posted new
   cancelled_kept i messages turns alive later posted kept lives = record {
     workers = workers_now ∙ kept.workers;
     agrees = ended_agrees (found_in old) (found_in new) p cancelled messages turns alive later posted kept.agrees (live_there messages turns alive posted old kept.agrees p here) lives;

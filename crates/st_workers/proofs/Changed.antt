@@ -4,7 +4,7 @@ use Rattle.std.proofs.lemmas.Bool.{cases_eq}
 use Rattle.st_messages.specs.declared.message.MsgState.{MsgState}
 use Rattle.st_messages.specs.declared.message.MsgState.TheVariants.{Waiting, Claimed, Answered, Faulted}
 use Rattle.st_law.specs.State.{Message, is_ready, progress_of_message, snapshot_of_message}
-use Rattle.st_workers.specs.Kept.{Agrees, HasCome, IsDead, IsLive, IsState, IsTurn, IsUntouched}
+use Rattle.st_workers.specs.Refinement.{AgreesWithMachine, HasMessageFlags, IsDead, IsLive, IsState, IsTurn, IsUntouched}
 use Rattle.st_workers.specs.UnderWay.{Found}
 use Rattle.st_workers.specs.declared.turn.Turn.{Turn}
 use Rattle.st_workers.specs.declared.turn.Turn.TheVariants.{Idle, Working, Ready}
@@ -20,7 +20,7 @@ pub record Moves (turns turned : ℕ → Option ℕ) (after : ℕ → Message) (
   pub is : w ≡ worker
   pub from : (q : ℕ) → turns w ≡ Some q → alive q ≡ true → q ≡ p
   pub onto : (q : ℕ) → turned w ≡ Some q → q ≡ p
-  pub come : turned w ≡ Some p → HasCome (after p) true None false
+  pub come : turned w ≡ Some p → HasMessageFlags (after p) true None false
   pub turn : (t : Turn) → new.turn w ≡ Some t → IsTurn after later (turned w) t
 
 -- one number and one worker's turn change
@@ -38,7 +38,7 @@ pub record Changes (messages after : ℕ → Message) (turns turned : ℕ → Op
   pub each : (w : ℕ) → Stays turns turned p old new w ⊎ Moves turns turned after alive later p worker new w
 
 module _ (messages after : ℕ → Message) (turns turned : ℕ → Option ℕ) (alive later : ℕ → Bool) (posted given p worker : ℕ) (old new : Found)
-    (agrees : Agrees messages turns alive posted old) (changes : Changes messages after turns turned alive later posted given p worker old new) where
+    (agrees : AgreesWithMachine messages turns alive posted old) (changes : Changes messages after turns turned alive later posted given p worker old new) where
   state_still : (q : ℕ) (state : MsgState) → q ≢ p → alive q ≡ true → IsState turns q (messages q) state → IsState turned q (messages q) state
   state_still q Waiting ne live is = is
   state_still q (Claimed w) ne live is = (
@@ -88,14 +88,14 @@ module _ (messages after : ℕ → Message) (turns turned : ℕ → Option ℕ) 
       let ne : s.seq ≢ p = λ e. other (is.0 ∙ ap Some e) in
       (is.0, ap (snapshot_of_message s.seq) (changes.others s.seq ne) ∙ is.1)
 
-  come_still : (w q : ℕ) → turned w ≡ Some q → HasCome (after q) true None false
+  come_still : (w q : ℕ) → turned w ≡ Some q → HasMessageFlags (after q) true None false
   come_still w q is = elim (changes.each w) [
     | inl stays ↦
         let was : turns w ≡ Some q = sym stays.same ∙ is in
-        subst (λ (m : Message). HasCome m true None false) (sym (changes.others q (λ e. stays.other (was ∙ ap Some e)))) (agrees.turned w q was)
+        subst (λ (m : Message). HasMessageFlags m true None false) (sym (changes.others q (λ e. stays.other (was ∙ ap Some e)))) (agrees.turned w q was)
     | inr moves ↦
         let e : q ≡ p = moves.onto q is in
-        subst (λ (n : ℕ). HasCome (after n) true None false) (sym e) (moves.come (is ∙ ap Some e))
+        subst (λ (n : ℕ). HasMessageFlags (after n) true None false) (sym e) (moves.come (is ∙ ap Some e))
   ]
 
   apart_still : (a b q : ℕ) → turned a ≡ Some q → turned b ≡ Some q → a ≡ b
@@ -117,7 +117,7 @@ module _ (messages after : ℕ → Message) (turns turned : ℕ → Option ℕ) 
   ]
 
   -- what is found agrees after the change
-  pub changed : Agrees after turned later given new
+  pub changed : AgreesWithMachine after turned later given new
   changed = record {
     next = changes.next;
     live = λ q is. elim (cases_eq q p) [
@@ -151,7 +151,7 @@ pub record IsSame (old new : Found) : Type 0 where
   pub slot : (q : ℕ) → new.slot q ≡ old.slot q
   pub turn : (w : ℕ) → new.turn w ≡ old.turn w
 
-pub unchanged : (messages : ℕ → Message) (turns : ℕ → Option ℕ) (alive : ℕ → Bool) (posted : ℕ) (old new : Found) → IsSame old new → Agrees messages turns alive posted old → Agrees messages turns alive posted new
+pub unchanged : (messages : ℕ → Message) (turns : ℕ → Option ℕ) (alive : ℕ → Bool) (posted : ℕ) (old new : Found) → IsSame old new → AgreesWithMachine messages turns alive posted old → AgreesWithMachine messages turns alive posted new
 unchanged messages turns alive posted old new same agrees = record {
   next = same.next ∙ agrees.next;
   live = λ q is.

@@ -7,13 +7,13 @@ use Rattle.st_lookaside.specs.Slot.{Slot}
 use Rattle.st_lookaside.specs.Slots.{slot_at}
 use Rattle.st_messages.specs.declared.message.MsgState.{MsgState}
 use Rattle.st_messages.specs.declared.message.MsgState.TheVariants.{Waiting, Claimed, Answered}
-use Rattle.st_messages.specs.Messages.{HeldCalls, state_at, thread_at, with_state}
+use Rattle.st_messages.specs.Messages.{HeldCalls, message_state, thread_of_number, with_state}
 use Rattle.st_messages.proofs.Whole.{states_moved, threads_moved, waiting_live}
 use Rattle.st_trace.specs.declared.entry.Entry.TheVariants as entry
 use Rattle.st_law.specs.State.{Message, is_ready, progress_of_message}
 use Rattle.st_workers.specs.Filling.{IsTurnFor}
-use Rattle.st_workers.specs.Kept.{at_work, Agrees, Follows, HasCome, IsLive, IsSlotOf, IsState, IsWhole}
-use Rattle.st_workers.specs.UnderWay.{Found, UnderWay, found_in, turn_at}
+use Rattle.st_workers.specs.Refinement.{at_work, AgreesWithMachine, RepresentsAfterEntry, HasMessageFlags, IsLive, IsSlotOf, IsState, AreValidWorkers}
+use Rattle.st_workers.specs.UnderWay.{Found, UnderWay, found_in, turn_of_worker}
 use Rattle.st_workers.specs.declared.turn.Turn.{Turn}
 use Rattle.st_workers.specs.declared.turn.Turn.TheVariants.{Idle}
 use Rattle.st_workers.proofs.Copies.{slot_number}
@@ -27,41 +27,41 @@ idle_at_none messages alive (Some p) q idle is live =
     let here : alive p ≡ true = ap alive (same_Some p q is) ∙ live in
     none-some p (sym idle ∙ ap (λ (b : Bool). cond (b || is_ready (progress_of_message (messages p))) (Some p) None) here)
 
-waiting_come : (turns : ℕ → Option ℕ) (q : ℕ) (m : Message) (state : MsgState) → state ≡ Waiting → IsState turns q m state → HasCome m false None false
+waiting_come : (turns : ℕ → Option ℕ) (q : ℕ) (m : Message) (state : MsgState) → state ≡ Waiting → IsState turns q m state → HasMessageFlags m false None false
 waiting_come turns q m state e is = subst (IsState turns q m) e is
 
 -- a number with a state is live
-pub live_by_state : (messages : ℕ → Message) (turns : ℕ → Option ℕ) (alive : ℕ → Bool) (posted : ℕ) (found : Found) → Agrees messages turns alive posted found → (q : ℕ) (state : MsgState) → found.state q ≡ Some state → (b : Bool) → alive q ≡ b → alive q ≡ true
+pub live_by_state : (messages : ℕ → Message) (turns : ℕ → Option ℕ) (alive : ℕ → Bool) (posted : ℕ) (found : Found) → AgreesWithMachine messages turns alive posted found → (q : ℕ) (state : MsgState) → found.state q ≡ Some state → (b : Bool) → alive q ≡ b → alive q ≡ true
 live_by_state messages turns alive posted found agrees q state is true e = e
 live_by_state messages turns alive posted found agrees q state is false e = absurd (none-some state (sym (agrees.dead q e).state ∙ is))
 
-module _ (old new : UnderWay) (w p : ℕ) (slot : Slot) (t : Turn) (idle : turn_at old w ≡ Some Idle) (waits : state_at old.calls p ≡ Some Waiting) (there : slot_at old.slots p ≡ Some slot)
+module _ (old new : UnderWay) (w p : ℕ) (slot : Slot) (t : Turn) (idle : turn_of_worker old w ≡ Some Idle) (waits : message_state old.calls p ≡ Some Waiting) (there : slot_at old.slots p ≡ Some slot)
     (calls : new.calls ≡ with_state old.calls p (Claimed w)) (slots : new.slots ≡ old.slots) (put : new.turns ≡ set old.turns (w - 1) t) (turn : IsTurnFor p slot t) where
-  states_now : (q : ℕ) → q ≢ p → state_at new.calls q ≡ state_at old.calls q
-  states_now q ne = ap (λ (c : HeldCalls). state_at c q) calls ∙ states_moved old.calls p (Claimed w) (waiting_live old.calls p waits) q ∙ ap (λ (b : Bool). cond b (Some (Claimed w)) (state_at old.calls q)) (ne_eqb q p ne)
+  states_now : (q : ℕ) → q ≢ p → message_state new.calls q ≡ message_state old.calls q
+  states_now q ne = ap (λ (c : HeldCalls). message_state c q) calls ∙ states_moved old.calls p (Claimed w) (waiting_live old.calls p waits) q ∙ ap (λ (b : Bool). cond b (Some (Claimed w)) (message_state old.calls q)) (ne_eqb q p ne)
 
-  state_now : state_at new.calls p ≡ Some (Claimed w)
-  state_now = ap (λ (c : HeldCalls). state_at c p) calls ∙ states_moved old.calls p (Claimed w) (waiting_live old.calls p waits) p ∙ ap (λ (b : Bool). cond b (Some (Claimed w)) (state_at old.calls p)) (eq-eqb p p refl)
+  state_now : message_state new.calls p ≡ Some (Claimed w)
+  state_now = ap (λ (c : HeldCalls). message_state c p) calls ∙ states_moved old.calls p (Claimed w) (waiting_live old.calls p waits) p ∙ ap (λ (b : Bool). cond b (Some (Claimed w)) (message_state old.calls p)) (eq-eqb p p refl)
 
-  threads_now : (q : ℕ) → thread_at new.calls q ≡ thread_at old.calls q
-  threads_now q = ap (λ (c : HeldCalls). thread_at c q) calls ∙ threads_moved old.calls p (Claimed w) q
+  threads_now : (q : ℕ) → thread_of_number new.calls q ≡ thread_of_number old.calls q
+  threads_now q = ap (λ (c : HeldCalls). thread_of_number c q) calls ∙ threads_moved old.calls p (Claimed w) q
 
   claimed_other : (q : ℕ) (m : Message) → q ≢ p → message_worked (entry.Claimed w p) q m ≡ m
   claimed_other q m ne =
       let e : (p == q) ≡ false = ne_eqb p q (λ x. ne (sym x)) in
       λ k. record { head = m.head; claimed = e k || m.claimed; words = m.words; lookups = m.lookups; fault = m.fault; answered = m.answered; closed = m.closed }
 
-  claimed_come : (m : Message) → HasCome m false None false → HasCome (message_worked (entry.Claimed w p) p m) true None false
+  claimed_come : (m : Message) → HasMessageFlags m false None false → HasMessageFlags (message_worked (entry.Claimed w p) p m) true None false
   claimed_come m was = record { claimed = ap (λ (b : Bool). b || m.claimed) (eq-eqb p p refl); fault = was.fault; answered = was.answered }
 
-  module _ (messages : ℕ → Message) (turns : ℕ → Option ℕ) (alive : ℕ → Bool) (posted : ℕ) (agrees : Agrees messages turns alive posted (found_in old)) where
+  module _ (messages : ℕ → Message) (turns : ℕ → Option ℕ) (alive : ℕ → Bool) (posted : ℕ) (agrees : AgreesWithMachine messages turns alive posted (found_in old)) where
     live_p : alive p ≡ true
     live_p = live_by_state messages turns alive posted (found_in old) agrees p Waiting waits (alive p) refl
 
     was : IsLive turns p (messages p) (found_in old)
     was = agrees.live p live_p
 
-    come : HasCome (messages p) false None false
+    come : HasMessageFlags (messages p) false None false
     come = waiting_come turns p (messages p) was.state (same_Some was.state Waiting (sym was.state_is ∙ waits)) was.is_state
 
     is_slot : IsSlotOf (all_worked (entry.Claimed w p) messages p) was.tid slot
@@ -102,14 +102,14 @@ module _ (old new : UnderWay) (w p : ℕ) (slot : Slot) (t : Turn) (idle : turn_
       dead = λ e. absurd (true≢false (sym live_p ∙ e));
     }
 
-    claimed_agrees : Agrees (all_worked (entry.Claimed w p) messages) (all_turned (entry.Claimed w p) turns) alive posted (found_in new)
+    claimed_agrees : AgreesWithMachine (all_worked (entry.Claimed w p) messages) (all_turned (entry.Claimed w p) turns) alive posted (found_in new)
     claimed_agrees = stepped messages (all_worked (entry.Claimed w p) messages) turns (all_turned (entry.Claimed w p) turns) alive posted old new w p t claimed_step agrees
 
   workers_now : new.calls.workers ≡ old.calls.workers
   workers_now = ap (λ (c : HeldCalls). c.workers) calls
 
   -- the messages and workers stay whole
-  pub claimed_whole : IsWhole old → IsWhole new
+  pub claimed_whole : AreValidWorkers old → AreValidWorkers new
   claimed_whole whole = record {
     count = count_kept whole.messages (all_worked (entry.Claimed w p) whole.messages) whole.turns (all_turned (entry.Claimed w p) whole.turns) whole.alive whole.posted old new w p t
         (claimed_step whole.messages whole.turns whole.alive whole.posted whole.agrees) whole.count workers_now;
@@ -121,7 +121,7 @@ module _ (old new : UnderWay) (w p : ℕ) (slot : Slot) (t : Turn) (idle : turn_
   }
 
   -- the messages and workers represent the state after the entry
-  pub claimed_follows : Follows old (entry.Claimed w p) new
+  pub claimed_follows : RepresentsAfterEntry old (entry.Claimed w p) new
   claimed_follows i st alive kept = record {
     workers = workers_now ∙ kept.workers;
     agrees = claimed_agrees st.messages st.turns alive st.posted kept.agrees;

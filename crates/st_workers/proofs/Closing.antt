@@ -5,7 +5,7 @@ use Rattle.st_messages.specs.declared.message.MsgState.{MsgState}
 use Rattle.st_messages.specs.declared.message.MsgState.TheVariants.{Waiting, Claimed, Answered, Faulted}
 use Rattle.st_law.specs.declared.input.Input.{Input}
 use Rattle.st_law.specs.State.{Message}
-use Rattle.st_workers.specs.Kept.{Agrees, AreKept, HasCome, IsLive, IsState, IsTurn, IsUntouched}
+use Rattle.st_workers.specs.Refinement.{AgreesWithMachine, RepresentsMachineMessages, HasMessageFlags, IsLive, IsState, IsTurn, IsUntouched}
 use Rattle.st_workers.specs.Laws.{ClosingIsNotKept}
 use Rattle.st_workers.specs.UnderWay.{found_in, Found, UnderWay}
 use Rattle.st_workers.specs.declared.turn.Turn.{Turn}
@@ -15,7 +15,7 @@ use Rattle.st_workers.specs.declared.turn.Turn.TheVariants.{Idle, Ready, Working
 abbrev with_closed : Bool → Message → Message
 with_closed closed message = record message { closed = closed }
 
-come_closed : (c : Bool) (m : Message) (claimed : Bool) (met : Option Errno) (answered : Bool) → HasCome m claimed met answered → HasCome (with_closed c m) claimed met answered
+come_closed : (c : Bool) (m : Message) (claimed : Bool) (met : Option Errno) (answered : Bool) → HasMessageFlags m claimed met answered → HasMessageFlags (with_closed c m) claimed met answered
 come_closed c m claimed met answered is = record { claimed = is.claimed; fault = is.fault; answered = is.answered }
 
 state_closed : (c : Bool) (turns : ℕ → Option ℕ) (q : ℕ) (m : Message) (state : MsgState) → IsState turns q m state → IsState turns q (with_closed c m) state
@@ -31,7 +31,7 @@ module _ (closed : ℕ → Bool) (messages : ℕ → Message) (turns : ℕ → O
   turn_closed o (Working q) is = is
   turn_closed o (Ready s) is = is
 
-  agrees_closed : (found : Found) → Agrees messages turns alive posted found → Agrees (λ q. with_closed (closed q) (messages q)) turns alive posted found
+  agrees_closed : (found : Found) → AgreesWithMachine messages turns alive posted found → AgreesWithMachine (λ q. with_closed (closed q) (messages q)) turns alive posted found
   agrees_closed found agrees = record {
     next = agrees.next;
     live = λ q is.
@@ -54,9 +54,9 @@ module _ (closed : ℕ → Bool) (messages : ℕ → Message) (turns : ℕ → O
     workers = λ w t is. turn_closed (turns w) t (agrees.workers w t is);
   }
 
-  kept_closed : (i : Input) (kept : UnderWay) → AreKept i messages turns alive posted kept → AreKept i (λ q. with_closed (closed q) (messages q)) turns alive posted kept
+  kept_closed : (i : Input) (kept : UnderWay) → RepresentsMachineMessages i messages turns alive posted kept → RepresentsMachineMessages i (λ q. with_closed (closed q) (messages q)) turns alive posted kept
   kept_closed i kept are = record { workers = are.workers; agrees = agrees_closed (found_in kept) are.agrees; verdicts = are.verdicts }
 
 pub closing_is_not_kept : ClosingIsNotKept
 closing_is_not_kept i messages after turns alive posted kept are same =
-    subst (λ (all : ℕ → Message). AreKept i all turns alive posted kept) (sym (λ k q. same q k)) (kept_closed (λ q. (after q).closed) messages turns alive posted i kept are)
+    subst (λ (all : ℕ → Message). RepresentsMachineMessages i all turns alive posted kept) (sym (λ k q. same q k)) (kept_closed (λ q. (after q).closed) messages turns alive posted i kept are)

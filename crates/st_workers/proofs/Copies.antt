@@ -9,41 +9,41 @@ use Rattle.st_calls.specs.Call.{follows}
 use Rattle.st_calls.specs.declared.argument.ArgSpec.{ArgSpec}
 use Rattle.st_calls.specs.declared.argument.ArgText.{ArgText}
 use Rattle.st_effects.specs.Progress.{ArgRequest, Progress, Word, Look, Stuck, Ready, progress, progress_from, with_arg}
-use Rattle.st_lookaside.specs.Head.{request_of}
+use Rattle.st_lookaside.specs.Head.{arg_request}
 use Rattle.st_lookaside.specs.Need.{progress_alone}
 use Rattle.st_lookaside.specs.Part.{Filled, nothing_filled, with_lookup, with_word}
-use Rattle.st_lookaside.specs.Slot.{Slot, part_at, progress_of, snapshot_with, with_part}
-use Rattle.st_lookaside.specs.Slots.{has_number, slot_at}
+use Rattle.st_lookaside.specs.Slot.{Slot, part_at, slot_progress, snapshot_with, with_part}
+use Rattle.st_lookaside.specs.Slots.{is_slot_of, slot_at}
 use Rattle.st_lookaside.proofs.Progress.{front_is, in_front}
 use Rattle.st_model.specs.Spelling.{Spelled, spell}
 use Rattle.st_names.specs.declared.seen.SeenText.{SeenText}
 use Rattle.st_law.specs.Messages.{Head}
 use Rattle.st_law.specs.State.{Message, progress_of_head, progress_of_message, snapshot_of_message, snapshot_of_progress}
 use Rattle.st_law.specs.State as law
-use Rattle.st_workers.specs.Kept.{head_of, IsSlotOf}
+use Rattle.st_workers.specs.Refinement.{head_of, IsSlotOf}
 
 -- ---- the slot of a number
 
-slot_number-by : (slot : Slot) (slots : List Slot) (seq : ℕ) (found : Slot) (b : Bool) → has_number seq slot ≡ b → cond b (Some slot) (slot_at slots seq) ≡ Some found → (slot_at slots seq ≡ Some found → found.head.seq ≡ seq) → found.head.seq ≡ seq
+slot_number-by : (slot : Slot) (slots : List Slot) (seq : ℕ) (found : Slot) (b : Bool) → is_slot_of seq slot ≡ b → cond b (Some slot) (slot_at slots seq) ≡ Some found → (slot_at slots seq ≡ Some found → found.head.seq ≡ seq) → found.head.seq ≡ seq
 slot_number-by slot slots seq found true b_is is more = ap (λ (s : Slot). s.head.seq) (sym (same_Some slot found is)) ∙ eqb-true slot.head.seq seq b_is
 slot_number-by slot slots seq found false b_is is more = more is
 
 -- a slot that is found has the number that it was looked for under
 pub slot_number : (slots : List Slot) (seq : ℕ) (found : Slot) → slot_at slots seq ≡ Some found → found.head.seq ≡ seq
 slot_number [] seq found is = absurd (none-some found is)
-slot_number (slot ∷ slots) seq found is = slot_number-by slot slots seq found (has_number seq slot) refl is (slot_number slots seq found)
+slot_number (slot ∷ slots) seq found is = slot_number-by slot slots seq found (is_slot_of seq slot) refl is (slot_number slots seq found)
 
 -- ---- the progress of a message
 
 module _ (message : Message) (tid : ℕ) (slot : Slot) (is : IsSlotOf message tid slot) where
   -- a slot has the same progress as its message
-  pub same_progress : progress_of_message message ≡ progress_of slot
+  pub same_progress : progress_of_message message ≡ slot_progress slot
   same_progress =
       ap (λ (o : Option Head). progress_of_head o message.words message.lookups) is.head
-      ∙ (λ k. progress (request_of slot.head) (λ j. is.words j k) (λ j. is.lookups j k))
+      ∙ (λ k. progress (arg_request slot.head) (λ j. is.words j k) (λ j. is.lookups j k))
 
   -- the sealed copies of a slot are the snapshot of its message
-  pub same_snapshot : (q : ℕ) (args : List ArgText) → slot.head.seq ≡ q → progress_of slot ≡ Ready args → snapshot_of_message q message ≡ Some (snapshot_with slot.head args)
+  pub same_snapshot : (q : ℕ) (args : List ArgText) → slot.head.seq ≡ q → slot_progress slot ≡ Ready args → snapshot_of_message q message ≡ Some (snapshot_with slot.head args)
   same_snapshot q args number ready =
       (λ k. snapshot_of_progress q (is.head k) ((same_progress ∙ ready) k))
       ∙ ap (λ (n : ℕ). Some (law.snapshot_with n (head_of tid slot.head) args)) (sym number)
@@ -80,8 +80,8 @@ below_from n j (spec ∷ specs) asked words lookups e =
     (below_front n j (progress_alone spec asked.cwd follow (lookups j) spelled) rest (omega (arith, e)) (below_from n (j + 1) specs asked words lookups (omega (arith, e))))
 
 -- the argument that a slot needs next is one of its own
-pub asked_inside : (slot : Slot) → length slot.parts ≡ length (args_of slot.head.rule) → IsBelow (length slot.parts) (progress_of slot)
-asked_inside slot count = below_from (length slot.parts) 0 (args_of slot.head.rule) (request_of slot.head) (λ j. (part_at slot.parts j).words) (λ j. (part_at slot.parts j).lookups) (omega (arith, count))
+pub asked_inside : (slot : Slot) → length slot.parts ≡ length (args_of slot.head.rule) → IsBelow (length slot.parts) (slot_progress slot)
+asked_inside slot count = below_from (length slot.parts) 0 (args_of slot.head.rule) (arg_request slot.head) (λ j. (part_at slot.parts j).words) (λ j. (part_at slot.parts j).lookups) (omega (arith, count))
 
 -- ---- one more word or look
 

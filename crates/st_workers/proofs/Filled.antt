@@ -2,7 +2,7 @@
 use Rattle.std.proofs.Common.{◌≡◌, ℕ, Bool, cond, List, Option, Some, None, inl, inr, refl, ap, sym, ◌∙◌, subst, IsSome, IfSome}
 use Rattle.std.proofs.lemmas.Bool.{cases_eq, eq-eqb, ne_eqb}
 use Rattle.std.proofs.lemmas.Option.{none-some, same_Some}
-use Rattle.st_lookaside.specs.Slot.{Slot, next_of, progress_of, IsInOrder, IsReady}
+use Rattle.st_lookaside.specs.Slot.{Slot, next_need, slot_progress, IsInOrder, HasAllArguments}
 use Rattle.st_lookaside.specs.Slots.{slot_at, ChangesSlot}
 use Rattle.st_lookaside.specs.declared.slot.Next.TheVariants as next
 use Rattle.st_lookaside.proofs.Callers.{ready_asked}
@@ -14,9 +14,9 @@ pub the_slot : {X : Type 0} (o : Option X) → IsSome o → (x : X) × (o ≡ So
 the_slot None is = cc
 the_slot (Some x) is = (x, refl)
 
-pub told : {X : Type 0} (o : Option X) (P : X → Type 0) (x : X) → o ≡ Some x → IfSome o P → P x
-told None P x is holds = absurd (none-some x is)
-told (Some y) P x is holds = subst P (same_Some y x is) holds
+pub known : {X : Type 0} (o : Option X) (P : X → Type 0) (x : X) → o ≡ Some x → IfSome o P → P x
+known None P x is holds = absurd (none-some x is)
+known (Some y) P x is holds = subst P (same_Some y x is) holds
 
 pub tells : {X : Type 0} (o : Option X) (P : X → Type 0) (x : X) → o ≡ Some x → P x → IfSome o P
 tells None P x is holds = absurd (none-some x is)
@@ -36,12 +36,12 @@ changed_to old new seq o changes = changes seq ∙ ap (λ (c : Bool). cond c o (
 
 -- if nothing more is needed after a change, the slot is complete
 pub ready_then : (old mid : List Slot) (seq : ℕ) (after : Slot → Slot) → IsSome (slot_at old seq) → IfSome (slot_at old seq) (λ slot. ChangesSlot old seq (Some (after slot)) mid)
-    → IfSome (slot_at old seq) (λ slot. next.Ready ≡ next_of (progress_of (after slot))) → IfSome (slot_at mid seq) (λ slot. IsReady (progress_of slot))
+    → IfSome (slot_at old seq) (λ slot. next.Ready ≡ next_need (slot_progress (after slot))) → IfSome (slot_at mid seq) (λ slot. HasAllArguments (slot_progress slot))
 ready_then old mid seq after there changes asks =
     let slot = the_slot (slot_at old seq) there in
-    let changed : ChangesSlot old seq (Some (after slot.0)) mid = told (slot_at old seq) (λ s. ChangesSlot old seq (Some (after s)) mid) slot.0 slot.1 changes in
-    tells (slot_at mid seq) (λ s. IsReady (progress_of s)) (after slot.0) (changed_to old mid seq (Some (after slot.0)) changed)
-    (ready_asked (progress_of (after slot.0)) (told (slot_at old seq) (λ s. next.Ready ≡ next_of (progress_of (after s))) slot.0 slot.1 asks))
+    let changed : ChangesSlot old seq (Some (after slot.0)) mid = known (slot_at old seq) (λ s. ChangesSlot old seq (Some (after s)) mid) slot.0 slot.1 changes in
+    tells (slot_at mid seq) (λ s. HasAllArguments (slot_progress s)) (after slot.0) (changed_to old mid seq (Some (after slot.0)) changed)
+    (ready_asked (slot_progress (after slot.0)) (known (slot_at old seq) (λ s. next.Ready ≡ next_need (slot_progress (after s))) slot.0 slot.1 asks))
 
 -- ---- a change is undone
 
@@ -60,6 +60,6 @@ pub undone : (old mid new : List Slot) (seq : ℕ) (after : Slot → Slot) (P : 
     → ((before : Slot) → IsInOrder before → P before → slot_at mid seq ≡ Some (after before) → ChangesSlot mid seq (Some before) new) → AreSame old new
 undone old mid new seq after P there order next changes back =
     let slot = the_slot (slot_at old seq) there in
-    let first : ChangesSlot old seq (Some (after slot.0)) mid = told (slot_at old seq) (λ s. ChangesSlot old seq (Some (after s)) mid) slot.0 slot.1 changes in
+    let first : ChangesSlot old seq (Some (after slot.0)) mid = known (slot_at old seq) (λ s. ChangesSlot old seq (Some (after s)) mid) slot.0 slot.1 changes in
     put_back old mid new seq slot.0 (after slot.0) slot.1 first
-    (back slot.0 (told (slot_at old seq) IsInOrder slot.0 slot.1 order) (told (slot_at old seq) P slot.0 slot.1 next) (changed_to old mid seq (Some (after slot.0)) first))
+    (back slot.0 (known (slot_at old seq) IsInOrder slot.0 slot.1 order) (known (slot_at old seq) P slot.0 slot.1 next) (changed_to old mid seq (Some (after slot.0)) first))

@@ -16,14 +16,14 @@ use Rattle.st_lookaside.specs.Slots.{slot_at, ChangesSlot}
 use Rattle.st_lookaside.specs.declared.head.Head as kept
 use Rattle.st_messages.specs.declared.message.Message as message
 use Rattle.st_messages.specs.declared.message.MsgState.TheVariants.{Waiting, Answered}
-use Rattle.st_messages.specs.Messages.{HeldCalls, calls_after_post, state_at, thread_at, ChangesState}
+use Rattle.st_messages.specs.Messages.{HeldCalls, calls_after_post, message_state, thread_of_number, ChangesState}
 use Rattle.st_messages.proofs.Lookups.{found_other}
 use Rattle.st_trace.specs.declared.entry.Entry.TheVariants as entry
 use Rattle.st_trace.specs.declared.entry.Way.TheVariants.{Held}
 use Rattle.st_law.specs.declared.input.Input.{Input}
 use Rattle.st_law.specs.Messages.{Head, new_head}
 use Rattle.st_law.specs.State.{Message, State}
-use Rattle.st_workers.specs.Kept.{head_of, Agrees, ChangesLife, IsKept, IsKeptAfter, IsSlotOf, IsUntouched, IsWhole}
+use Rattle.st_workers.specs.Refinement.{head_of, AgreesWithMachine, ChangesLife, RepresentsMessages, RepresentsMessagesAfter, IsSlotOf, IsUntouched, AreValidWorkers}
 use Rattle.st_workers.specs.UnderWay.{Found, UnderWay, found_in}
 use Rattle.st_workers.specs.declared.turn.Turn.{Turn}
 use Rattle.st_workers.proofs.Changed.{changed}
@@ -57,7 +57,7 @@ head_other head p messages q ne =
     let m : Message = messages q in
     λ k. record { head = cond (e k) (Some head) m.head; claimed = m.claimed; words = m.words; lookups = m.lookups; fault = m.fault; answered = m.answered; closed = m.closed }
 
-pub thread_other : (calls : HeldCalls) (tid other : ℕ) → other ≢ calls.next → thread_at (calls_after_post calls tid) other ≡ thread_at calls other
+pub thread_other : (calls : HeldCalls) (tid other : ℕ) → other ≢ calls.next → thread_of_number (calls_after_post calls tid) other ≡ thread_of_number calls other
 thread_other calls tid other ne = ap (option_map (λ (m : message.Message). m.tid)) (found_other calls.live calls.next tid other ne)
 
 -- a number that is posted is found, and each other is unchanged
@@ -72,7 +72,7 @@ pub record IsPosted (old new : Found) (p tid : ℕ) (head : kept.Head) : Type 0 
   pub turn : (w : ℕ) → new.turn w ≡ old.turn w
 
 module _ (old new : Found) (p tid : ℕ) (head : kept.Head) (is_posted : IsPosted old new p tid head) (messages : ℕ → Message) (turns : ℕ → Option ℕ) (alive later : ℕ → Bool) (posted : ℕ)
-    (agrees : Agrees messages turns alive posted old) (next_is : old.next ≡ p) (lives : ChangesLife alive p true later) where
+    (agrees : AgreesWithMachine messages turns alive posted old) (next_is : old.next ≡ p) (lives : ChangesLife alive p true later) where
   is_next : p ≡ suc posted
   is_next = sym next_is ∙ agrees.next
 
@@ -86,7 +86,7 @@ module _ (old new : Found) (p tid : ℕ) (head : kept.Head) (is_posted : IsPoste
   untouched_now = record { come = record { claimed = untouched.come.claimed; fault = untouched.come.fault; answered = untouched.come.answered }; words = untouched.words; lookups = untouched.lookups }
 
   -- what is found agrees after a call is posted
-  pub posted_agrees : Agrees (with_head (head_of tid head) p messages) turns later (suc posted) new
+  pub posted_agrees : AgreesWithMachine (with_head (head_of tid head) p messages) turns later (suc posted) new
   posted_agrees = changed messages (with_head (head_of tid head) p messages) turns turns alive later posted (suc posted) p 0 old new agrees (record {
     others = head_other (head_of tid head) p messages;
     lives = λ q ne. lives q ∙ ap (λ (b : Bool). cond b true (alive q)) (ne_eqb q p ne);
@@ -120,24 +120,24 @@ module _ (old new : Found) (p tid : ℕ) (head : kept.Head) (is_posted : IsPoste
 pub not_answer : (v : Verdict) → Waiting ≡ Answered v → ⊥
 not_answer v e = cc
 
-module _ (old new : UnderWay) (tid : ℕ) (head : kept.Head) (calls : new.calls ≡ calls_after_post old.calls tid) (thread : thread_at new.calls old.calls.next ≡ Some tid)
+module _ (old new : UnderWay) (tid : ℕ) (head : kept.Head) (calls : new.calls ≡ calls_after_post old.calls tid) (thread : thread_of_number new.calls old.calls.next ≡ Some tid)
     (states : ChangesState old.calls old.calls.next (Some Waiting) new.calls) (slots : ChangesSlot old.slots old.calls.next (Some (new_slot head)) new.slots) (turns_same : new.turns ≡ old.turns) where
-  states_now : (q : ℕ) → q ≢ old.calls.next → state_at new.calls q ≡ state_at old.calls q
-  states_now q ne = states q ∙ ap (λ (b : Bool). cond b (Some Waiting) (state_at old.calls q)) (ne_eqb q old.calls.next ne)
+  states_now : (q : ℕ) → q ≢ old.calls.next → message_state new.calls q ≡ message_state old.calls q
+  states_now q ne = states q ∙ ap (λ (b : Bool). cond b (Some Waiting) (message_state old.calls q)) (ne_eqb q old.calls.next ne)
 
-  state_now : state_at new.calls old.calls.next ≡ Some Waiting
-  state_now = states old.calls.next ∙ ap (λ (b : Bool). cond b (Some Waiting) (state_at old.calls old.calls.next)) (eq-eqb old.calls.next old.calls.next refl)
+  state_now : message_state new.calls old.calls.next ≡ Some Waiting
+  state_now = states old.calls.next ∙ ap (λ (b : Bool). cond b (Some Waiting) (message_state old.calls old.calls.next)) (eq-eqb old.calls.next old.calls.next refl)
 
   found_posted : (p : ℕ) → old.calls.next ≡ p → IsPosted (found_in old) (found_in new) p tid head
   found_posted p next_is =
       let apart : (q : ℕ) → q ≢ p → q ≢ old.calls.next = λ q ne e. ne (e ∙ next_is) in
       record {
         next = ap (λ (c : HeldCalls). c.next) calls;
-        state = ap (state_at new.calls) (sym next_is) ∙ state_now;
-        thread = ap (thread_at new.calls) (sym next_is) ∙ thread;
+        state = ap (message_state new.calls) (sym next_is) ∙ state_now;
+        thread = ap (thread_of_number new.calls) (sym next_is) ∙ thread;
         slot = ap (slot_at new.slots) (sym next_is) ∙ slots old.calls.next ∙ ap (λ (b : Bool). cond b (Some (new_slot head)) (slot_at old.slots old.calls.next)) (eq-eqb old.calls.next old.calls.next refl);
         states = λ q ne. states_now q (apart q ne);
-        threads = λ q ne. ap (λ (c : HeldCalls). thread_at c q) calls ∙ thread_other old.calls tid q (apart q ne);
+        threads = λ q ne. ap (λ (c : HeldCalls). thread_of_number c q) calls ∙ thread_other old.calls tid q (apart q ne);
         slots = λ q ne. slots q ∙ ap (λ (b : Bool). cond b (Some (new_slot head)) (slot_at old.slots q)) (ne_eqb q old.calls.next (apart q ne));
         turn = λ v. ap (λ (ts : List Turn). item_at_number ts v) turns_same;
       }
@@ -146,7 +146,7 @@ module _ (old new : UnderWay) (tid : ℕ) (head : kept.Head) (calls : new.calls 
   workers_now = ap (λ (c : HeldCalls). c.workers) calls
 
   -- the messages and workers stay whole
-  pub posted_whole : IsWhole old → IsWhole new
+  pub posted_whole : AreValidWorkers old → AreValidWorkers new
   posted_whole whole = record {
     count = ap (λ (ts : List Turn). length ts) turns_same ∙ whole.count ∙ sym workers_now;
     messages = with_head (head_of tid head) old.calls.next whole.messages;
@@ -157,15 +157,15 @@ module _ (old new : UnderWay) (tid : ℕ) (head : kept.Head) (calls : new.calls 
   }
 
   -- the messages and workers represent the state after the entry
-  pub posted_kept : (i : Input) (st : State) (alive later : ℕ → Bool) (call : SysCall) (regs : List ℕ) → IsKept i st alive old → head_of tid head ≡ new_head i tid (st.threads tid).owner (st.processes (st.threads tid).owner) call regs
-      → ChangesLife alive (suc st.posted) true later → IsKeptAfter i st (entry.Entered tid call regs (Held (suc st.posted))) later new
+  pub posted_kept : (i : Input) (st : State) (alive later : ℕ → Bool) (call : SysCall) (regs : List ℕ) → RepresentsMessages i st alive old → head_of tid head ≡ new_head i tid (st.threads tid).owner (st.processes (st.threads tid).owner) call regs
+      → ChangesLife alive (suc st.posted) true later → RepresentsMessagesAfter i st (entry.Entered tid call regs (Held (suc st.posted))) later new
   posted_kept i st alive later call regs kept head_is lives =
       let its : Head = new_head i tid (st.threads tid).owner (st.processes (st.threads tid).owner) call regs in
       record {
         workers = workers_now ∙ kept.workers;
-        agrees = subst (λ (h : Head). Agrees (with_head h (suc st.posted) st.messages) st.turns later (suc st.posted) (found_in new)) head_is
+        agrees = subst (λ (h : Head). AgreesWithMachine (with_head h (suc st.posted) st.messages) st.turns later (suc st.posted) (found_in new)) head_is
             (posted_agrees (found_in old) (found_in new) (suc st.posted) tid head (found_posted (suc st.posted) kept.agrees.next) st.messages st.turns alive later st.posted kept.agrees kept.agrees.next lives);
         verdicts = verdicts_kept i st.messages (with_head its (suc st.posted) st.messages) old.calls new.calls (suc st.posted) (head_other its (suc st.posted) st.messages)
             (λ q ne. states_now q (λ e. ne (e ∙ kept.agrees.next)))
-            (λ v s is copies. absurd (not_answer v (same_Some Waiting (Answered v) (sym (ap (state_at new.calls) (sym kept.agrees.next) ∙ state_now) ∙ is)))) kept.verdicts;
+            (λ v s is copies. absurd (not_answer v (same_Some Waiting (Answered v) (sym (ap (message_state new.calls) (sym kept.agrees.next) ∙ state_now) ∙ is)))) kept.verdicts;
       }

@@ -11,18 +11,18 @@ use Rattle.st_lookaside.specs.Slots.{slot_at, RenewsSlot}
 use Rattle.st_lookaside.specs.declared.head.Head as kept
 use Rattle.st_messages.specs.declared.message.Message as message
 use Rattle.st_messages.specs.declared.message.MsgState.TheVariants.{Waiting, Answered}
-use Rattle.st_messages.specs.Messages.{calls_after_cancel, calls_after_post, calls_after_renew, calls_after_renew_of, is_live, message_at, state_at, thread_at, HeldCalls, RenewsState}
+use Rattle.st_messages.specs.Messages.{calls_after_cancel, calls_after_post, calls_after_renew, calls_after_renew_of, is_live_number, message_of_number, message_state, thread_of_number, HeldCalls, RenewsState}
 use Rattle.st_messages.proofs.Whole.{threads_cancelled}
 use Rattle.st_model.specs.Process.{Process}
 use Rattle.st_names.specs.Name.{Components}
 use Rattle.st_law.specs.declared.input.Input.{Input}
 use Rattle.st_law.specs.Messages.{renewed_head, Head}
 use Rattle.st_law.specs.State.{snapshot_of_message, Message}
-use Rattle.st_workers.specs.Kept.{head_of, messages_renewed, Agrees, AreKept, IsLive, IsWhole, RenewsLife}
+use Rattle.st_workers.specs.Refinement.{head_of, messages_renewed, AgreesWithMachine, RepresentsMachineMessages, IsLive, AreValidWorkers, RenewsLife}
 use Rattle.st_workers.specs.Leaving.{HasLeft}
 use Rattle.st_workers.specs.UnderWay.{found_in, Found, UnderWay}
 use Rattle.st_workers.proofs.Cancels.{ended_agrees, live_message, live_there, without_live, IsEnded}
-use Rattle.st_workers.proofs.Filled.{told}
+use Rattle.st_workers.proofs.Filled.{known}
 use Rattle.st_workers.proofs.Posts.{head_other, not_answer, posted_agrees, thread_other, with_head, with_live, IsPosted}
 
 -- what is found after a number has ended, with these turns
@@ -35,30 +35,30 @@ found_without old p new = record {
   turn = new.turn;
 }
 
-renewed_calls : (calls : HeldCalls) (p : ℕ) (m : message.Message) → message_at calls p ≡ Some m → calls_after_renew calls p ≡ calls_after_post (calls_after_cancel calls p) m.tid
+renewed_calls : (calls : HeldCalls) (p : ℕ) (m : message.Message) → message_of_number calls p ≡ Some m → calls_after_renew calls p ≡ calls_after_post (calls_after_cancel calls p) m.tid
 renewed_calls calls p m is = ap (calls_after_renew_of calls p) is
 
 -- a head under another number, with these ids and this directory
 abbrev pub fresh_head : kept.Head → ℕ → Ids → Components → kept.Head
 fresh_head head seq ids cwd = record head { seq = seq; ids = ids; cwd = cwd }
 
-module _ (old new : UnderWay) (p : ℕ) (ids : Ids) (cwd : Components) (here : is_live old.calls p ≡ true) (calls : new.calls ≡ calls_after_renew old.calls p) (thread : thread_at new.calls old.calls.next ≡ thread_at old.calls p)
+module _ (old new : UnderWay) (p : ℕ) (ids : Ids) (cwd : Components) (here : is_live_number old.calls p ≡ true) (calls : new.calls ≡ calls_after_renew old.calls p) (thread : thread_of_number new.calls old.calls.next ≡ thread_of_number old.calls p)
     (states : RenewsState old.calls p old.calls.next new.calls) (slots : IfSome (slot_at old.slots p) (λ slot. RenewsSlot old.slots p old.calls.next (renewed slot old.calls.next ids cwd) new.slots))
-    (turns_left : HasLeft old.turns (state_at old.calls p) new.turns) (count : length new.turns ≡ length old.turns) where
-  message_there : (m : message.Message) × (message_at old.calls p ≡ Some m)
+    (turns_left : HasLeft old.turns (message_state old.calls p) new.turns) (count : length new.turns ≡ length old.turns) where
+  message_there : (m : message.Message) × (message_of_number old.calls p ≡ Some m)
   message_there = live_message old.calls p here
 
   calls_are : new.calls ≡ calls_after_post (calls_after_cancel old.calls p) message_there.0.tid
   calls_are = calls ∙ renewed_calls old.calls p message_there.0 message_there.1
 
-  threads_now : (q : ℕ) → q ≢ old.calls.next → thread_at new.calls q ≡ cond (q == p) None (thread_at old.calls q)
-  threads_now q ne = ap (λ (c : HeldCalls). thread_at c q) calls_are ∙ thread_other (calls_after_cancel old.calls p) message_there.0.tid q ne ∙ threads_cancelled old.calls p q
+  threads_now : (q : ℕ) → q ≢ old.calls.next → thread_of_number new.calls q ≡ cond (q == p) None (thread_of_number old.calls q)
+  threads_now q ne = ap (λ (c : HeldCalls). thread_of_number c q) calls_are ∙ thread_other (calls_after_cancel old.calls p) message_there.0.tid q ne ∙ threads_cancelled old.calls p q
 
-  states_now : (q : ℕ) → q ≢ old.calls.next → state_at new.calls q ≡ cond (q == p) None (state_at old.calls q)
-  states_now q ne = states q ∙ ap (λ (b : Bool). cond b (Some Waiting) (cond (q == p) None (state_at old.calls q))) (ne_eqb q old.calls.next ne)
+  states_now : (q : ℕ) → q ≢ old.calls.next → message_state new.calls q ≡ cond (q == p) None (message_state old.calls q)
+  states_now q ne = states q ∙ ap (λ (b : Bool). cond b (Some Waiting) (cond (q == p) None (message_state old.calls q))) (ne_eqb q old.calls.next ne)
 
-  state_now : state_at new.calls old.calls.next ≡ Some Waiting
-  state_now = states old.calls.next ∙ ap (λ (b : Bool). cond b (Some Waiting) (cond (old.calls.next == p) None (state_at old.calls old.calls.next))) (eq-eqb old.calls.next old.calls.next refl)
+  state_now : message_state new.calls old.calls.next ≡ Some Waiting
+  state_now = states old.calls.next ∙ ap (λ (b : Bool). cond b (Some Waiting) (cond (old.calls.next == p) None (message_state old.calls old.calls.next))) (eq-eqb old.calls.next old.calls.next refl)
 
   ended : IsEnded (found_in old) (found_without (found_in old) p (found_in new)) p
   ended =
@@ -66,17 +66,17 @@ module _ (old new : UnderWay) (p : ℕ) (ids : Ids) (cwd : Components) (here : i
       record {
         next = refl;
         dead = record {
-          state = ap (λ (b : Bool). cond b None (state_at old.calls p)) same;
-          thread = ap (λ (b : Bool). cond b None (thread_at old.calls p)) same;
+          state = ap (λ (b : Bool). cond b None (message_state old.calls p)) same;
+          thread = ap (λ (b : Bool). cond b None (thread_of_number old.calls p)) same;
           slot = ap (λ (b : Bool). cond b None (slot_at old.slots p)) same;
         };
-        states = λ q ne. ap (λ (b : Bool). cond b None (state_at old.calls q)) (ne_eqb q p ne);
-        threads = λ q ne. ap (λ (b : Bool). cond b None (thread_at old.calls q)) (ne_eqb q p ne);
+        states = λ q ne. ap (λ (b : Bool). cond b None (message_state old.calls q)) (ne_eqb q p ne);
+        threads = λ q ne. ap (λ (b : Bool). cond b None (thread_of_number old.calls q)) (ne_eqb q p ne);
         slots = λ q ne. ap (λ (b : Bool). cond b None (slot_at old.slots q)) (ne_eqb q p ne);
         turn = turns_left;
       }
 
-  module _ (messages : ℕ → Message) (turns : ℕ → Option ℕ) (alive : ℕ → Bool) (posted : ℕ) (agrees : Agrees messages turns alive posted (found_in old)) where
+  module _ (messages : ℕ → Message) (turns : ℕ → Option ℕ) (alive : ℕ → Bool) (posted : ℕ) (agrees : AgreesWithMachine messages turns alive posted (found_in old)) where
     live : alive p ≡ true
     live = live_there messages turns alive posted old agrees p here
 
@@ -84,7 +84,7 @@ module _ (old new : UnderWay) (p : ℕ) (ids : Ids) (cwd : Components) (here : i
     was = agrees.live p live
 
     slots_are : RenewsSlot old.slots p old.calls.next (renewed was.slot old.calls.next ids cwd) new.slots
-    slots_are = told (slot_at old.slots p) (λ s. RenewsSlot old.slots p old.calls.next (renewed s old.calls.next ids cwd) new.slots) was.slot was.slot_is slots
+    slots_are = known (slot_at old.slots p) (λ s. RenewsSlot old.slots p old.calls.next (renewed s old.calls.next ids cwd) new.slots) was.slot was.slot_is slots
 
     is_posted : IsPosted (found_without (found_in old) p (found_in new)) (found_in new) old.calls.next was.tid (fresh_head was.slot.head old.calls.next ids cwd)
     is_posted =
@@ -100,7 +100,7 @@ module _ (old new : UnderWay) (p : ℕ) (ids : Ids) (cwd : Components) (here : i
           turn = λ w. refl;
         }
 
-    pub renewed_agrees : (later : ℕ → Bool) → RenewsLife alive p old.calls.next later → Agrees (with_head (head_of was.tid (fresh_head was.slot.head old.calls.next ids cwd)) old.calls.next messages) turns later (suc posted) (found_in new)
+    pub renewed_agrees : (later : ℕ → Bool) → RenewsLife alive p old.calls.next later → AgreesWithMachine (with_head (head_of was.tid (fresh_head was.slot.head old.calls.next ids cwd)) old.calls.next messages) turns later (suc posted) (found_in new)
     renewed_agrees later lives =
         posted_agrees (found_without (found_in old) p (found_in new)) (found_in new) old.calls.next was.tid (fresh_head was.slot.head old.calls.next ids cwd) is_posted messages turns (without_live p alive) later posted
         (ended_agrees (found_in old) (found_without (found_in old) p (found_in new)) p ended messages turns alive (without_live p alive) posted agrees live (λ other. refl)) refl lives
@@ -118,7 +118,7 @@ module _ (old new : UnderWay) (p : ℕ) (ids : Ids) (cwd : Components) (here : i
   workers_now = ap (λ (c : HeldCalls). c.workers) calls_are
 
   -- the messages and workers stay whole
-  pub renewed_whole : IsWhole old → IsWhole new
+  pub renewed_whole : AreValidWorkers old → AreValidWorkers new
   renewed_whole whole =
       let its : IsLive whole.turns p (whole.messages p) (found_in old) = was whole.messages whole.turns whole.alive whole.posted whole.agrees in
       record {
@@ -130,25 +130,25 @@ module _ (old new : UnderWay) (p : ℕ) (ids : Ids) (cwd : Components) (here : i
         agrees = renewed_agrees whole.messages whole.turns whole.alive whole.posted whole.agrees (with_live old.calls.next (without_live p whole.alive)) (λ other. refl);
       }
 
-  answered_before : (q : ℕ) (v : Verdict) → q ≢ old.calls.next → state_at new.calls q ≡ Some (Answered v) → state_at old.calls q ≡ Some (Answered v)
+  answered_before : (q : ℕ) (v : Verdict) → q ≢ old.calls.next → message_state new.calls q ≡ Some (Answered v) → message_state old.calls q ≡ Some (Answered v)
   answered_before q v ne is = by (q == p) (sym (states_now q ne) ∙ is) where
-    by : (b : Bool) → cond b None (state_at old.calls q) ≡ Some (Answered v) → state_at old.calls q ≡ Some (Answered v)
+    by : (b : Bool) → cond b None (message_state old.calls q) ≡ Some (Answered v) → message_state old.calls q ≡ Some (Answered v)
     by true e = absurd (none-some (Answered v) e)
     by false e = e
 
   -- the messages and workers represent the state after the renewal
-  pub renewed_kept : (i : Input) (messages : ℕ → Message) (turns : ℕ → Option ℕ) (alive later : ℕ → Bool) (posted : ℕ) (process : Process) → AreKept i messages turns alive posted old → process.ids ≡ ids → process.cwd ≡ cwd
-      → RenewsLife alive p (suc posted) later → AreKept i (messages_renewed process p (suc posted) messages) turns later (suc posted) new
+  pub renewed_kept : (i : Input) (messages : ℕ → Message) (turns : ℕ → Option ℕ) (alive later : ℕ → Bool) (posted : ℕ) (process : Process) → RepresentsMachineMessages i messages turns alive posted old → process.ids ≡ ids → process.cwd ≡ cwd
+      → RenewsLife alive p (suc posted) later → RepresentsMachineMessages i (messages_renewed process p (suc posted) messages) turns later (suc posted) new
   renewed_kept i messages turns alive later posted process kept ids_is cwd_is lives =
       let its : IsLive turns p (messages p) (found_in old) = was messages turns alive posted kept.agrees in
       let head : Head = head_of its.tid (fresh_head its.slot.head old.calls.next ids cwd) in
       let lives_next : RenewsLife alive p old.calls.next later = subst (λ (n : ℕ). RenewsLife alive p n later) (sym kept.agrees.next) lives in
-      subst (λ (n : ℕ). AreKept i (messages_renewed process p n messages) turns later (suc posted) new) kept.agrees.next
-      (subst (λ (all : ℕ → Message). AreKept i all turns later (suc posted) new) (messages_are messages turns alive posted kept.agrees process ids_is cwd_is) (record {
+      subst (λ (n : ℕ). RepresentsMachineMessages i (messages_renewed process p n messages) turns later (suc posted) new) kept.agrees.next
+      (subst (λ (all : ℕ → Message). RepresentsMachineMessages i all turns later (suc posted) new) (messages_are messages turns alive posted kept.agrees process ids_is cwd_is) (record {
         workers = workers_now ∙ kept.workers;
         agrees = renewed_agrees messages turns alive posted kept.agrees later lives_next;
         verdicts = λ q v s is copies. elim (cases_eq q old.calls.next) [
-          | inl e ↦ absurd (not_answer v (same_Some Waiting (Answered v) (sym (ap (state_at new.calls) e ∙ state_now) ∙ is)))
+          | inl e ↦ absurd (not_answer v (same_Some Waiting (Answered v) (sym (ap (message_state new.calls) e ∙ state_now) ∙ is)))
           | inr ne ↦ kept.verdicts q v s (answered_before q v ne is) (ap (snapshot_of_message q) (sym (head_other head old.calls.next messages q ne)) ∙ copies)
         ];
       }))

@@ -4,9 +4,9 @@ use Rattle.std.proofs.lemmas.Bool.{eqb-true}
 use Rattle.st_base.specs.Numbered.{item_at_number}
 use Rattle.st_lookaside.specs.Slot.{Slot}
 use Rattle.st_lookaside.specs.Slots.{slot_at, ChangesSlot}
-use Rattle.st_messages.specs.Messages.{HeldCalls, state_at, thread_at}
+use Rattle.st_messages.specs.Messages.{HeldCalls, message_state, thread_of_number}
 use Rattle.st_workers.specs.Filling.{AreSame}
-use Rattle.st_workers.specs.Kept.{IsWhole, Stands}
+use Rattle.st_workers.specs.Refinement.{AreValidWorkers, SameWorkersState}
 use Rattle.st_workers.specs.UnderWay.{UnderWay, found_in}
 use Rattle.st_workers.specs.declared.turn.Turn.{Turn}
 use Rattle.st_workers.proofs.Changed.{unchanged, IsSame}
@@ -16,20 +16,20 @@ module _ (old new : UnderWay) (calls : new.calls ≡ old.calls) (slots : AreSame
   is_same : IsSame (found_in old) (found_in new)
   is_same = record {
     next = ap (λ (c : HeldCalls). c.next) calls;
-    state = λ q. ap (λ (c : HeldCalls). state_at c q) calls;
-    thread = λ q. ap (λ (c : HeldCalls). thread_at c q) calls;
+    state = λ q. ap (λ (c : HeldCalls). message_state c q) calls;
+    thread = λ q. ap (λ (c : HeldCalls). thread_of_number c q) calls;
     slot = slots;
     turn = λ w. ap (λ (ts : List Turn). item_at_number ts w) turns_same;
   }
 
-  pub stands_by : Stands old new
+  pub stands_by : SameWorkersState old new
   stands_by i messages turns alive posted is = record {
     workers = ap (λ (c : HeldCalls). c.workers) calls ∙ is.workers;
     agrees = unchanged messages turns alive posted (found_in old) (found_in new) is_same is.agrees;
-    verdicts = λ q v s answered copies. is.verdicts q v s (sym (ap (λ (c : HeldCalls). state_at c q) calls) ∙ answered) copies;
+    verdicts = λ q v s answered copies. is.verdicts q v s (sym (ap (λ (c : HeldCalls). message_state c q) calls) ∙ answered) copies;
   }
 
-  pub whole_by : IsWhole old → IsWhole new
+  pub whole_by : AreValidWorkers old → AreValidWorkers new
   whole_by whole = record {
     count = ap (λ (ts : List Turn). length ts) turns_same ∙ whole.count ∙ sym (ap (λ (c : HeldCalls). c.workers) calls);
     messages = whole.messages;
@@ -41,12 +41,12 @@ module _ (old new : UnderWay) (calls : new.calls ≡ old.calls) (slots : AreSame
 
 -- ---- a slot that was begun has ended again
 
-next_free-by : (kept : UnderWay) (whole : IsWhole kept) (b : Bool) → whole.alive kept.calls.next ≡ b → slot_at kept.slots kept.calls.next ≡ None
+next_free-by : (kept : UnderWay) (whole : AreValidWorkers kept) (b : Bool) → whole.alive kept.calls.next ≡ b → slot_at kept.slots kept.calls.next ≡ None
 next_free-by kept whole true is = absurd (let given = whole.agrees.given kept.calls.next is in let next = whole.agrees.next in omega (arith, given.1, next))
 next_free-by kept whole false is = (whole.agrees.dead kept.calls.next is).slot
 
 -- the next number has no slot
-pub next_free : (kept : UnderWay) → IsWhole kept → slot_at kept.slots kept.calls.next ≡ None
+pub next_free : (kept : UnderWay) → AreValidWorkers kept → slot_at kept.slots kept.calls.next ≡ None
 next_free kept whole = next_free-by kept whole (whole.alive kept.calls.next) refl
 
 none_still : (old : List Slot) (seq other : ℕ) (b : Bool) → (other == seq) ≡ b → slot_at old seq ≡ None → cond b None (slot_at old other) ≡ slot_at old other

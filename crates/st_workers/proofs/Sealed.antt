@@ -3,42 +3,42 @@ use Rattle.std.proofs.Common.{◌≡◌, ◌∙◌, ℕ, true, IfOk, IfSome, Opt
 use Rattle.std.proofs.lemmas.Option.{same_Some}
 use Rattle.st_calls.specs.declared.judged.Snapshot.{Snapshot}
 use Rattle.st_effects.specs.Progress.{Ready as Whole}
-use Rattle.st_lookaside.specs.Slot.{progress_of, snapshot_with, Slot}
+use Rattle.st_lookaside.specs.Slot.{slot_progress, snapshot_with, Slot}
 use Rattle.st_lookaside.specs.Slots.{slot_at}
 use Rattle.st_messages.specs.declared.message.MsgState.{MsgState}
 use Rattle.st_messages.specs.declared.message.MsgState.TheVariants.{Waiting, Claimed, Answered, Faulted}
-use Rattle.st_messages.specs.Messages.{state_at}
+use Rattle.st_messages.specs.Messages.{message_state}
 use Rattle.st_law.specs.State.{is_live, snapshot_in, State}
 use Rattle.st_law.specs.declared.input.Input.{Input}
-use Rattle.st_workers.specs.Kept.{IsAnswered, IsKept, IsLive, IsSlotOf, IsWhole}
+use Rattle.st_workers.specs.Refinement.{HasAnswer, RepresentsMessages, IsLive, IsSlotOf, AreValidWorkers}
 use Rattle.st_workers.specs.UnderWay.{found_in, UnderWay}
 use Rattle.st_workers.proofs.Claims.{live_by_state}
 use Rattle.st_workers.proofs.Copies.{same_snapshot, slot_number}
-use Rattle.st_workers.proofs.Filled.{told}
+use Rattle.st_workers.proofs.Filled.{known}
 use Rattle.st_workers.proofs.Tasks.{state_slot}
 
 pub both_ok : {A E : Type 0} (r : Result A E) (P Q R : A → Type 0) → ((x : A) → P x → Q x → R x) → IfOk r P → IfOk r Q → IfOk r R
 both_ok (Ok x) P Q R f p q = f x p q
 both_ok (Err e) P Q R f p q = p
 
-answered_state : (o : Option MsgState) → IsAnswered o → (state : MsgState) × (o ≡ Some state)
+answered_state : (o : Option MsgState) → HasAnswer o → (state : MsgState) × (o ≡ Some state)
 answered_state (Some (Answered v)) is = (Answered v, refl)
 answered_state (Some Waiting) is = absurd is
 answered_state (Some (Claimed w)) is = absurd is
 answered_state (Some (Faulted errno)) is = absurd is
 answered_state None is = absurd is
 
-module _ (kept : UnderWay) (seq : ℕ) (s : Snapshot) (args : IfSome (slot_at kept.slots seq) (λ slot. progress_of slot ≡ Whole s.parts)) (head : IfSome (slot_at kept.slots seq) (λ slot. s ≡ snapshot_with slot.head s.parts)) where
-  sealed_by : (slot : Slot) → slot_at kept.slots seq ≡ Some slot → (i : Input) (st : State) → IsKept i st (is_live st) kept → is_live st seq ≡ true → snapshot_in st seq ≡ Some s
+module _ (kept : UnderWay) (seq : ℕ) (s : Snapshot) (args : IfSome (slot_at kept.slots seq) (λ slot. slot_progress slot ≡ Whole s.parts)) (head : IfSome (slot_at kept.slots seq) (λ slot. s ≡ snapshot_with slot.head s.parts)) where
+  sealed_by : (slot : Slot) → slot_at kept.slots seq ≡ Some slot → (i : Input) (st : State) → RepresentsMessages i st (is_live st) kept → is_live st seq ≡ true → snapshot_in st seq ≡ Some s
   sealed_by slot there i st is live =
       let was : IsLive st.turns seq (st.messages seq) (found_in kept) = is.agrees.live seq live in
       let same : was.slot ≡ slot = same_Some was.slot slot (sym was.slot_is ∙ there) in
-      let ready : progress_of slot ≡ Whole s.parts = told (slot_at kept.slots seq) (λ x. progress_of x ≡ Whole s.parts) slot there args in
-      let sealed : s ≡ snapshot_with slot.head s.parts = told (slot_at kept.slots seq) (λ x. s ≡ snapshot_with x.head s.parts) slot there head in
+      let ready : slot_progress slot ≡ Whole s.parts = known (slot_at kept.slots seq) (λ x. slot_progress x ≡ Whole s.parts) slot there args in
+      let sealed : s ≡ snapshot_with slot.head s.parts = known (slot_at kept.slots seq) (λ x. s ≡ snapshot_with x.head s.parts) slot there head in
       same_snapshot (st.messages seq) was.tid slot (subst (IsSlotOf (st.messages seq) was.tid) same was.is_slot) seq s.parts (slot_number kept.slots seq slot there) ready ∙ ap Some (sym sealed)
 
-  pub sealed_is : IsWhole kept → IsAnswered (state_at kept.calls seq) → (i : Input) (st : State) → IsKept i st (is_live st) kept → snapshot_in st seq ≡ Some s
+  pub sealed_is : AreValidWorkers kept → HasAnswer (message_state kept.calls seq) → (i : Input) (st : State) → RepresentsMessages i st (is_live st) kept → snapshot_in st seq ≡ Some s
   sealed_is whole answered i st is =
-      let state = answered_state (state_at kept.calls seq) answered in
+      let state = answered_state (message_state kept.calls seq) answered in
       let slot = state_slot kept whole seq state.0 state.1 in
       sealed_by slot.0 slot.1 i st is (live_by_state st.messages st.turns (is_live st) st.posted (found_in kept) is.agrees seq state.0 state.1 (is_live st seq) refl)

@@ -6,10 +6,10 @@ use Rattle.std.proofs.lemmas.Option.{same_Some}
 use Rattle.st_calls.specs.declared.judged.Verdict.{Verdict}
 use Rattle.st_effects.specs.Progress.{Look, Progress, Word}
 use Rattle.st_lookaside.specs.Part.{with_lookup, with_word}
-use Rattle.st_lookaside.specs.Slot.{after_look, after_word, part_at, part_next, progress_of, with_part, Slot}
+use Rattle.st_lookaside.specs.Slot.{after_look, after_word, part_at, part_next, slot_progress, with_part, Slot}
 use Rattle.st_lookaside.specs.Slots.{slot_at, ChangesSlot}
 use Rattle.st_messages.specs.declared.message.MsgState.TheVariants.{Answered, Claimed}
-use Rattle.st_messages.specs.Messages.{state_at, thread_at, HeldCalls}
+use Rattle.st_messages.specs.Messages.{message_state, thread_of_number, HeldCalls}
 use Rattle.st_names.specs.Name.{Components}
 use Rattle.st_names.specs.declared.seen.SeenText.{SeenText}
 use Rattle.st_trace.specs.declared.entry.Entry.{Entry}
@@ -18,8 +18,8 @@ use Rattle.st_law.specs.declared.input.Input.{Input}
 use Rattle.st_law.specs.Messages.{turn_after}
 use Rattle.st_law.specs.State.{Message}
 use Rattle.st_workers.specs.Filling.{IsTurnFor}
-use Rattle.st_workers.specs.Kept.{Agrees, AreKept, HasCome, IsLive, IsSlotOf, IsTurn, IsWhole}
-use Rattle.st_workers.specs.UnderWay.{found_in, turn_at, UnderWay}
+use Rattle.st_workers.specs.Refinement.{AgreesWithMachine, RepresentsMachineMessages, HasMessageFlags, IsLive, IsSlotOf, IsTurn, AreValidWorkers}
+use Rattle.st_workers.specs.UnderWay.{found_in, turn_of_worker, UnderWay}
 use Rattle.st_workers.specs.declared.turn.Turn.{Turn}
 use Rattle.st_workers.specs.declared.turn.Turn.TheVariants.{Working}
 use Rattle.st_workers.proofs.Copies.{asked_inside, look_kept, slot_number, word_kept, IsBelow}
@@ -31,23 +31,23 @@ use Rattle.st_workers.proofs.Turns.{number_within}
 pub record Fills (e : Entry) (p : ℕ) (slot filled : Slot) : Type 0 where
   pub number : filled.head.seq ≡ slot.head.seq
   pub other : (q : ℕ) (m : Message) → q ≢ p → message_worked e q m ≡ m
-  pub come : (m : Message) → HasCome m true None false → HasCome (message_worked e p m) true None false
+  pub come : (m : Message) → HasMessageFlags m true None false → HasMessageFlags (message_worked e p m) true None false
   pub kept : (m : Message) (tid : ℕ) → IsSlotOf m tid slot → IsSlotOf (message_worked e p m) tid filled
   pub turn : (v : ℕ) (o : Option ℕ) → turn_after e v o ≡ o
 
-module _ (e : Entry) (old new : UnderWay) (w p : ℕ) (slot filled : Slot) (t : Turn) (working : turn_at old w ≡ Some (Working p)) (there : slot_at old.slots p ≡ Some slot)
+module _ (e : Entry) (old new : UnderWay) (w p : ℕ) (slot filled : Slot) (t : Turn) (working : turn_of_worker old w ≡ Some (Working p)) (there : slot_at old.slots p ≡ Some slot)
     (calls : new.calls ≡ old.calls) (slots : ChangesSlot old.slots p (Some filled) new.slots) (put : new.turns ≡ set old.turns (w - 1) t) (turn : IsTurnFor p filled t) (fills : Fills e p slot filled) where
-  states_now : (q : ℕ) → state_at new.calls q ≡ state_at old.calls q
-  states_now q = ap (λ (c : HeldCalls). state_at c q) calls
+  states_now : (q : ℕ) → message_state new.calls q ≡ message_state old.calls q
+  states_now q = ap (λ (c : HeldCalls). message_state c q) calls
 
-  module _ (messages : ℕ → Message) (turns : ℕ → Option ℕ) (alive : ℕ → Bool) (posted : ℕ) (agrees : Agrees messages turns alive posted (found_in old)) where
+  module _ (messages : ℕ → Message) (turns : ℕ → Option ℕ) (alive : ℕ → Bool) (posted : ℕ) (agrees : AgreesWithMachine messages turns alive posted (found_in old)) where
     at : IsTurn messages alive (turns w) (Working p)
     at = agrees.workers w (Working p) working
 
     was : IsLive turns p (messages p) (found_in old)
     was = agrees.live p at.1
 
-    came : HasCome (messages p) true None false
+    came : HasMessageFlags (messages p) true None false
     came = agrees.turned w p at.0
 
     claimed : (v : ℕ) × (was.state ≡ Claimed v) × (turns v ≡ Some p)
@@ -56,7 +56,7 @@ module _ (e : Entry) (old new : UnderWay) (w p : ℕ) (slot filled : Slot) (t : 
     is_slot : IsSlotOf (all_worked e messages p) was.tid filled
     is_slot = fills.kept (messages p) was.tid (subst (IsSlotOf (messages p) was.tid) (same_Some was.slot slot (sym was.slot_is ∙ there)) was.is_slot)
 
-    state_claimed : state_at new.calls p ≡ Some (Claimed claimed.0)
+    state_claimed : message_state new.calls p ≡ Some (Claimed claimed.0)
     state_claimed = states_now p ∙ was.state_is ∙ ap Some claimed.1
 
     served_step : IsStep messages (all_worked e messages) turns (all_turned e turns) alive posted old new w p t
@@ -67,7 +67,7 @@ module _ (e : Entry) (old new : UnderWay) (w p : ℕ) (slot filled : Slot) (t : 
       next = ap (λ (c : HeldCalls). c.next) calls;
       others = λ q ne. fills.other q (messages q) ne;
       states = λ q ne. states_now q;
-      threads = λ q. ap (λ (c : HeldCalls). thread_at c q) calls;
+      threads = λ q. ap (λ (c : HeldCalls). thread_of_number c q) calls;
       slots = λ q ne. slots q ∙ ap (λ (b : Bool). cond b (Some filled) (slot_at old.slots q)) (ne_eqb q p ne);
       only = λ v ne is. ne (agrees.apart v w p is at.0);
       stay = λ v ne other. fills.turn v (turns v);
@@ -81,7 +81,7 @@ module _ (e : Entry) (old new : UnderWay) (w p : ℕ) (slot filled : Slot) (t : 
         tid = was.tid;
         slot = filled;
         state_is = state_claimed;
-        thread_is = ap (λ (c : HeldCalls). thread_at c p) calls ∙ was.thread_is;
+        thread_is = ap (λ (c : HeldCalls). thread_of_number c p) calls ∙ was.thread_is;
         slot_is = changed_to old.slots new.slots p (Some filled) slots;
         is_state = (fills.come (messages p) came, fills.turn claimed.0 (turns claimed.0) ∙ claimed.2);
         is_slot = is_slot;
@@ -89,14 +89,14 @@ module _ (e : Entry) (old new : UnderWay) (w p : ℕ) (slot filled : Slot) (t : 
       dead = λ none. absurd (true≢false (sym at.1 ∙ none));
     }
 
-    pub served_agrees : Agrees (all_worked e messages) (all_turned e turns) alive posted (found_in new)
+    pub served_agrees : AgreesWithMachine (all_worked e messages) (all_turned e turns) alive posted (found_in new)
     served_agrees = stepped messages (all_worked e messages) turns (all_turned e turns) alive posted old new w p t served_step agrees
 
   pub served_workers : new.calls.workers ≡ old.calls.workers
   served_workers = ap (λ (c : HeldCalls). c.workers) calls
 
   -- the messages and workers stay whole
-  pub served_whole : IsWhole old → IsWhole new
+  pub served_whole : AreValidWorkers old → AreValidWorkers new
   served_whole whole = record {
     count = count_kept whole.messages (all_worked e whole.messages) whole.turns (all_turned e whole.turns) whole.alive whole.posted old new w p t
         (served_step whole.messages whole.turns whole.alive whole.posted whole.agrees) whole.count served_workers;
@@ -111,7 +111,7 @@ module _ (e : Entry) (old new : UnderWay) (w p : ℕ) (slot filled : Slot) (t : 
   not_answer v x is = cc
 
   -- the messages and workers represent the state after the entry
-  pub served_kept : (i : Input) (messages : ℕ → Message) (turns : ℕ → Option ℕ) (alive : ℕ → Bool) (posted : ℕ) → AreKept i messages turns alive posted old → AreKept i (all_worked e messages) (all_turned e turns) alive posted new
+  pub served_kept : (i : Input) (messages : ℕ → Message) (turns : ℕ → Option ℕ) (alive : ℕ → Bool) (posted : ℕ) → RepresentsMachineMessages i messages turns alive posted old → RepresentsMachineMessages i (all_worked e messages) (all_turned e turns) alive posted new
   served_kept i messages turns alive posted is = record {
     workers = served_workers ∙ is.workers;
     agrees = served_agrees messages turns alive posted is.agrees;
@@ -131,7 +131,7 @@ copied_here p part place word m =
     let e : (p == p) ≡ true = eq-eqb p p refl in
     λ k. record { head = m.head; claimed = m.claimed; words = λ j. cond (e k && part == j) (m.words j ++ word ∷ []) (m.words j); lookups = m.lookups; fault = m.fault; answered = m.answered; closed = m.closed }
 
-module _ (p part place word : ℕ) (slot : Slot) (asks : progress_of slot ≡ Word part place) where
+module _ (p part place word : ℕ) (slot : Slot) (asks : slot_progress slot ≡ Word part place) where
   filled_word : after_word slot word ≡ with_part slot part (with_word (part_at slot.parts part) word)
   filled_word = ap (λ (pr : Progress). with_part slot (part_next pr) (with_word (part_at slot.parts (part_next pr)) word)) asks
 
@@ -159,7 +159,7 @@ looked_here p part name seen m =
     let e : (p == p) ≡ true = eq-eqb p p refl in
     λ k. record { head = m.head; claimed = m.claimed; words = m.words; lookups = λ j. cond (e k && part == j) (m.lookups j ++ seen ∷ []) (m.lookups j); fault = m.fault; answered = m.answered; closed = m.closed }
 
-module _ (p part : ℕ) (at name : Components) (seen : SeenText) (slot : Slot) (asks : progress_of slot ≡ Look part at) where
+module _ (p part : ℕ) (at name : Components) (seen : SeenText) (slot : Slot) (asks : slot_progress slot ≡ Look part at) where
   filled_look : after_look slot seen ≡ with_part slot part (with_lookup (part_at slot.parts part) seen)
   filled_look = ap (λ (pr : Progress). with_part slot (part_next pr) (with_lookup (part_at slot.parts (part_next pr)) seen)) asks
 

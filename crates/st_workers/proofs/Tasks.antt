@@ -8,20 +8,20 @@ use Rattle.st_names.specs.Name.{Components}
 use Rattle.st_calls.specs.declared.judged.Snapshot.{Snapshot}
 use Rattle.st_effects.specs.Progress.{Progress, Word, Look, Stuck, Ready as Whole}
 use Rattle.st_filter.specs.Judging.{verdict}
-use Rattle.st_lookaside.specs.Slot.{Slot, progress_of, IsLookNext}
+use Rattle.st_lookaside.specs.Slot.{Slot, slot_progress, IsLookNext}
 use Rattle.st_lookaside.specs.Slots.{slot_at}
 use Rattle.st_messages.specs.declared.message.MsgState.{MsgState}
 use Rattle.st_messages.specs.declared.message.MsgState.TheVariants.{Waiting, Claimed, Answered, Faulted}
-use Rattle.st_messages.specs.Messages.{first_waiting, state_at, IsLeastWaiting}
+use Rattle.st_messages.specs.Messages.{first_waiting, message_state, IsLeastWaiting}
 use Rattle.st_trace.specs.declared.entry.Entry.TheVariants as entry
 use Rattle.st_law.specs.declared.input.Input.{Input}
 use Rattle.st_law.specs.Machine.{answer_entry, claimed_entry, least_waiting, turn_entry, worker_entry, working_entry}
 use Rattle.st_law.specs.Messages.{Head}
 use Rattle.st_law.specs.State.{Message, State, is_live, is_ready, is_waiting, is_worker, progress_in, read_for, seq_at_work, snapshot_of_progress, worker_at}
 use Rattle.st_law.proofs.Least.{least}
-use Rattle.st_workers.specs.Kept.{at_work, Agrees, HasCome, IsKept, IsLive, IsState, IsTurn, IsWhole}
+use Rattle.st_workers.specs.Refinement.{at_work, AgreesWithMachine, HasMessageFlags, RepresentsMessages, IsLive, IsState, IsTurn, AreValidWorkers}
 use Rattle.st_workers.specs.Tasks.{idle_task, task_at, task_of, task_of_slot, task_of_turn, IsBusy, IsCopy, IsFault, IsLook, IsOfProcess, IsTask}
-use Rattle.st_workers.specs.UnderWay.{UnderWay, found_in, turn_at}
+use Rattle.st_workers.specs.UnderWay.{UnderWay, found_in, turn_of_worker}
 use Rattle.st_workers.specs.declared.task.Task.TheVariants as task
 use Rattle.st_workers.specs.declared.turn.Turn.{Turn}
 use Rattle.st_workers.specs.declared.turn.Turn.TheVariants.{Idle, Working, Ready}
@@ -36,7 +36,7 @@ idle_claims (Some seq) e = refl
 
 slot_claims : (seq : ℕ) (o : Option Slot) → task_of_slot seq o ≡ task.Claim → ⊥
 slot_claims seq None e = cc
-slot_claims seq (Some slot) e = by (progress_of slot) e where
+slot_claims seq (Some slot) e = by (slot_progress slot) e where
   by : (p : Progress) → task_at seq slot.head.pid p ≡ task.Claim → ⊥
   by (Word part place) e = cc
   by (Look part name) e = cc
@@ -71,23 +71,23 @@ ready_task seq pid (Look part name) e = cc
 ready_task seq pid (Stuck errno) e = cc
 ready_task seq pid (Whole args) e = refl
 
-module _ (kept : UnderWay) (whole : IsWhole kept) (w : ℕ) where
-  not_working : (seq : ℕ) → turn_at kept w ≡ Some (Working seq) → task_of_slot seq (slot_at kept.slots seq) ≡ task.Answer → ⊥
+module _ (kept : UnderWay) (whole : AreValidWorkers kept) (w : ℕ) where
+  not_working : (seq : ℕ) → turn_of_worker kept w ≡ Some (Working seq) → task_of_slot seq (slot_at kept.slots seq) ≡ task.Answer → ⊥
   not_working seq working e =
       let at : IsTurn whole.messages whole.alive (whole.turns w) (Working seq) = whole.agrees.workers w (Working seq) working in
       let live : IsLive whole.turns seq (whole.messages seq) (found_in kept) = whole.agrees.live seq at.1 in
       let same = same_progress (whole.messages seq) live.tid live.slot live.is_slot in
-      true≢false (sym (ready_task seq live.slot.head.pid (progress_of live.slot) (sym (ap (task_of_slot seq) live.slot_is) ∙ e)) ∙ sym (ap is_ready same) ∙ at.2)
+      true≢false (sym (ready_task seq live.slot.head.pid (slot_progress live.slot) (sym (ap (task_of_slot seq) live.slot_is) ∙ e)) ∙ sym (ap is_ready same) ∙ at.2)
 
-  answers_by : (o : Option Turn) → turn_at kept w ≡ o → task_of_turn kept o ≡ task.Answer → (s : Snapshot) × (turn_at kept w ≡ Some (Ready s))
+  answers_by : (o : Option Turn) → turn_of_worker kept w ≡ o → task_of_turn kept o ≡ task.Answer → (s : Snapshot) × (turn_of_worker kept w ≡ Some (Ready s))
   answers_by None o_is e = cc
   answers_by (Some Idle) o_is e = absurd (idle_rests (first_waiting kept.calls) e)
   answers_by (Some (Working seq)) o_is e = absurd (not_working seq o_is e)
   answers_by (Some (Ready s)) o_is e = (s, o_is)
 
   -- a worker whose task is to answer is ready
-  pub answers_ready : task_of kept w ≡ task.Answer → (s : Snapshot) × (turn_at kept w ≡ Some (Ready s))
-  answers_ready e = answers_by (turn_at kept w) refl e
+  pub answers_ready : task_of kept w ≡ task.Answer → (s : Snapshot) × (turn_of_worker kept w ≡ Some (Ready s))
+  answers_ready e = answers_by (turn_of_worker kept w) refl e
 
 -- ---- the entry of the law's machine
 
@@ -95,7 +95,7 @@ and_true : (a b : Bool) → a ≡ true → b ≡ true → (a && b) ≡ true
 and_true a b a_is b_is = ap (λ (x : Bool). x && b) a_is ∙ b_is
 
 -- a worker whose turn is kept is one of the input's
-pub worker_there : (i : Input) (st : State) (alive : ℕ → Bool) (kept : UnderWay) (w : ℕ) → 1 ≤ w → w ≤ kept.calls.workers → IsKept i st alive kept → is_worker i w ≡ true
+pub worker_there : (i : Input) (st : State) (alive : ℕ → Bool) (kept : UnderWay) (w : ℕ) → 1 ≤ w → w ≤ kept.calls.workers → RepresentsMessages i st alive kept → is_worker i w ≡ true
 worker_there i st alive kept w from to is = and_true (nat_lt 0 w) (nat_le w i.options.workers) (lt-ltb 0 w from) (le-leb w i.options.workers (subst (λ (n : ℕ). w ≤ n) is.workers to))
 
 work_same : (st : State) (o : Option ℕ) → seq_at_work st o ≡ at_work st.messages (is_live st) o
@@ -126,20 +126,20 @@ and_not_parts true true e = cc
 and_not_parts true false e = (refl, refl)
 and_not_parts false b e = cc
 
-module _ (st : State) (kept : UnderWay) (agrees : Agrees st.messages st.turns (is_live st) st.posted (found_in kept)) where
+module _ (st : State) (kept : UnderWay) (agrees : AgreesWithMachine st.messages st.turns (is_live st) st.posted (found_in kept)) where
   -- a number that is waiting in the law's machine is waiting here
-  waits_here : (q : ℕ) → is_waiting st q ≡ true → state_at kept.calls q ≡ Some Waiting
+  waits_here : (q : ℕ) → is_waiting st q ≡ true → message_state kept.calls q ≡ Some Waiting
   waits_here q is =
       let parts = and_not_parts (is_live st q) (st.messages q).claimed is in
       let live : IsLive st.turns q (st.messages q) (found_in kept) = agrees.live q parts.0 in
       live.state_is ∙ ap Some (waits_state st.turns q (st.messages q) live.state live.is_state parts.1)
 
   -- a number that is waiting here is waiting in the law's machine
-  waits_there : (q : ℕ) → state_at kept.calls q ≡ Some Waiting → (is_waiting st q ≡ true) × (1 ≤ q) × (q ≤ st.posted)
+  waits_there : (q : ℕ) → message_state kept.calls q ≡ Some Waiting → (is_waiting st q ≡ true) × (1 ≤ q) × (q ≤ st.posted)
   waits_there q is =
       let alive : is_live st q ≡ true = live_by_state st.messages st.turns (is_live st) st.posted (found_in kept) agrees q Waiting is (is_live st q) refl in
       let live : IsLive st.turns q (st.messages q) (found_in kept) = agrees.live q alive in
-      let come : HasCome (st.messages q) false None false = subst (IsState st.turns q (st.messages q)) (same_Some live.state Waiting (sym live.state_is ∙ is)) live.is_state in
+      let come : HasMessageFlags (st.messages q) false None false = subst (IsState st.turns q (st.messages q)) (same_Some live.state Waiting (sym live.state_is ∙ is)) live.is_state in
       let given = agrees.given q alive in
       (and_true (is_live st q) (not (st.messages q).claimed) alive (ap not come.claimed), given.0, given.1)
 
@@ -152,18 +152,18 @@ module _ (st : State) (kept : UnderWay) (agrees : Agrees st.messages st.turns (i
       ]))
       (λ none. let there = waits_there p is.waiting in absurd (true≢false (sym there.0 ∙ none p there.1 (let inside = there.2 in omega (arith, inside)))))
 
-  pub least_none : ((q : ℕ) → state_at kept.calls q ≢ Some Waiting) → least_waiting st ≡ None
+  pub least_none : ((q : ℕ) → message_state kept.calls q ≢ Some Waiting) → least_waiting st ≡ None
   least_none none = least (λ o. o ≡ None) (is_waiting st) 1 st.posted (λ q x. absurd (none q (waits_here q x.holds))) (λ all. refl)
 
-module _ (i : Input) (st : State) (kept : UnderWay) (w : ℕ) (is : IsKept i st (is_live st) kept) (there : is_worker i w ≡ true) where
-  module _ (idle : turn_at kept w ≡ Some Idle) where
+module _ (i : Input) (st : State) (kept : UnderWay) (w : ℕ) (is : RepresentsMessages i st (is_live st) kept) (there : is_worker i w ≡ true) where
+  module _ (idle : turn_of_worker kept w ≡ Some Idle) where
     idle_at : worker_at st w ≡ None
     idle_at = work_same st (st.turns w) ∙ is.agrees.workers w Idle idle
 
     pub claim_entry : (p : ℕ) → IsLeastWaiting kept.calls p → worker_entry i st w ≡ Some (entry.Claimed w p)
     claim_entry p least_p = entry_by i st w None there idle_at ∙ ap (claimed_entry w) (least_is st kept is.agrees p least_p)
 
-    pub rest_entry : ((q : ℕ) → state_at kept.calls q ≢ Some Waiting) → worker_entry i st w ≡ None
+    pub rest_entry : ((q : ℕ) → message_state kept.calls q ≢ Some Waiting) → worker_entry i st w ≡ None
     rest_entry none = entry_by i st w None there idle_at ∙ ap (claimed_entry w) (least_none st kept is.agrees none)
 
   -- ---- a worker at a number
@@ -177,21 +177,21 @@ module _ (i : Input) (st : State) (kept : UnderWay) (w : ℕ) (is : IsKept i st 
   at_live : (o : Option ℕ) (q : ℕ) → o ≡ Some q → is_live st q ≡ true → seq_at_work st o ≡ Some q
   at_live o q is live = ap (seq_at_work st) is ∙ ap (λ (b : Bool). cond (b || is_ready (progress_in st q)) (Some q) None) live
 
-  pub working_is : (q : ℕ) (slot : Slot) → turn_at kept w ≡ Some (Working q) → slot_at kept.slots q ≡ Some slot → IsTask i st kept w (task_at q slot.head.pid (progress_of slot))
+  pub working_is : (q : ℕ) (slot : Slot) → turn_of_worker kept w ≡ Some (Working q) → slot_at kept.slots q ≡ Some slot → IsTask i st kept w (task_at q slot.head.pid (slot_progress slot))
   working_is q slot working slot_is =
       let turn : IsTurn st.messages (is_live st) (st.turns w) (Working q) = is.agrees.workers w (Working q) working in
       let live : IsLive st.turns q (st.messages q) (found_in kept) = is.agrees.live q turn.1 in
       let its : live.slot ≡ slot = same_Some live.slot slot (sym live.slot_is ∙ slot_is) in
-      let same : progress_in st q ≡ progress_of slot = same_progress (st.messages q) live.tid live.slot live.is_slot ∙ ap progress_of its in
+      let same : progress_in st q ≡ slot_progress slot = same_progress (st.messages q) live.tid live.slot live.is_slot ∙ ap slot_progress its in
       let of_process : IsOfProcess st q slot.head.pid = ap (option_map (λ (head : Head). head.pid)) live.is_slot.head ∙ ap (λ (s : Slot). Some s.head.pid) its in
-      working_task q slot.head.pid (progress_of slot) (at_live (st.turns w) q turn.0 turn.1) same (ap is_ready (sym same) ∙ turn.2) of_process
+      working_task q slot.head.pid (slot_progress slot) (at_live (st.turns w) q turn.0 turn.1) same (ap is_ready (sym same) ∙ turn.2) of_process
 
   -- the entry of the law's machine at a number, by the progress of its message
-  pub working_entry_is : (q : ℕ) (slot : Slot) (p : Progress) → turn_at kept w ≡ Some (Working q) → slot_at kept.slots q ≡ Some slot → progress_of slot ≡ p → worker_entry i st w ≡ working_entry i st w q p
+  pub working_entry_is : (q : ℕ) (slot : Slot) (p : Progress) → turn_of_worker kept w ≡ Some (Working q) → slot_at kept.slots q ≡ Some slot → slot_progress slot ≡ p → worker_entry i st w ≡ working_entry i st w q p
   working_entry_is q slot p working slot_is p_is =
       let turn : IsTurn st.messages (is_live st) (st.turns w) (Working q) = is.agrees.workers w (Working q) working in
       let live : IsLive st.turns q (st.messages q) (found_in kept) = is.agrees.live q turn.1 in
-      let same : progress_in st q ≡ progress_of slot = same_progress (st.messages q) live.tid live.slot live.is_slot ∙ ap progress_of (same_Some live.slot slot (sym live.slot_is ∙ slot_is)) in
+      let same : progress_in st q ≡ slot_progress slot = same_progress (st.messages q) live.tid live.slot live.is_slot ∙ ap slot_progress (same_Some live.slot slot (sym live.slot_is ∙ slot_is)) in
       entry_by i st w (Some q) there (at_live (st.turns w) q turn.0 turn.1) ∙ ap (working_entry i st w q) (same ∙ p_is)
 
   -- ---- a worker that is ready
@@ -206,7 +206,7 @@ module _ (i : Input) (st : State) (kept : UnderWay) (w : ℕ) (is : IsKept i st 
   answer_by q (Look part name) s p_is ready e = absurd (true≢false (sym ready))
   answer_by q (Stuck errno) s p_is ready e = absurd (true≢false (sym ready))
 
-  pub ready_is : (s : Snapshot) → turn_at kept w ≡ Some (Ready s) → worker_entry i st w ≡ Some (entry.Answered w s (verdict (read_for i s.policy s.rule) s) (is_live st s.seq))
+  pub ready_is : (s : Snapshot) → turn_of_worker kept w ≡ Some (Ready s) → worker_entry i st w ≡ Some (entry.Answered w s (verdict (read_for i s.policy s.rule) s) (is_live st s.seq))
   ready_is s ready =
       let turn : IsTurn st.messages (is_live st) (st.turns w) (Ready s) = is.agrees.workers w (Ready s) ready in
       let whole : is_ready (progress_in st s.seq) ≡ true = sealed_ready s.seq (st.messages s.seq).head (progress_in st s.seq) s turn.1 in
@@ -216,14 +216,14 @@ module _ (i : Input) (st : State) (kept : UnderWay) (w : ℕ) (is : IsKept i st 
 -- ---- preconditions of the code
 
 -- a number with a state has a slot
-pub state_slot : (kept : UnderWay) → IsWhole kept → (q : ℕ) (state : MsgState) → state_at kept.calls q ≡ Some state → (slot : Slot) × (slot_at kept.slots q ≡ Some slot)
+pub state_slot : (kept : UnderWay) → AreValidWorkers kept → (q : ℕ) (state : MsgState) → message_state kept.calls q ≡ Some state → (slot : Slot) × (slot_at kept.slots q ≡ Some slot)
 state_slot kept whole q state is =
     let alive = live_by_state whole.messages whole.turns whole.alive whole.posted (found_in kept) whole.agrees q state is (whole.alive q) refl in
     let live : IsLive whole.turns q (whole.messages q) (found_in kept) = whole.agrees.live q alive in
     (live.slot, live.slot_is)
 
 -- the number that a worker is at has a slot
-pub working_slot : (kept : UnderWay) → IsWhole kept → (w q : ℕ) → turn_at kept w ≡ Some (Working q) → (slot : Slot) × (slot_at kept.slots q ≡ Some slot)
+pub working_slot : (kept : UnderWay) → AreValidWorkers kept → (w q : ℕ) → turn_of_worker kept w ≡ Some (Working q) → (slot : Slot) × (slot_at kept.slots q ≡ Some slot)
 working_slot kept whole w q working =
     let live : IsLive whole.turns q (whole.messages q) (found_in kept) = whole.agrees.live q (whole.agrees.workers w (Working q) working).1 in
     (live.slot, live.slot_is)
@@ -266,32 +266,32 @@ fault_parts seq pid (Look a b) q errno e = cc
 fault_parts seq pid (Stuck x) q errno e = (cc, cc)
 fault_parts seq pid (Whole args) q errno e = cc
 
-module _ (kept : UnderWay) (w seq : ℕ) (slot : Slot) (working : turn_at kept w ≡ Some (Working seq)) (there : slot_at kept.slots seq ≡ Some slot) where
+module _ (kept : UnderWay) (w seq : ℕ) (slot : Slot) (working : turn_of_worker kept w ≡ Some (Working seq)) (there : slot_at kept.slots seq ≡ Some slot) where
   -- the task of a worker at a number is what the slot of the number needs next
-  pub task_is : task_of kept w ≡ task_at seq slot.head.pid (progress_of slot)
+  pub task_is : task_of kept w ≡ task_at seq slot.head.pid (slot_progress slot)
   task_is = ap (task_of_turn kept) working ∙ ap (task_of_slot seq) there
 
-  pub word_asked : IsCopy (task_of kept w) → (part : ℕ) × (place : ℕ) × (progress_of slot ≡ Word part place)
-  word_asked is = word_by seq slot.head.pid (progress_of slot) (subst IsCopy task_is is)
+  pub word_asked : IsCopy (task_of kept w) → (part : ℕ) × (place : ℕ) × (slot_progress slot ≡ Word part place)
+  word_asked is = word_by seq slot.head.pid (slot_progress slot) (subst IsCopy task_is is)
 
-  pub look_asked : IsLook (task_of kept w) → (part : ℕ) × (name : Components) × (progress_of slot ≡ Look part name)
-  look_asked is = look_by seq slot.head.pid (progress_of slot) (subst IsLook task_is is)
+  pub look_asked : IsLook (task_of kept w) → (part : ℕ) × (name : Components) × (slot_progress slot ≡ Look part name)
+  look_asked is = look_by seq slot.head.pid (slot_progress slot) (subst IsLook task_is is)
 
-  pub fault_asked : IsFault (task_of kept w) → (errno : Errno) × (progress_of slot ≡ Stuck errno)
-  fault_asked is = fault_by seq slot.head.pid (progress_of slot) (subst IsFault task_is is)
+  pub fault_asked : IsFault (task_of kept w) → (errno : Errno) × (slot_progress slot ≡ Stuck errno)
+  fault_asked is = fault_by seq slot.head.pid (slot_progress slot) (subst IsFault task_is is)
 
-  pub copy_is : (q pid part place : ℕ) → task_of kept w ≡ task.Copy q pid part place → (seq ≡ q) × (progress_of slot ≡ Word part place)
-  copy_is q pid part place e = copy_parts seq slot.head.pid (progress_of slot) q pid part place (sym task_is ∙ e)
+  pub copy_is : (q pid part place : ℕ) → task_of kept w ≡ task.Copy q pid part place → (seq ≡ q) × (slot_progress slot ≡ Word part place)
+  copy_is q pid part place e = copy_parts seq slot.head.pid (slot_progress slot) q pid part place (sym task_is ∙ e)
 
-  pub look_is : (q part : ℕ) → task_of kept w ≡ task.Look q part → (seq ≡ q) × (name : Components) × (progress_of slot ≡ Look part name)
-  look_is q part e = look_parts seq slot.head.pid (progress_of slot) q part (sym task_is ∙ e)
+  pub look_is : (q part : ℕ) → task_of kept w ≡ task.Look q part → (seq ≡ q) × (name : Components) × (slot_progress slot ≡ Look part name)
+  look_is q part e = look_parts seq slot.head.pid (slot_progress slot) q part (sym task_is ∙ e)
 
-  pub fault_is : (q : ℕ) (errno : Errno) → task_of kept w ≡ task.Fault q errno → (seq ≡ q) × (progress_of slot ≡ Stuck errno)
-  fault_is q errno e = fault_parts seq slot.head.pid (progress_of slot) q errno (sym task_is ∙ e)
+  pub fault_is : (q : ℕ) (errno : Errno) → task_of kept w ≡ task.Fault q errno → (seq ≡ q) × (slot_progress slot ≡ Stuck errno)
+  fault_is q errno e = fault_parts seq slot.head.pid (slot_progress slot) q errno (sym task_is ∙ e)
 
 -- the slot of a number whose next task is a look
-pub look_slot : (kept : UnderWay) (w seq : ℕ) → IsWhole kept → turn_at kept w ≡ Some (Working seq) → IsLook (task_of kept w) → IsSome (slot_at kept.slots seq) × IfSome (slot_at kept.slots seq) (λ slot. IsLookNext (progress_of slot))
+pub look_slot : (kept : UnderWay) (w seq : ℕ) → AreValidWorkers kept → turn_of_worker kept w ≡ Some (Working seq) → IsLook (task_of kept w) → IsSome (slot_at kept.slots seq) × IfSome (slot_at kept.slots seq) (λ slot. IsLookNext (slot_progress slot))
 look_slot kept w seq whole working is =
     let slot = working_slot kept whole w seq working in
     let asked = look_asked kept w seq slot.0 working slot.1 is in
-    (subst IsSome (sym slot.1) refl, subst (λ (o : Option Slot). IfSome o (λ s. IsLookNext (progress_of s))) (sym slot.1) (subst IsLookNext (sym asked.2) tt))
+    (subst IsSome (sym slot.1) refl, subst (λ (o : Option Slot). IfSome o (λ s. IsLookNext (slot_progress s))) (sym slot.1) (subst IsLookNext (sym asked.2) tt))

@@ -2,12 +2,12 @@
 use Rattle.std.proofs.Common.{◌≡◌, ◌∙◌, ℕ, Bool, true, false, Option, Some, refl, sym}
 use Rattle.std.proofs.lemmas.Option.{none-some, same_Some}
 use Rattle.st_law.specs.State.{Message}
-use Rattle.st_workers.specs.Kept.{head_of, Agrees, IsLive}
+use Rattle.st_workers.specs.Refinement.{head_of, AgreesWithMachine, IsLive}
 use Rattle.st_workers.specs.Laws.{OthersHaveNoNumber}
 use Rattle.st_workers.specs.UnderWay.{found_in, Found}
 
 -- a number that is some thread's is live
-thread_live : (messages : ℕ → Message) (turns : ℕ → Option ℕ) (alive : ℕ → Bool) (posted : ℕ) (found : Found) → Agrees messages turns alive posted found → (q tid : ℕ) → found.thread q ≡ Some tid → (b : Bool) → alive q ≡ b → alive q ≡ true
+thread_live : (messages : ℕ → Message) (turns : ℕ → Option ℕ) (alive : ℕ → Bool) (posted : ℕ) (found : Found) → AgreesWithMachine messages turns alive posted found → (q tid : ℕ) → found.thread q ≡ Some tid → (b : Bool) → alive q ≡ b → alive q ≡ true
 thread_live messages turns alive posted found agrees q tid is true e = e
 thread_live messages turns alive posted found agrees q tid is false e = absurd (none-some tid (sym (agrees.dead q e).thread ∙ is))
 

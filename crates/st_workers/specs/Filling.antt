@@ -1,7 +1,7 @@
 -- The turn of a worker, by the slot of its number.
 use Rattle.std.specs.Prelude.{◌≡◌, ℕ, false, List}
 use Rattle.st_effects.specs.Progress.{Ready as Whole}
-use Rattle.st_lookaside.specs.Slot.{Slot, progress_of, snapshot_with}
+use Rattle.st_lookaside.specs.Slot.{Slot, slot_progress, snapshot_with}
 use Rattle.st_lookaside.specs.Slots.{slot_at}
 use Rattle.st_law.specs.State.{is_ready}
 use Rattle.st_workers.specs.declared.turn.Turn.{Turn}
@@ -10,8 +10,8 @@ use Rattle.st_workers.specs.declared.turn.Turn.TheVariants.{Idle, Working, Ready
 -- a worker at this number is ready with the sealed copies if the slot is complete, and otherwise goes on
 abbrev pub IsTurnFor : ℕ → Slot → Turn → Type 0
 IsTurnFor seq slot Idle = ⊥
-IsTurnFor seq slot (Working q) = (q ≡ seq) × (is_ready (progress_of slot) ≡ false)
-IsTurnFor seq slot (Ready s) = (progress_of slot ≡ Whole s.parts) × (s ≡ snapshot_with slot.head s.parts)
+IsTurnFor seq slot (Working q) = (q ≡ seq) × (is_ready (slot_progress slot) ≡ false)
+IsTurnFor seq slot (Ready s) = (slot_progress slot ≡ Whole s.parts) × (s ≡ snapshot_with slot.head s.parts)
 
 -- each number's slot is unchanged
 abbrev pub AreSame : List Slot → List Slot → Type 0

@@ -12,17 +12,17 @@ use Rattle.st_law.specs.declared.input.Input.{Input}
 use Rattle.st_law.specs.Machine.{state_after}
 use Rattle.st_law.specs.Messages.{Head}
 use Rattle.st_law.specs.State.{Message, State, is_live}
-use Rattle.st_workers.specs.Kept.{AreKept}
+use Rattle.st_workers.specs.Refinement.{RepresentsMachineMessages}
 use Rattle.st_workers.specs.UnderWay.{UnderWay}
 
 -- whether a message is closed is kept only as whether its number is live
 abbrev pub ClosingIsNotKept : Type 0
-ClosingIsNotKept = (i : Input) (messages after : ℕ → Message) (turns : ℕ → Option ℕ) (alive : ℕ → Bool) (posted : ℕ) (kept : UnderWay) → AreKept i messages turns alive posted kept
-    → ((q : ℕ) → after q ≡ record (messages q) { closed = (after q).closed }) → AreKept i after turns alive posted kept
+ClosingIsNotKept = (i : Input) (messages after : ℕ → Message) (turns : ℕ → Option ℕ) (alive : ℕ → Bool) (posted : ℕ) (kept : UnderWay) → RepresentsMachineMessages i messages turns alive posted kept
+    → ((q : ℕ) → after q ≡ record (messages q) { closed = (after q).closed }) → RepresentsMachineMessages i after turns alive posted kept
 
 -- a thread that no live message is of has no number
 abbrev pub OthersHaveNoNumber : Type 0
-OthersHaveNoNumber = (i : Input) (messages : ℕ → Message) (turns : ℕ → Option ℕ) (alive : ℕ → Bool) (posted : ℕ) (kept : UnderWay) (tid : ℕ) → AreKept i messages turns alive posted kept
+OthersHaveNoNumber = (i : Input) (messages : ℕ → Message) (turns : ℕ → Option ℕ) (alive : ℕ → Bool) (posted : ℕ) (kept : UnderWay) (tid : ℕ) → RepresentsMachineMessages i messages turns alive posted kept
     → ((q : ℕ) (head : Head) → alive q ≡ true → (messages q).head ≡ Some head → head.tid ≢ tid) → HasNoNumber kept.calls tid
 
 -- an entry changes for no number whether it is live

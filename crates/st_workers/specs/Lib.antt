@@ -1,5 +1,5 @@
 pub mod Filling
-pub mod Kept
+pub mod Refinement
 pub mod Laws
 pub mod Leaving
 pub mod Tasks

@@ -3,9 +3,9 @@ use Rattle.std.specs.Prelude.{◌≡◌, ◌<◌, ℕ, true, Option, Some, None,
 use Rattle.st_calls.specs.declared.judged.Snapshot.{Snapshot}
 use Rattle.st_effects.specs.Progress.{Progress, Word, Look, Stuck, Ready}
 use Rattle.st_filter.specs.Judging.{verdict}
-use Rattle.st_lookaside.specs.Slot.{Slot, progress_of}
+use Rattle.st_lookaside.specs.Slot.{Slot, slot_progress}
 use Rattle.st_lookaside.specs.Slots.{slot_at}
-use Rattle.st_messages.specs.Messages.{HeldCalls, first_waiting, is_live as is_live_here}
+use Rattle.st_messages.specs.Messages.{HeldCalls, first_waiting, is_live_number as is_live_here}
 use Rattle.st_model.specs.declared.limits.TheConstants.{SPACE_WORDS}
 use Rattle.st_model.specs.Tree.{look}
 use Rattle.st_names.specs.Name.{Components}
@@ -14,7 +14,7 @@ use Rattle.st_law.specs.declared.input.Input.{Input}
 use Rattle.st_law.specs.Machine.{worker_entry}
 use Rattle.st_law.specs.Messages.{Head}
 use Rattle.st_law.specs.State.{State, is_live, read_for, word_for}
-use Rattle.st_workers.specs.UnderWay.{UnderWay, turn_at}
+use Rattle.st_workers.specs.UnderWay.{UnderWay, turn_of_worker}
 use Rattle.st_workers.specs.declared.task.Task.{Task}
 use Rattle.st_workers.specs.declared.task.Task.TheVariants.{Rest, Claim, Copy, Look as LookAt, Fault, Answer}
 use Rattle.st_workers.specs.declared.turn.Turn.{Turn}
@@ -35,7 +35,7 @@ task_at seq pid (Ready args) = Answer
 -- the same by the slot of the number
 abbrev pub task_of_slot : ℕ → Option Slot → Task
 task_of_slot seq None = Rest
-task_of_slot seq (Some slot) = task_at seq slot.head.pid (progress_of slot)
+task_of_slot seq (Some slot) = task_at seq slot.head.pid (slot_progress slot)
 
 -- what a worker does, by its turn
 abbrev pub task_of_turn : UnderWay → Option Turn → Task
@@ -46,7 +46,7 @@ task_of_turn kept (Some (turn.Ready s)) = Answer
 
 -- what a worker does
 abbrev pub task_of : UnderWay → ℕ → Task
-task_of kept worker = task_of_turn kept (turn_at kept worker)
+task_of kept worker = task_of_turn kept (turn_of_worker kept worker)
 
 -- the task is to copy a word, to look at a name, or to mark a message as faulted
 abbrev pub IsBusy : Task → Type 0
@@ -85,13 +85,13 @@ IsFault (Fault seq errno) = Unit {0}
 IsFault Answer = ⊥
 
 -- the number that a task names is live, and the index of a word that it copies is inside memory
-abbrev pub IsThere : HeldCalls → Task → Type 0
-IsThere calls Rest = Unit {0}
-IsThere calls Claim = Unit {0}
-IsThere calls (Copy seq pid part place) = (is_live_here calls seq ≡ true) × (place < SPACE_WORDS)
-IsThere calls (LookAt seq part) = is_live_here calls seq ≡ true
-IsThere calls (Fault seq errno) = is_live_here calls seq ≡ true
-IsThere calls Answer = Unit {0}
+abbrev pub CanServe : HeldCalls → Task → Type 0
+CanServe calls Rest = Unit {0}
+CanServe calls Claim = Unit {0}
+CanServe calls (Copy seq pid part place) = (is_live_here calls seq ≡ true) × (place < SPACE_WORDS)
+CanServe calls (LookAt seq part) = is_live_here calls seq ≡ true
+CanServe calls (Fault seq errno) = is_live_here calls seq ≡ true
+CanServe calls Answer = Unit {0}
 
 -- a message is of this process
 abbrev pub IsOfProcess : State → ℕ → ℕ → Type 0
@@ -104,4 +104,4 @@ IsTask i st kept worker Claim = (q : ℕ) × (worker_entry i st worker ≡ Some 
 IsTask i st kept worker (Copy seq pid part place) = (worker_entry i st worker ≡ Some (entry.Copied seq part place (word_for st seq place))) × IsOfProcess st seq pid
 IsTask i st kept worker (LookAt seq part) = (name : Components) × (worker_entry i st worker ≡ Some (entry.Looked seq part name (look st.tree name)))
 IsTask i st kept worker (Fault seq errno) = worker_entry i st worker ≡ Some (entry.Faulted seq errno)
-IsTask i st kept worker Answer = (s : Snapshot) × (turn_at kept worker ≡ Some (turn.Ready s)) × (worker_entry i st worker ≡ Some (entry.Answered worker s (verdict (read_for i s.policy s.rule) s) (is_live st s.seq)))
+IsTask i st kept worker Answer = (s : Snapshot) × (turn_of_worker kept worker ≡ Some (turn.Ready s)) × (worker_entry i st worker ≡ Some (entry.Answered worker s (verdict (read_for i s.policy s.rule) s) (is_live st s.seq)))

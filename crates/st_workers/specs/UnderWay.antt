@@ -4,7 +4,7 @@ use Rattle.st_base.specs.Numbered.{item_at_number}
 use Rattle.st_lookaside.specs.Slot.{Slot}
 use Rattle.st_lookaside.specs.Slots.{slot_at}
 use Rattle.st_messages.specs.declared.message.MsgState.{MsgState}
-use Rattle.st_messages.specs.Messages.{HeldCalls, state_at, thread_at}
+use Rattle.st_messages.specs.Messages.{HeldCalls, message_state, thread_of_number}
 use Rattle.st_workers.specs.declared.turn.Turn.{Turn}
 
 -- the held calls, what is copied and seen for each, and the turns of the workers in the order of their numbers
@@ -14,8 +14,8 @@ pub record UnderWay : Type 0 where
   pub turns : List Turn
 
 -- the turn of a worker
-abbrev pub turn_at : UnderWay → ℕ → Option Turn
-turn_at kept worker = item_at_number kept.turns worker
+abbrev pub turn_of_worker : UnderWay → ℕ → Option Turn
+turn_of_worker kept worker = item_at_number kept.turns worker
 
 -- what is found of each number and of each worker, and the number of the next message
 pub record Found : Type 0 where
@@ -29,8 +29,8 @@ pub record Found : Type 0 where
 abbrev pub found_in : UnderWay → Found
 found_in kept = record {
   next = kept.calls.next;
-  state = state_at kept.calls;
-  thread = thread_at kept.calls;
+  state = message_state kept.calls;
+  thread = thread_of_number kept.calls;
   slot = slot_at kept.slots;
-  turn = turn_at kept;
+  turn = turn_of_worker kept;
 }

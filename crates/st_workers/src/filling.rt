@@ -1,13 +1,13 @@
 // Takes one more word or look for a message, and updates the turn of its worker.
 ghost use Rattle.std.specs.Prelude.{◌≡◌, ℕ, true, Some, IsSome, IfSome, IfOk, OnOk, OnErr};
 ghost use Rattle.st_effects.specs.Progress.{Progress};
-ghost use Rattle.st_lookaside.specs.Slot.{after_look, after_word, next_of, progress_of, IsInOrder, IsInside, IsLookNext, IsReady, IsWordNext, Slot};
+ghost use Rattle.st_lookaside.specs.Slot.{after_look, after_word, next_need, slot_progress, IsInOrder, IsInside, IsLookNext, HasAllArguments, IsWordNext, Slot};
 ghost use Rattle.st_lookaside.specs.Slots.{slot_at, ChangesSlot};
-ghost use Rattle.st_messages.specs.Messages.{is_live, HeldCalls};
+ghost use Rattle.st_messages.specs.Messages.{is_live_number, HeldCalls};
 ghost use Rattle.st_names.specs.Seen.{seen_text};
 ghost use Rattle.st_names.specs.declared.seen.SeenText.{SeenText};
 ghost use Rattle.st_workers.specs.Filling.{AreSame, IsTurnFor};
-ghost use Rattle.st_workers.specs.Tasks.{task_at, IsThere};
+ghost use Rattle.st_workers.specs.Tasks.{task_at, CanServe};
 ghost use Rattle.st_workers.specs.declared.turn.Turn.TheVariants.{Ready, Working};
 
 use crate::task::Task;
@@ -20,8 +20,8 @@ use std::alloc::{AllocError, Global};
 
 /// What a worker does next at a message of this process, by what the message needs next.
 pub fn task_at(seq: Seq, pid: Pid, next: Next) -> Task
-    ensures task { (progress : Progress) → next ≡ next_of progress → result ≡ task_at seq pid progress }
-    ensures there { (calls : HeldCalls) → is_live calls seq ≡ true → IsInside next → IsThere calls result }
+    ensures task { (progress : Progress) → next ≡ next_need progress → result ≡ task_at seq pid progress }
+    ensures there { (calls : HeldCalls) → is_live_number calls seq ≡ true → IsInside next → CanServe calls result }
 {
     match next {
         Next::Word(part, place) => Task::Copy {
@@ -52,11 +52,11 @@ pub fn turn_for(slots: &mut Slots, alloc: Global, seq: Seq) -> Result<Turn, Allo
 // Seals a message that its last word or look has completed. If memory runs out, that word or look is undone.
 fn seal_last(slots: &mut Slots, alloc: Global, seq: Seq) -> Result<Shared<Snapshot>, AllocError>
     requires slot { IsSome (slot_at slots.old seq) }
-    requires ready { IfSome (slot_at slots.old seq) (λ slot. IsReady (progress_of slot)) }
+    requires ready { IfSome (slot_at slots.old seq) (λ slot. HasAllArguments (slot_progress slot)) }
     ensures same { OnOk result (slots.new ≡ slots.old) }
     ensures turn { IfOk result (λ copies. IfSome (slot_at slots.old seq) (λ slot. IsTurnFor seq slot (Ready copies))) }
-    ensures word { OnErr result ((before : Slot) (word : ℕ) → IsInOrder before → IsWordNext (progress_of before) → slot_at slots.old seq ≡ Some (after_word before word) → ChangesSlot slots.old seq (Some before) slots.new) }
-    ensures look { OnErr result ((before : Slot) (seen : SeenText) → IsInOrder before → IsLookNext (progress_of before) → slot_at slots.old seq ≡ Some (after_look before seen) → ChangesSlot slots.old seq (Some before) slots.new) }
+    ensures word { OnErr result ((before : Slot) (word : ℕ) → IsInOrder before → IsWordNext (slot_progress before) → slot_at slots.old seq ≡ Some (after_word before word) → ChangesSlot slots.old seq (Some before) slots.new) }
+    ensures look { OnErr result ((before : Slot) (seen : SeenText) → IsInOrder before → IsLookNext (slot_progress before) → slot_at slots.old seq ≡ Some (after_look before seen) → ChangesSlot slots.old seq (Some before) slots.new) }
 {
     match slots.seal(alloc, seq) {
         Ok(copies) => Ok(copies),
@@ -77,7 +77,7 @@ pub fn take_word(
     word: u64,
 ) -> Result<(), AllocError>
     requires slot { IsSome (slot_at slots.old seq) }
-    requires next { IfSome (slot_at slots.old seq) (λ slot. IsWordNext (progress_of slot)) }
+    requires next { IfSome (slot_at slots.old seq) (λ slot. IsWordNext (slot_progress slot)) }
     requires turn { turn.old ≡ Working seq }
     ensures slot { OnOk result (IfSome (slot_at slots.old seq) (λ slot. ChangesSlot slots.old seq (Some (after_word slot word)) slots.new)) }
     ensures turn { OnOk result (IfSome (slot_at slots.old seq) (λ slot. IsTurnFor seq (after_word slot word) turn.new)) }
@@ -100,7 +100,7 @@ pub fn take_look(
     seen: Seen<'_>,
 ) -> Result<(), AllocError>
     requires slot { IsSome (slot_at slots.old seq) }
-    requires next { IfSome (slot_at slots.old seq) (λ slot. IsLookNext (progress_of slot)) }
+    requires next { IfSome (slot_at slots.old seq) (λ slot. IsLookNext (slot_progress slot)) }
     requires turn { turn.old ≡ Working seq }
     ensures slot { OnOk result (IfSome (slot_at slots.old seq) (λ slot. ChangesSlot slots.old seq (Some (after_look slot (seen_text seen.entry))) slots.new)) }
     ensures turn { OnOk result (IfSome (slot_at slots.old seq) (λ slot. IsTurnFor seq (after_look slot (seen_text seen.entry)) turn.new)) }

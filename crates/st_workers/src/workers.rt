@@ -9,7 +9,7 @@ ghost use Rattle.st_law.specs.State.{State, is_live as is_live_in, read_for, sna
 ghost use Rattle.st_law.specs.declared.input.Input.{Input};
 ghost use Rattle.st_lookaside.specs.Need.{IsShort};
 ghost use Rattle.st_lookaside.specs.Slots.{slot_at};
-ghost use Rattle.st_messages.specs.Messages.{calls_after_cancel, calls_after_post, calls_after_renew, is_live, state_at, thread_at, with_state, HasNoNumber, IsWorker};
+ghost use Rattle.st_messages.specs.Messages.{calls_after_cancel, calls_after_post, calls_after_renew, is_live_number, message_state, thread_of_number, with_state, HasNoNumber, HasWorker};
 ghost use Rattle.st_messages.specs.declared.message.Delivered.TheVariants.{Applied, Stale};
 ghost use Rattle.st_messages.specs.declared.message.MsgState.TheVariants.{Answered, Claimed, Faulted};
 ghost use Rattle.st_model.specs.Process.{Process};
@@ -18,10 +18,10 @@ ghost use Rattle.st_names.specs.Name.{Components};
 ghost use Rattle.st_names.specs.Seen.{seen_text};
 ghost use Rattle.st_trace.specs.declared.entry.Entry.TheVariants as entry;
 ghost use Rattle.st_trace.specs.declared.entry.Way.TheVariants.{Held};
-ghost use Rattle.st_workers.specs.Kept.{head_of, messages_renewed, AreKept, ChangesLife, Follows, HasComeTo, IsAnswered, IsHeldBy, IsKept, IsKeptAfter, RenewsLife, Stands};
+ghost use Rattle.st_workers.specs.Refinement.{head_of, messages_renewed, RepresentsMachineMessages, ChangesLife, RepresentsAfterEntry, IsMessageStateOf, HasAnswer, IsHeldBy, RepresentsMessages, RepresentsMessagesAfter, RenewsLife, SameWorkersState};
 ghost use Rattle.st_workers.specs.Leaving.{HasLeft};
-ghost use Rattle.st_workers.specs.Tasks.{task_of, IsBusy, IsCopy, IsFault, IsLook, IsTask, IsThere};
-ghost use Rattle.st_workers.specs.UnderWay.{turn_at};
+ghost use Rattle.st_workers.specs.Tasks.{task_of, IsBusy, IsCopy, IsFault, IsLook, IsTask, CanServe};
+ghost use Rattle.st_workers.specs.UnderWay.{turn_of_worker};
 ghost use Rattle.st_workers.specs.declared.task.Task.TheVariants.{Answer, Claim, Copy, Fault, Look as LookAt};
 
 use crate::filling;
@@ -51,9 +51,9 @@ impl Model for Workers {
 
     ghost view = { λ w. record { calls = w.messages; slots = w.slots; turns = w.turns.items } };
 
-    ghost use Rattle.st_workers.specs.Kept.{IsWhole};
+    ghost use Rattle.st_workers.specs.Refinement.{AreValidWorkers};
 
-    ghost invariant = { λ w. IsWhole (record { calls = w.messages; slots = w.slots; turns = w.turns.items }) };
+    ghost invariant = { λ w. AreValidWorkers (record { calls = w.messages; slots = w.slots; turns = w.turns.items }) };
 }
 
 // So many idle workers.
@@ -92,7 +92,7 @@ impl Workers {
         ensures workers { IfOk result (λ kept. kept.calls.workers ≡ workers) }
         ensures next { IfOk result (λ kept. kept.calls.next ≡ 1) }
         ensures none { IfOk result (λ kept. kept.calls.live ≡ []) }
-        ensures kept { IfOk result (λ kept. (i : Input) → workers ≡ i.options.workers → IsKept i (first_state i) (is_live_in (first_state i)) kept) }
+        ensures kept { IfOk result (λ kept. (i : Input) → workers ≡ i.options.workers → RepresentsMessages i (first_state i) (is_live_in (first_state i)) kept) }
     {
         Ok(Workers {
             messages: Messages::new(alloc, workers),
@@ -117,42 +117,42 @@ impl Workers {
 
     /// How far a message has come; none iff the number isn't live.
     pub fn state(&self, seq: Seq) -> Option<MsgState>
-        ensures state { result ≡ state_at self.now.calls seq }
-        ensures law { (i : Input) (st : State) → IsKept i st (is_live_in st) self.now → HasComeTo i st seq result }
+        ensures state { result ≡ message_state self.now.calls seq }
+        ensures law { (i : Input) (st : State) → RepresentsMessages i st (is_live_in st) self.now → IsMessageStateOf i st seq result }
     {
         self.messages.state(seq)
     }
 
     /// The thread whose held call has a live number; none if the number isn't live.
     pub fn thread(&self, seq: Seq) -> Option<Tid>
-        ensures thread { result ≡ thread_at self.now.calls seq }
-        ensures law { IfSome result (λ tid. (i : Input) (st : State) → IsKept i st (is_live_in st) self.now → IsHeldBy st seq tid) }
+        ensures thread { result ≡ thread_of_number self.now.calls seq }
+        ensures law { IfSome result (λ tid. (i : Input) (st : State) → RepresentsMessages i st (is_live_in st) self.now → IsHeldBy st seq tid) }
     {
         self.messages.thread(seq)
     }
 
     /// The message of a live number.
     pub fn head(&self, seq: Seq) -> &Head
-        requires { is_live self.now.calls seq ≡ true }
+        requires { is_live_number self.now.calls seq ≡ true }
         ensures head { IfSome (slot_at self.now.slots seq) (λ slot. result.now ≡ slot.head) }
-        ensures law { IfSome (thread_at self.now.calls seq) (λ tid. (i : Input) (st : State) → IsKept i st (is_live_in st) self.now → (st.messages seq).head ≡ Some (head_of tid result.now)) }
+        ensures law { IfSome (thread_of_number self.now.calls seq) (λ tid. (i : Input) (st : State) → RepresentsMessages i st (is_live_in st) self.now → (st.messages seq).head ≡ Some (head_of tid result.now)) }
     {
         self.slots.slot(seq).head()
     }
 
     /// The turn of a worker.
     pub fn turn(&self, worker: Worker) -> &Turn
-        requires { IsWorker self.now.calls worker }
-        ensures { turn_at self.now worker ≡ Some result.now }
+        requires { HasWorker self.now.calls worker }
+        ensures { turn_of_worker self.now worker ≡ Some result.now }
     {
         &self.turns[worker as usize - 1]
     }
 
     /// The copies that a ready worker answers.
     pub fn copies(&self, worker: Worker) -> &Snapshot
-        requires worker { IsWorker self.now.calls worker }
+        requires worker { HasWorker self.now.calls worker }
         requires task { task_of self.now worker ≡ Answer }
-        ensures { turn_at self.now worker ≡ Some (Ready result.now) }
+        ensures { turn_of_worker self.now worker ≡ Some (Ready result.now) }
     {
         let Turn::Ready(snapshot) = &self.turns[worker as usize - 1] else {
             unreachable!()
@@ -163,10 +163,10 @@ impl Workers {
     /// What a worker does next.
     #[inline]
     pub fn task(&self, worker: Worker) -> Task
-        requires { IsWorker self.now.calls worker }
+        requires { HasWorker self.now.calls worker }
         ensures task { result ≡ task_of self.now worker }
-        ensures there { IsThere self.now.calls result }
-        ensures law { (i : Input) (st : State) → IsKept i st (is_live_in st) self.now → IsTask i st self.now worker result }
+        ensures there { CanServe self.now.calls result }
+        ensures law { (i : Input) (st : State) → RepresentsMessages i st (is_live_in st) self.now → IsTask i st self.now worker result }
     {
         match &self.turns[worker as usize - 1] {
             Turn::Idle => match self.messages.least_waiting() {
@@ -190,8 +190,8 @@ impl Workers {
         ensures seq { IfOk result (λ seq. seq ≡ self.old.calls.next) }
         ensures workers { self.new.calls.workers ≡ self.old.calls.workers }
         ensures calls { OnOk result (self.new.calls ≡ calls_after_post self.old.calls tid) }
-        ensures kept { OnOk result ((i : Input) (st : State) (alive later : ℕ → Bool) (call : SysCall) (regs : List ℕ) → IsKept i st alive self.old → head_of tid head ≡ new_head i tid (st.threads tid).owner (st.processes (st.threads tid).owner) call regs → ChangesLife alive (suc st.posted) true later → IsKeptAfter i st (entry.Entered tid call regs (Held (suc st.posted))) later self.new) }
-        ensures err { OnErr result (Stands self.old self.new) }
+        ensures kept { OnOk result ((i : Input) (st : State) (alive later : ℕ → Bool) (call : SysCall) (regs : List ℕ) → RepresentsMessages i st alive self.old → head_of tid head ≡ new_head i tid (st.threads tid).owner (st.processes (st.threads tid).owner) call regs → ChangesLife alive (suc st.posted) true later → RepresentsMessagesAfter i st (entry.Entered tid call regs (Held (suc st.posted))) later self.new) }
+        ensures err { OnErr result (SameWorkersState self.old self.new) }
     {
         let seq = head.seq;
         self.slots.reserve(alloc, head)?;
@@ -209,8 +209,8 @@ impl Workers {
         requires { task_of self.old worker ≡ Claim }
         ensures calls { IfOk result (λ seq. self.new.calls ≡ with_state self.old.calls seq (Claimed worker)) }
         ensures workers { self.new.calls.workers ≡ self.old.calls.workers }
-        ensures law { IfOk result (λ seq. (i : Input) (st : State) → IsKept i st (is_live_in st) self.old → worker_entry i st worker ≡ Some (entry.Claimed worker seq)) }
-        ensures kept { IfOk result (λ seq. Follows self.old (entry.Claimed worker seq) self.new) }
+        ensures law { IfOk result (λ seq. (i : Input) (st : State) → RepresentsMessages i st (is_live_in st) self.old → worker_entry i st worker ≡ Some (entry.Claimed worker seq)) }
+        ensures kept { IfOk result (λ seq. RepresentsAfterEntry self.old (entry.Claimed worker seq) self.new) }
         ensures err { OnErr result (self.new ≡ self.old) }
     {
         let Some(seq) = self.messages.least_waiting() else {
@@ -225,7 +225,7 @@ impl Workers {
     // The number that a worker is at.
     fn seq_at(&self, worker: Worker) -> Seq
         requires { IsBusy (task_of self.now worker) }
-        ensures { turn_at self.now worker ≡ Some (Working result) }
+        ensures { turn_of_worker self.now worker ≡ Some (Working result) }
     {
         let Turn::Working(seq) = &self.turns[worker as usize - 1] else {
             unreachable!()
@@ -237,8 +237,8 @@ impl Workers {
     pub fn copy(&mut self, alloc: Global, worker: Worker, word: u64) -> Result<(), AllocError>
         requires { IsCopy (task_of self.old worker) }
         ensures calls { self.new.calls ≡ self.old.calls }
-        ensures kept { OnOk result ((seq pid part place : ℕ) → task_of self.old worker ≡ Copy seq pid part place → Follows self.old (entry.Copied seq part place word) self.new) }
-        ensures err { OnErr result (Stands self.old self.new) }
+        ensures kept { OnOk result ((seq pid part place : ℕ) → task_of self.old worker ≡ Copy seq pid part place → RepresentsAfterEntry self.old (entry.Copied seq part place word) self.new) }
+        ensures err { OnErr result (SameWorkersState self.old self.new) }
     {
         let seq = self.seq_at(worker);
         let turn = &mut self.turns[worker as usize - 1];
@@ -248,10 +248,10 @@ impl Workers {
     /// The name that a worker's task asks it to look at. The walk of that name is readied, and the abstract state is unchanged.
     pub fn look_name(&mut self, alloc: Global, worker: Worker) -> Result<AbsName, AllocError>
         requires { IsLook (task_of self.old worker) }
-        ensures stands { Stands self.old self.new }
+        ensures stands { SameWorkersState self.old self.new }
         ensures task { task_of self.new worker ≡ task_of self.old worker }
         ensures calls { self.new.calls ≡ self.old.calls }
-        ensures law { IfOk result (λ name. (i : Input) (st : State) (seq part : ℕ) → IsKept i st (is_live_in st) self.old → task_of self.old worker ≡ LookAt seq part → worker_entry i st worker ≡ Some (entry.Looked seq part name (look st.tree name))) }
+        ensures law { IfOk result (λ name. (i : Input) (st : State) (seq part : ℕ) → RepresentsMessages i st (is_live_in st) self.old → task_of self.old worker ≡ LookAt seq part → worker_entry i st worker ≡ Some (entry.Looked seq part name (look st.tree name))) }
     {
         let seq = self.seq_at(worker);
         self.slots.next_name(alloc, seq)
@@ -261,8 +261,8 @@ impl Workers {
     pub fn look(&mut self, alloc: Global, worker: Worker, seen: Seen<'_>) -> Result<(), AllocError>
         requires { IsLook (task_of self.old worker) }
         ensures calls { self.new.calls ≡ self.old.calls }
-        ensures kept { OnOk result ((seq part : ℕ) (name : Components) → task_of self.old worker ≡ LookAt seq part → Follows self.old (entry.Looked seq part name (seen_text seen.entry)) self.new) }
-        ensures err { OnErr result (Stands self.old self.new) }
+        ensures kept { OnOk result ((seq part : ℕ) (name : Components) → task_of self.old worker ≡ LookAt seq part → RepresentsAfterEntry self.old (entry.Looked seq part name (seen_text seen.entry)) self.new) }
+        ensures err { OnErr result (SameWorkersState self.old self.new) }
     {
         let seq = self.seq_at(worker);
         let turn = &mut self.turns[worker as usize - 1];
@@ -274,7 +274,7 @@ impl Workers {
         requires { IsFault (task_of self.old worker) }
         ensures workers { self.new.calls.workers ≡ self.old.calls.workers }
         ensures calls { (seq : ℕ) (errno : Errno) → task_of self.old worker ≡ Fault seq errno → self.new.calls ≡ with_state self.old.calls seq (Faulted errno) }
-        ensures kept { (seq : ℕ) (errno : Errno) → task_of self.old worker ≡ Fault seq errno → Follows self.old (entry.Faulted seq errno) self.new }
+        ensures kept { (seq : ℕ) (errno : Errno) → task_of self.old worker ≡ Fault seq errno → RepresentsAfterEntry self.old (entry.Faulted seq errno) self.new }
     {
         let seq = self.seq_at(worker);
         let Next::Fault(errno) = self.slots.next(seq) else {
@@ -288,13 +288,13 @@ impl Workers {
     /// copies is live. It takes no memory.
     pub fn answer(&mut self, worker: Worker, verdict: Verdict) -> (Shared<Snapshot>, Delivered)
         requires { task_of self.old worker ≡ Answer }
-        ensures copies { turn_at self.old worker ≡ Some (Ready result.0) }
-        ensures applied { (result.1 ≡ Applied) ↔ (is_live self.old.calls result.0.seq ≡ true) }
-        ensures lives { (i : Input) (st : State) (alive : ℕ → Bool) → IsKept i st alive self.old → is_live self.old.calls result.0.seq ≡ alive result.0.seq }
+        ensures copies { turn_of_worker self.old worker ≡ Some (Ready result.0) }
+        ensures applied { (result.1 ≡ Applied) ↔ (is_live_number self.old.calls result.0.seq ≡ true) }
+        ensures lives { (i : Input) (st : State) (alive : ℕ → Bool) → RepresentsMessages i st alive self.old → is_live_number self.old.calls result.0.seq ≡ alive result.0.seq }
         ensures workers { self.new.calls.workers ≡ self.old.calls.workers }
         ensures calls { result.1 ≡ Applied → self.new.calls ≡ with_state self.old.calls result.0.seq (Answered verdict) }
         ensures stale { result.1 ≡ Stale → self.new.calls ≡ self.old.calls }
-        ensures kept { (i : Input) (st : State) (alive : ℕ → Bool) → IsKept i st alive self.old → verdict ≡ judged (read_for i result.0.policy result.0.rule) result.0 → IsKeptAfter i st (entry.Answered worker result.0 verdict (alive result.0.seq)) alive self.new }
+        ensures kept { (i : Input) (st : State) (alive : ℕ → Bool) → RepresentsMessages i st alive self.old → verdict ≡ judged (read_for i result.0.policy result.0.rule) result.0 → RepresentsMessagesAfter i st (entry.Answered worker result.0 verdict (alive result.0.seq)) alive self.new }
     {
         let turn = std::mem::replace(&mut self.turns[worker as usize - 1], Turn::Idle);
         let Turn::Ready(snapshot) = turn else {
@@ -306,8 +306,8 @@ impl Workers {
 
     /// The copies of an answered message.
     pub fn snapshot(&self, alloc: Global, seq: Seq) -> Result<Shared<Snapshot>, AllocError>
-        requires { IsAnswered (state_at self.now.calls seq) }
-        ensures { IfOk result (λ copies. (i : Input) (st : State) → IsKept i st (is_live_in st) self.now → snapshot_in st seq ≡ Some copies) }
+        requires { HasAnswer (message_state self.now.calls seq) }
+        ensures { IfOk result (λ copies. (i : Input) (st : State) → RepresentsMessages i st (is_live_in st) self.now → snapshot_in st seq ≡ Some copies) }
     {
         self.slots.copies(alloc, seq)
     }
@@ -315,9 +315,9 @@ impl Workers {
     /// Ends a live number, because its call is made or denied, or its thread is dying. A worker at this number becomes idle, unless it is
     /// ready: then it still answers, but too late. It takes no memory.
     pub fn cancel(&mut self, seq: Seq)
-        requires { is_live self.old.calls seq ≡ true }
+        requires { is_live_number self.old.calls seq ≡ true }
         ensures calls { self.new.calls ≡ calls_after_cancel self.old.calls seq }
-        ensures kept { (i : Input) (messages : ℕ → Message) (turns : ℕ → Option ℕ) (alive later : ℕ → Bool) (posted : ℕ) → AreKept i messages turns alive posted self.old → ChangesLife alive seq false later → AreKept i messages turns later posted self.new }
+        ensures kept { (i : Input) (messages : ℕ → Message) (turns : ℕ → Option ℕ) (alive later : ℕ → Bool) (posted : ℕ) → RepresentsMachineMessages i messages turns alive posted self.old → ChangesLife alive seq false later → RepresentsMachineMessages i messages turns later posted self.new }
     {
         leave(&mut self.turns, self.messages.state(seq));
         self.messages.cancel(seq);
@@ -327,13 +327,13 @@ impl Workers {
     /// Ends a live number, as `cancel` does, and posts its call again under the next number, which it returns, with these ids and this
     /// directory. Nothing that was copied or seen is kept. It takes no memory.
     pub fn renew(&mut self, seq: Seq, ids: Ids, cwd: Shared<AbsName>) -> Seq
-        requires live { is_live self.old.calls seq ≡ true }
+        requires live { is_live_number self.old.calls seq ≡ true }
         requires room { self.old.calls.next < 2 ^ 64 - 1 }
         requires short { IsShort cwd }
         ensures seq { result ≡ self.old.calls.next }
         ensures workers { self.new.calls.workers ≡ self.old.calls.workers }
         ensures calls { self.new.calls ≡ calls_after_renew self.old.calls seq }
-        ensures kept { (i : Input) (messages : ℕ → Message) (turns : ℕ → Option ℕ) (alive later : ℕ → Bool) (posted : ℕ) (process : Process) → AreKept i messages turns alive posted self.old → process.ids ≡ ids → process.cwd ≡ cwd → RenewsLife alive seq (suc posted) later → AreKept i (messages_renewed process seq (suc posted) messages) turns later (suc posted) self.new }
+        ensures kept { (i : Input) (messages : ℕ → Message) (turns : ℕ → Option ℕ) (alive later : ℕ → Bool) (posted : ℕ) (process : Process) → RepresentsMachineMessages i messages turns alive posted self.old → process.ids ≡ ids → process.cwd ≡ cwd → RenewsLife alive seq (suc posted) later → RepresentsMachineMessages i (messages_renewed process seq (suc posted) messages) turns later (suc posted) self.new }
     {
         leave(&mut self.turns, self.messages.state(seq));
         let fresh = self.messages.renew(seq);

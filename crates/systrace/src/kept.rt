@@ -71,20 +71,20 @@ fn note(alloc: Global, kept: &mut Kept, name: &Text, fetched: &Result<Text, Fetc
 }
 
 impl<F: Files> Files for KeptFiles<F> {
-    ghost held = { λ k. F.held k.files };
+    ghost contents = { λ k. F.contents k.files };
 
     ghost asked = { λ k. F.asked k.files };
 
     ghost faults = { λ k. F.faults k.files };
 
     fn fetch(&mut self, alloc: Global, name: &Text) -> Result<Text, FetchFault>
-        ensures held { F.held self.new.files ≡ F.held self.old.files }
+        ensures contents { F.contents self.new.files ≡ F.contents self.old.files }
         ensures asked { F.asked self.new.files ≡ F.asked self.old.files ++ name.now ∷ [] }
-        ensures content { IfOk result (λ text. CanHold (F.held self.old.files name.now) text) }
+        ensures content { IfOk result (λ text. CanHold (F.contents self.old.files name.now) text) }
         ensures within { IfOk result (λ text. length text ≤ FILE_LIMIT) }
-        ensures missing { result ≡ Err FetchFault.Missing → CanLack (F.held self.old.files name.now) }
-        ensures too_long { result ≡ Err FetchFault.TooLong → CanExceed (F.held self.old.files name.now) }
-        ensures no_memory { result ≡ Err FetchFault.NoMemory → CanFit (F.held self.old.files name.now) }
+        ensures missing { result ≡ Err FetchFault.Missing → CanLack (F.contents self.old.files name.now) }
+        ensures too_long { result ≡ Err FetchFault.TooLong → CanExceed (F.contents self.old.files name.now) }
+        ensures no_memory { result ≡ Err FetchFault.NoMemory → CanFit (F.contents self.old.files name.now) }
         ensures failed { result ≡ Err FetchFault.Failed → HasRisen (F.faults self.old.files) (F.faults self.new.files) }
         ensures quiet { result ≢ Err FetchFault.Failed → F.faults self.new.files ≡ F.faults self.old.files }
     {

@@ -1,7 +1,7 @@
 //! Why the host gives no text of a file.
 
 use st_base::Text;
-use st_telling::Unread;
+use st_diagnostics::Unread;
 use std::io::{self, ErrorKind, Read};
 use std::{fs, rt, str};
 

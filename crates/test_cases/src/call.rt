@@ -1,7 +1,7 @@
 use crate::table::Limits;
 use st_base::Text;
+use st_diagnostics::line_of;
 use st_outside::{MemoryFiles, MemorySink};
-use st_telling::line_of;
 use st_top::{Status, systrace_plain};
 use std::alloc::{AllocError, Global};
 
@@ -11,7 +11,7 @@ pub struct Ended {
     pub status: Status,
     pub shown: Text,
     pub written: MemorySink,
-    pub told: Text,
+    pub known: Text,
 }
 
 /// The message for words that end with this status, if no file can be read.
@@ -45,7 +45,7 @@ pub fn call(
     Ok(Ended {
         status,
         shown: shown(alloc, status)?,
-        told: line_of(alloc, files, words, status)?,
+        known: line_of(alloc, files, words, status)?,
         written,
     })
 }

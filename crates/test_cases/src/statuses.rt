@@ -1,6 +1,6 @@
+use st_diagnostics::Unread;
 use st_grammar::{Place, PolicyFault, PolicyRefusal};
 use st_script_faults::ScriptFault;
-use st_telling::Unread;
 use st_top::{Status, Which};
 
 const REFUSAL: PolicyRefusal = PolicyRefusal {

@@ -23,8 +23,8 @@ use crate::call::{Ended, call, tell_status};
 use crate::lines::{count_of, first_line, other_lines, words_of};
 use crate::statuses::{reason_of, status_of};
 use st_base::Text;
+use st_diagnostics::{answer_of, unread_message};
 use st_outside::MemoryFiles;
-use st_telling::{answer_of, unread_message};
 use std::alloc::{AllocError, Global};
 
 /// The state of a table after the lines so far, and what was written of them.
@@ -176,15 +176,15 @@ impl Table {
     fn tell(&mut self, words: &[Text]) -> Result<(), AllocError> {
         let status = status_of(self.number);
         self.write_number(status.number())?;
-        let told = tell_status(self.alloc, words, status)?;
-        self.write_line(told.bytes())
+        let known = tell_status(self.alloc, words, status)?;
+        self.write_line(known.bytes())
     }
 
     // Tells of a file that can't be read.
     fn tell_unread(&mut self, words: &[Text]) -> Result<(), AllocError> {
         for name in words {
-            let told = unread_message(self.alloc, name.bytes(), reason_of(self.number))?;
-            self.write_line(told.bytes())?;
+            let known = unread_message(self.alloc, name.bytes(), reason_of(self.number))?;
+            self.write_line(known.bytes())?;
         }
         Ok(())
     }
@@ -206,15 +206,15 @@ impl Table {
             b'$' => {
                 self.written.append(ended.written.bytes())?;
                 self.write_number(ended.status.number())?;
-                self.write_line(ended.told.bytes())
+                self.write_line(ended.known.bytes())
             }
             b'&' => {
                 self.written.append(ended.written.bytes())?;
                 self.write_line(ended.shown.bytes())
             }
-            b'!' => self.write_line(first_line(ended.told.bytes())),
-            b'^' => self.write_line(other_lines(ended.told.bytes())),
-            _ => self.write_line(ended.told.bytes()),
+            b'!' => self.write_line(first_line(ended.known.bytes())),
+            b'^' => self.write_line(other_lines(ended.known.bytes())),
+            _ => self.write_line(ended.known.bytes()),
         }
     }
 }

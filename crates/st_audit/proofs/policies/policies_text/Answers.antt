@@ -13,5 +13,5 @@ returns c =
     let i = c.args.input.now in
     let session = c.args.session.now.filters in
     IfOk-weaker c.print_learnt.result (λ text. text ≡ canon (learnt_policies i.policies session)) (λ text. (trace : List Entry) → session ≡ session_at i (reverse trace) → text ≡ policy_text i trace)
-    (λ text is trace behind. is ∙ ap (λ (kept : List SessionFilter). canon (learnt_policies i.policies kept)) behind)
+    (λ text is trace following. is ∙ ap (λ (kept : List SessionFilter). canon (learnt_policies i.policies kept)) following)
     c.print_learnt.ensures

@@ -1,8 +1,8 @@
 use Rattle.std.proofs.Common.{◌≡◌, map, drop}
 use Rattle.st_command.specs.Command.{mode_of}
-use Rattle.st_command.specs.Reading.{shown}
+use Rattle.st_command.specs.Reading.{option_value}
 use Rattle.st_command.proofs.given.mode_of.Given as goal
 
 -- the options that are left give the answer
 abbrev pub invariant-loop-option : goal.invariant-loop-option
-invariant-loop-option l = mode_of (map shown (drop l.option-index l.options)) ≡ mode_of (map shown l.options)
+invariant-loop-option l = mode_of (map option_value (drop l.option-index l.options)) ≡ mode_of (map option_value l.options)

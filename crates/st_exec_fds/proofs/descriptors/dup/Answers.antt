@@ -3,7 +3,7 @@ use Rattle.st_model.specs.Descriptors.{Table}
 use Rattle.st_model.specs.DescriptorCalls.{dup_refused, table_after_dup}
 use Rattle.st_effects.specs.Descriptors.{next_descriptor}
 use Rattle.st_effects.specs.System as effects
-use Rattle.st_request.specs.Ready.{IsReal}
+use Rattle.st_request.specs.Ready.{AreValidOpenFiles}
 use Rattle.st_request.specs.Outcome.{with_descriptors}
 use Rattle.st_exec_fds.proofs.Duplicates.{failed, refused}
 use Rattle.st_exec_fds.proofs.descriptors.dup.Goals.{After-failure}
@@ -26,4 +26,4 @@ returns-in-Err-Os-clause-outcome c = λ system.
     ∙ sym (ap (λ reason. effects.unless_refused before (reason ∷ []) made) reason)
 
 pub returns-in-Err-Os-clause-real : goal.returns-in-Err-Os-clause-real
-returns-in-Err-Os-clause-real c = λ tree real. subst (λ (t : Table). IsReal tree t) (sym (refusal c).1) real
+returns-in-Err-Os-clause-real c = λ tree real. subst (λ (t : Table). AreValidOpenFiles tree t) (sym (refusal c).1) real

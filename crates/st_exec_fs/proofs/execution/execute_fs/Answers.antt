@@ -1,5 +1,5 @@
 use Rattle.std.proofs.Common.{refl, rules}
-use Rattle.st_exec_fs.specs.Execution.{IsLook, IsOnDescriptors, IsOnNames}
+use Rattle.st_exec_fs.specs.Execution.{IsLookingCall, IsOnDescriptors, IsOnNames}
 use Rattle.st_exec_fs.proofs.Executed.{chdir_executed, descriptors_executed, look_executed, names_executed, open_executed, read_executed, ready_with_processes, ready_with_tree, still_ready, write_executed}
 use Rattle.st_exec_fs.proofs.execution.execute_fs.Goals as goal
 use Rattle.st_exec_fs.proofs.execution.execute_fs.Goals.{After-change_names, After-look, After-move_descriptors}
@@ -7,7 +7,7 @@ use Rattle.st_exec_fs.proofs.execution.execute_fs.Goals.{After-change_names, Aft
 on_descriptors : (c : After-move_descriptors) → IsOnDescriptors c.args.call
 on_descriptors c = search rules
 
-is_look : (c : After-look) → IsLook c.args.call
+is_look : (c : After-look) → IsLookingCall c.args.call
 is_look c = search rules
 
 on_names : (c : After-change_names) → IsOnNames c.args.call

@@ -4,7 +4,7 @@ use Rattle.std.specs.Option.{option_map}
 use Rattle.std.proofs.lemmas.Result.{err_from_is_err_and}
 use Rattle.st_effects.specs.NameTests.{object_at}
 use Rattle.st_effects.specs.System as effects
-use Rattle.st_tree.specs.Refusals.{IsMade}
+use Rattle.st_tree.specs.Refusals.{IsObjectNumber}
 use Rattle.st_exec_fs.specs.Open.{CanOpen}
 use Rattle.st_request.specs.Outcome.{with_descriptors, with_tree}
 use Rattle.st_exec_objects.specs.Walking.{object_made}
@@ -36,7 +36,7 @@ returns-in_ok-may_open_object-in-Some-clause-outcome c = λ system.
 pub returns-in_ok-may_open_object-in-Some-clause-object : goal.returns-in_ok-may_open_object-in-Some-clause-object
 returns-in_ok-may_open_object-in-Some-clause-object c =
     let place = c.in_ok-place.ensures.place in
-    let made : IsMade c.args.tree.now c.in-Some.obj = found_made c.args.tree.now c.in_ok-place.place.object c.in-Some.obj c.in-Some.is place.object_made in
+    let made : IsObjectNumber c.args.tree.now c.in-Some.obj = found_made c.args.tree.now c.in_ok-place.place.object c.in-Some.obj c.in-Some.is place.object_made in
     let can : CanOpen c.args.tree.now (effects.register c.args.request.now 1) c.in-Some.obj = record {
       made = made;
       no_link = no_link_at c.args.tree.now c.args.name.now c.in-Some.obj (sym c.in-Some.is ∙ place.object) made (c.requires.no_link c.in_ok-may_open_object-in-Some.ensures.exclusive);

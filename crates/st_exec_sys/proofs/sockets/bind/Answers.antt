@@ -1,7 +1,7 @@
 use Rattle.std.proofs.Common.{◌∙◌, ap, sym, subst}
 use Rattle.st_effects.specs.System.{Request}
 use Rattle.st_request.specs.Outcome.{with_descriptors}
-use Rattle.st_request.specs.Ready.{IsReal}
+use Rattle.st_request.specs.Ready.{AreValidOpenFiles}
 use Rattle.st_request.proofs.Outcomes.{failed}
 use Rattle.st_exec_sys.proofs.Binding.{bind_failed, bound_real, not_bound}
 use Rattle.st_exec_sys.proofs.sockets.bind.Goals as goal
@@ -13,7 +13,7 @@ returns-in-Err-clause-outcome c = λ system.
 
 pub returns-in-Ok-clause-real : goal.returns-in-Ok-clause-real
 returns-in-Ok-clause-real c = λ tree real.
-    subst (IsReal tree) (sym c.bind.ensures.table) (bound_real tree c.args.fds.now _ _ c.port_of-port.result real)
+    subst (AreValidOpenFiles tree) (sym c.bind.ensures.table) (bound_real tree c.args.fds.now _ _ c.port_of-port.result real)
 
 pub returns-in-Err-bind-clause-outcome : goal.returns-in-Err-bind-clause-outcome
 returns-in-Err-bind-clause-outcome c = λ system.
@@ -22,4 +22,4 @@ returns-in-Err-bind-clause-outcome c = λ system.
 
 pub returns-in-Err-bind-clause-real : goal.returns-in-Err-bind-clause-real
 returns-in-Err-bind-clause-real c = λ tree real.
-    subst (IsReal tree) (sym c.bind.ensures.table) (bound_real tree c.args.fds.now _ _ c.port_of-port.result real)
+    subst (AreValidOpenFiles tree) (sym c.bind.ensures.table) (bound_real tree c.args.fds.now _ _ c.port_of-port.result real)

@@ -1,5 +1,5 @@
 use Rattle.std.proofs.Common.{◌≡◌, ◌≤◌, suc, length}
-use Rattle.st_next.specs.Holding.{is_alike, message_held}
+use Rattle.st_decide.specs.Holding.{is_same_rule, message_held}
 use Rattle.st_kernel.proofs.Woken.{IsWokenTo}
 use Rattle.st_kernel.proofs.waking.wake_alike.Given as goal
 
@@ -8,5 +8,5 @@ abbrev pub invariant-loop-tid : goal.invariant-loop-tid
 invariant-loop-tid l = record {
   from : 1 ≤ l.tid;
   end : l.tid-end ≡ suc (length l.machine.threads);
-  so_far : IsWokenTo (λ t. is_alike l.message (message_held l.machine t)) l.tid l.initial.asleep l.asleep;
+  so_far : IsWokenTo (λ t. is_same_rule l.message (message_held l.machine t)) l.tid l.initial.asleep l.asleep;
 }

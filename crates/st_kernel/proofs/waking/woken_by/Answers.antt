@@ -1,7 +1,7 @@
 use Rattle.std.proofs.Common.{◌∙◌, ap, inl, inr, sym}
 use Rattle.st_trace.specs.declared.entry.Entry.{Entry}
 use Rattle.st_reached.specs.Waiting.{wakes}
-use Rattle.st_next.proofs.Alike.{held_alike}
+use Rattle.st_decide.proofs.SameRule.{held_alike}
 use Rattle.st_kernel.proofs.waking.woken_by.Goals as goal
 
 pub returns-in-Learned-clause-law : goal.returns-in-Learned-clause-law

@@ -1,6 +1,6 @@
 use Rattle.std.proofs.Common.{◌++◌, ap}
 use Rattle.st_learn.specs.Learnt.{filters_added, rows_text}
-use Rattle.st_learn.specs.Sessions.{is_of}
+use Rattle.st_learn.specs.Sessions.{is_filter_for}
 use Rattle.st_learn.proofs.Filters.{added_found, item_inside}
 use Rattle.st_learn.proofs.Printing.{row_next}
 use Rattle.st_learn.proofs.print.append_added.Goals as goal
@@ -12,7 +12,7 @@ loop-place-init c = record {
 }
 
 pub kept-requires : goal.kept-requires
-kept-requires c = item_inside c.args.session.now.filters (is_of c.args.policy.now) c.places_of-place-items.result.now c.loop-place.place-index 0 c.places_of-place-items.ensures.is c.loop-place-test.true
+kept-requires c = item_inside c.args.session.now.filters (is_filter_for c.args.policy.now) c.places_of-place-items.result.now c.loop-place.place-index 0 c.places_of-place-items.ensures.is c.loop-place-test.true
 
 pub loop-place-preserved : goal.loop-place-preserved
 loop-place-preserved c = record {

@@ -1,6 +1,6 @@
 use Rattle.std.proofs.Common.{◌+◌, length, sym, subst, arith}
 use Rattle.std.proofs.lemmas.List.Sums.{prefix_len-le-length}
-use Rattle.st_lex.specs.Tokens.{LiesWithin, is_word_byte, is_no_newline}
+use Rattle.st_lex.specs.Tokens.{IsFrontWithin, is_word_byte, is_no_newline}
 use Rattle.st_lex.specs.Quoted.{closing_len, inner_fault}
 use Rattle.st_lex.proofs.Within.{quoted_front-within, closing_len-within, inner_fault-within}
 use Rattle.st_lex.proofs.lexer.front.Goals as goal
@@ -19,4 +19,4 @@ returns-then-is_word_byte-clause-within c = (omega arith, omega (arith, prefix_l
 
 pub returns-then-first-eq34-clause-within : goal.returns-then-first-eq34-clause-within
 returns-then-first-eq34-clause-within c =
-    subst (LiesWithin (length c.args.after.now + 1)) (sym c.quoted_front.ensures) (quoted_front-within (length c.args.after.now) (closing_len c.args.after.now) (inner_fault c.args.after.now) (closing_len-within c.args.after.now) (inner_fault-within c.args.after.now))
+    subst (IsFrontWithin (length c.args.after.now + 1)) (sym c.quoted_front.ensures) (quoted_front-within (length c.args.after.now) (closing_len c.args.after.now) (inner_fault c.args.after.now) (closing_len-within c.args.after.now) (inner_fault-within c.args.after.now))

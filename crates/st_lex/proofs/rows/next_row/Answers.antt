@@ -12,6 +12,6 @@ pub returns : goal.returns
 returns c =
     next_row_at c.args.tokens.now _ _ c.blank_len.result c.row_len-end.result (take_rest c.args.tokens.now c.blank_len.result) c.blank_len.ensures.is (rest_some c.args.tokens.now c.blank_len.result _ c.is_empty.ensures c.if-is_empty.false) c.row_len-end.ensures.is
     (elim c.if-end-rest.branch [
-      | then-end-rest w ↦ ap (λ (b : Bor (List Token)). b.now) w.behind-is ∙ take_rest (take (length c.args.tokens.now - c.blank_len.result) (drop c.blank_len.result c.args.tokens.now)) (c.row_len-end.result + 1)
-      | else-end-rest w ↦ ap (λ (b : Bor (List Token)). b.now) w.behind-is ∙ sym (drop_all (c.row_len-end.result + 1) (take (length c.args.tokens.now - c.blank_len.result) (drop c.blank_len.result c.args.tokens.now)) (omega (arith, w.if-end-rest.false)))
+      | then-end-rest w ↦ ap (λ (b : Bor (List Token)). b.now) w.following-is ∙ take_rest (take (length c.args.tokens.now - c.blank_len.result) (drop c.blank_len.result c.args.tokens.now)) (c.row_len-end.result + 1)
+      | else-end-rest w ↦ ap (λ (b : Bor (List Token)). b.now) w.following-is ∙ sym (drop_all (c.row_len-end.result + 1) (take (length c.args.tokens.now - c.blank_len.result) (drop c.blank_len.result c.args.tokens.now)) (omega (arith, w.if-end-rest.false)))
     ])

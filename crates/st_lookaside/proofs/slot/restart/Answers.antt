@@ -2,7 +2,7 @@ use Rattle.std.proofs.Common.{◌≡◌, ◌∙◌, ◌<◌, ◌+◌, ℕ, List,
 use Rattle.std.proofs.lemmas.Bool.{cases_eq}
 use Rattle.std.proofs.lemmas.List.{get_or-set_other, get_or-set_same}
 use Rattle.std.proofs.Math.Seq.{map-set_same}
-use Rattle.st_lookaside.specs.Head.{request_of}
+use Rattle.st_lookaside.specs.Head.{arg_request}
 use Rattle.st_lookaside.specs.Part.{filled_of, nothing_filled, IsPart}
 use Rattle.st_lookaside.specs.declared.part.Part.{Part}
 use Rattle.st_lookaside.proofs.slot.restart.Goals as goal
@@ -23,6 +23,6 @@ loop-part-preserved c =
     record {
       specs = map-set_same (λ (p : Part). p.spec) parts i after c.part-item.result c.restart.ensures.spec ∙ c.loop-part.invariant.specs;
       ahead = λ k d lt. get_or-set_other parts i k after d (λ e. let here : k ≡ i = e in omega (arith, here, lt)) ∙ c.loop-part.invariant.ahead k d (omega (arith, lt));
-      parts = further (IsPart (request_of c.args.head.now)) parts i after within c.loop-part.invariant.parts c.restart.ensures.part;
+      parts = further (IsPart (arg_request c.args.head.now)) parts i after within c.loop-part.invariant.parts c.restart.ensures.part;
       filled = further (λ p. filled_of p ≡ nothing_filled) parts i after within c.loop-part.invariant.filled c.restart.ensures.filled;
     }

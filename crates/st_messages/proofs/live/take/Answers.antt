@@ -1,11 +1,11 @@
 use Rattle.std.proofs.Common.{◌≡◌, ◌∙◌, ap, sym, length, not, arith, rules}
-use Rattle.st_messages.specs.Messages.{has_number, message_in, without_number}
+use Rattle.st_messages.specs.Messages.{is_message_of, message_in, without_number}
 use Rattle.std.proofs.lemmas.Fn.{filter_same}
 use Rattle.st_messages.proofs.Lookups.{shorter}
 use Rattle.st_messages.proofs.live.take.Goals as goal
 
 left : (c : goal.After-retain) → c.retain.new.self.items ≡ without_number c.args.live.now.items c.args.seq
-left c = filter_same _ (λ message. not (has_number c.args.seq message)) _ (λ x b f' k. search rules) _ _ c.retain.ensures.filtered
+left c = filter_same _ (λ message. not (is_message_of c.args.seq message)) _ (λ x b f' k. search rules) _ _ c.retain.ensures.filtered
 
 pub returns-clause-others : goal.returns-clause-others
 returns-clause-others c = left c

@@ -1,6 +1,6 @@
 use Rattle.std.proofs.Common.{◌≡◌, arith, sym, ◌∙◌, true, false}
 use Rattle.std.specs.Str.{bytes_eq}
-use Rattle.st_outside.proofs.HeldLemmas.{held_of-more, later-same, later-other}
+use Rattle.st_outside.proofs.ContentsLemmas.{held_of-more, later-same, later-other}
 use Rattle.st_outside.proofs.memory_files.content_of.Goals as goal
 use Rattle.st_outside.proofs.memory_files.content_of.Goals.{then-eq, else-eq}
 

@@ -5,4 +5,4 @@ pub returns-clause-step : goal.returns-clause-step
 returns-clause-step c = step_prints_nothing
 
 pub returns-clause-check : goal.returns-clause-check
-returns-clause-check c held check input schedule = check_runs_nothing held check check.script input schedule
+returns-clause-check c contents check input schedule = check_runs_nothing contents check check.script input schedule

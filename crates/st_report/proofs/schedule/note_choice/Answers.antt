@@ -11,8 +11,8 @@ returns-then-joins c =
 pub returns-else-count-gt0 : goal.returns-else-count-gt0
 returns-else-count-gt0 c =
     let items = c.args.repeats.now.items in
-    let behind : items ++ repeat_of c.args.choice 1 ∷ [] ≡ repeats_with items c.args.choice = elim c.else-count-gt0.branch [
+    let following : items ++ repeat_of c.args.choice 1 ∷ [] ≡ repeats_with items c.args.choice = elim c.else-count-gt0.branch [
       | else-count-gt0-via-then-count-gt0+else-joins w ↦ last_kept items (c.len-count.result - 1) w.index.result.now c.args.choice (search rules) (search rules) (search rules)
       | else-count-gt0-via-else-count-gt0 w ↦ none_kept items c.args.choice (search rules)
     ] in
-    c.push_reserved.ensures.items ∙ behind
+    c.push_reserved.ensures.items ∙ following

@@ -1,12 +1,12 @@
 use Rattle.std.proofs.Common.{rules}
-use Rattle.st_script.specs.Startable.{CanStart}
+use Rattle.st_script.specs.Startable.{IsRunnableScript}
 use Rattle.st_script.proofs.Bounded.{IsBoundedScript, script_is_bounded}
 use Rattle.st_script.proofs.ReadTexts.{result_has}
 use Rattle.st_script.proofs.Startable.{script_can_start}
 use Rattle.st_script.proofs.reading.read_script.Goals as goal
 
 pub returns-clause-can_start : goal.returns-clause-can_start
-returns-clause-can_start c = result_has CanStart c.args.text.now c.args.options.now (script_can_start c.args.text.now c.args.options.now) c.read_lines.result (search rules)
+returns-clause-can_start c = result_has IsRunnableScript c.args.text.now c.args.options.now (script_can_start c.args.text.now c.args.options.now) c.read_lines.result (search rules)
 
 pub returns-clause-bounded : goal.returns-clause-bounded
 returns-clause-bounded c = result_has IsBoundedScript c.args.text.now c.args.options.now (script_is_bounded c.args.text.now c.args.options.now) c.read_lines.result (search rules)

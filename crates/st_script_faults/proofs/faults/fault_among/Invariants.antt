@@ -1,5 +1,5 @@
 use Rattle.std.proofs.Common.{◌≡◌, ◌≤◌, length}
-use Rattle.st_script_faults.specs.Faults.{first_fault, replies_behind}
+use Rattle.st_script_faults.specs.Faults.{first_fault, replies_after}
 use Rattle.st_script_faults.specs.declared.limits.TheConstants.{MOST_INSTRUCTIONS}
 use Rattle.st_script_faults.proofs.faults.fault_among.Given as goal
 
@@ -7,7 +7,7 @@ use Rattle.st_script_faults.proofs.faults.fault_among.Given as goal
 abbrev pub invariant-loop-line : goal.invariant-loop-line
 invariant-loop-line l = record {
   rest : first_fault l.whole l.above l.rest ≡ first_fault l.whole l.initial.above l.lines;
-  replies : replies_behind l.whole.env l.replies l.rest ≡ replies_behind l.whole.env l.initial.replies l.lines;
+  replies : replies_after l.whole.env l.replies l.rest ≡ replies_after l.whole.env l.initial.replies l.lines;
   few : l.above.instructions ≤ MOST_INSTRUCTIONS;
 }
 

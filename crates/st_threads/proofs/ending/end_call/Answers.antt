@@ -1,7 +1,7 @@
 use Rattle.std.proofs.Common.{◌∙◌, Bool, Option, ℕ, ap, cond, false, sym, subst}
 use Rattle.st_model.specs.Tree.{is_number}
 use Rattle.st_reached.proofs.Life.{eqb-sym}
-use Rattle.st_workers.specs.Kept.{IsKept}
+use Rattle.st_workers.specs.Refinement.{RepresentsMessages}
 use Rattle.st_threads.specs.Ending.{life_without_number}
 use Rattle.st_threads.proofs.ending.end_call.Goals as goal
 
@@ -11,4 +11,4 @@ returns-in-Some c = λ i st alive kept.
     (λ other. ap (λ (b : Bool). cond b false (alive other)) (ap (is_number other) c.in-Some.is ∙ eqb-sym c.in-Some.seq other))
 
 pub returns-in_default : goal.returns-in_default
-returns-in_default c = λ i st alive kept. subst (λ (seq : Option ℕ). IsKept i st (life_without_number alive seq) c.args.workers.now) (sym c.in_default.is) kept
+returns-in_default c = λ i st alive kept. subst (λ (seq : Option ℕ). RepresentsMessages i st (life_without_number alive seq) c.args.workers.now) (sym c.in_default.is) kept

@@ -9,40 +9,40 @@ use Rattle.st_top.proofs.plain.prepare.Goals as goal
 
 pub text_of_run-requires-clause-startable : goal.text_of_run-requires-clause-startable
 text_of_run-requires-clause-startable g c =
-    (ready (g.F.Files.held c.args.files.now) c.args.command.now (g.F.Files.asked c.args.files.now) (g.F.Files.asked c.read_command.new.files) c.in_ok-input.field-0 c.in_ok-input.ensures.ends c.in-Run.input c.in-Run.schedule c.in-Run.is
+    (ready (g.F.Files.contents c.args.files.now) c.args.command.now (g.F.Files.asked c.args.files.now) (g.F.Files.asked c.read_command.new.files) c.in_ok-input.field-0 c.in_ok-input.ensures.ends c.in-Run.input c.in-Run.schedule c.in-Run.is
     c.what_is_meant_to_run_can_run.ensures c.requires.limits).startable
 
 pub text_of_run-requires-clause-system : goal.text_of_run-requires-clause-system
 text_of_run-requires-clause-system g c =
-    (ready (g.F.Files.held c.args.files.now) c.args.command.now (g.F.Files.asked c.args.files.now) (g.F.Files.asked c.read_command.new.files) c.in_ok-input.field-0 c.in_ok-input.ensures.ends c.in-Run.input c.in-Run.schedule c.in-Run.is
+    (ready (g.F.Files.contents c.args.files.now) c.args.command.now (g.F.Files.asked c.args.files.now) (g.F.Files.asked c.read_command.new.files) c.in_ok-input.field-0 c.in_ok-input.ensures.ends c.in-Run.input c.in-Run.schedule c.in-Run.is
     c.what_is_meant_to_run_can_run.ensures c.requires.limits).system
 
 pub text_of_run-requires-clause-bounded : goal.text_of_run-requires-clause-bounded
 text_of_run-requires-clause-bounded g c =
-    (ready (g.F.Files.held c.args.files.now) c.args.command.now (g.F.Files.asked c.args.files.now) (g.F.Files.asked c.read_command.new.files) c.in_ok-input.field-0 c.in_ok-input.ensures.ends c.in-Run.input c.in-Run.schedule c.in-Run.is
+    (ready (g.F.Files.contents c.args.files.now) c.args.command.now (g.F.Files.asked c.args.files.now) (g.F.Files.asked c.read_command.new.files) c.in_ok-input.field-0 c.in_ok-input.ensures.ends c.in-Run.input c.in-Run.schedule c.in-Run.is
     c.what_is_meant_to_run_can_run.ensures c.requires.limits).bounded
 
 pub text_of_run-requires-clause-ungranted : goal.text_of_run-requires-clause-ungranted
 text_of_run-requires-clause-ungranted g c =
-    (ready (g.F.Files.held c.args.files.now) c.args.command.now (g.F.Files.asked c.args.files.now) (g.F.Files.asked c.read_command.new.files) c.in_ok-input.field-0 c.in_ok-input.ensures.ends c.in-Run.input c.in-Run.schedule c.in-Run.is
+    (ready (g.F.Files.contents c.args.files.now) c.args.command.now (g.F.Files.asked c.args.files.now) (g.F.Files.asked c.read_command.new.files) c.in_ok-input.field-0 c.in_ok-input.ensures.ends c.in-Run.input c.in-Run.schedule c.in-Run.is
     c.what_is_meant_to_run_can_run.ensures c.requires.limits).ungranted
 
 pub text_of_run-requires-clause-replies : goal.text_of_run-requires-clause-replies
 text_of_run-requires-clause-replies g c =
-    (ready (g.F.Files.held c.args.files.now) c.args.command.now (g.F.Files.asked c.args.files.now) (g.F.Files.asked c.read_command.new.files) c.in_ok-input.field-0 c.in_ok-input.ensures.ends c.in-Run.input c.in-Run.schedule c.in-Run.is
+    (ready (g.F.Files.contents c.args.files.now) c.args.command.now (g.F.Files.asked c.args.files.now) (g.F.Files.asked c.read_command.new.files) c.in_ok-input.field-0 c.in_ok-input.ensures.ends c.in-Run.input c.in-Run.schedule c.in-Run.is
     c.what_is_meant_to_run_can_run.ensures c.requires.limits).replies
 
 pub returns-in-Run-clause-prepares : goal.returns-in-Run-clause-prepares
 returns-in-Run-clause-prepares g c =
-    shown_ready (g.F.Files.held c.args.files.now) (g.F.Files.faults c.args.files.now) (g.F.Files.faults c.read_command.new.files) (g.F.Files.asked c.args.files.now) (g.F.Files.asked c.read_command.new.files)
+    shown_ready (g.F.Files.contents c.args.files.now) (g.F.Files.faults c.args.files.now) (g.F.Files.faults c.read_command.new.files) (g.F.Files.asked c.args.files.now) (g.F.Files.asked c.read_command.new.files)
     c.args.command.now c.in-Run.input c.in-Run.schedule
-    (ready (g.F.Files.held c.args.files.now) c.args.command.now (g.F.Files.asked c.args.files.now) (g.F.Files.asked c.read_command.new.files) c.in_ok-input.field-0 c.in_ok-input.ensures.ends c.in-Run.input c.in-Run.schedule c.in-Run.is
+    (ready (g.F.Files.contents c.args.files.now) c.args.command.now (g.F.Files.asked c.args.files.now) (g.F.Files.asked c.read_command.new.files) c.in_ok-input.field-0 c.in_ok-input.ensures.ends c.in-Run.input c.in-Run.schedule c.in-Run.is
     c.what_is_meant_to_run_can_run.ensures c.requires.limits).startable
-    (run_meant (g.F.Files.held c.args.files.now) c.args.command.now (g.F.Files.asked c.args.files.now) (g.F.Files.asked c.read_command.new.files) c.in_ok-input.field-0 c.in_ok-input.ensures.ends c.in-Run.input c.in-Run.schedule c.in-Run.is)
+    (run_meant (g.F.Files.contents c.args.files.now) c.args.command.now (g.F.Files.asked c.args.files.now) (g.F.Files.asked c.read_command.new.files) c.in_ok-input.field-0 c.in_ok-input.ensures.ends c.in-Run.input c.in-Run.schedule c.in-Run.is)
     c.in_ok-input.ensures.ends.1 c.text_of_run.result
     (subst (λ (print : Print). RunShown print c.in-Run.input c.in-Run.schedule c.text_of_run.result) c.print_of.ensures c.text_of_run.ensures)
 
 pub returns-in-Text-clause-prepares : goal.returns-in-Text-clause-prepares
 returns-in-Text-clause-prepares g c =
-    printed_ready (g.F.Files.held c.args.files.now) (g.F.Files.faults c.args.files.now) (g.F.Files.faults c.read_command.new.files) (g.F.Files.asked c.args.files.now) (g.F.Files.asked c.read_command.new.files)
-    c.args.command.now c.in-Text.text (subst (λ (read : Reading). Means (g.F.Files.held c.args.files.now) c.args.command.now (as_meaning read)) c.in-Text.is c.in_ok-input.ensures.ends.0) c.in_ok-input.ensures.ends.1
+    printed_ready (g.F.Files.contents c.args.files.now) (g.F.Files.faults c.args.files.now) (g.F.Files.faults c.read_command.new.files) (g.F.Files.asked c.args.files.now) (g.F.Files.asked c.read_command.new.files)
+    c.args.command.now c.in-Text.text (subst (λ (read : Reading). Means (g.F.Files.contents c.args.files.now) c.args.command.now (as_meaning read)) c.in-Text.is c.in_ok-input.ensures.ends.0) c.in_ok-input.ensures.ends.1

@@ -3,7 +3,7 @@ use Rattle.st_top.proofs.Outcomes.{ended_as}
 use Rattle.st_top.proofs.plain.systrace_plain.Goals as goal
 
 pub returns-in-Ok-Some-clause-complete : goal.returns-in-Ok-Some-clause-complete
-returns-in-Ok-Some-clause-complete g c = λ told quiet sink_quiet outcome go comes.
-    ended_as (g.F.Files.held c.args.files.now) (g.F.Files.faults c.args.files.now) (g.F.Files.faults c.serve.new.files) (g.F.Files.asked c.args.files.now) (g.F.Files.asked c.serve.new.files)
+returns-in-Ok-Some-clause-complete g c = λ known quiet sink_quiet outcome go comes.
+    ended_as (g.F.Files.contents c.args.files.now) (g.F.Files.faults c.args.files.now) (g.F.Files.faults c.serve.new.files) (g.F.Files.asked c.args.files.now) (g.F.Files.asked c.serve.new.files)
     (g.S.Sink.faults c.args.out.now) (g.S.Sink.faults c.serve.new.out) (g.S.Sink.written c.args.out.now) (g.S.Sink.written c.serve.new.out)
-    c.in-Ok-Some.command c.serve.result c.serve.ensures.ends quiet sink_quiet c.args.words.now (sym c.in-Ok-Some.ensures.is ∙ c.in-Ok-Some.field-0-is) told outcome go comes
+    c.in-Ok-Some.command c.serve.result c.serve.ensures.ends quiet sink_quiet c.args.words.now (sym c.in-Ok-Some.ensures.is ∙ c.in-Ok-Some.field-0-is) known outcome go comes

@@ -12,6 +12,6 @@ returns c =
     let new = c.play.new.self in
     let end = c.in_ok-play.ensures in
     let same = c.input.ensures in
-    let behind : c.session.result.now.filters ≡ session_at c.input.result.now (reverse (trace_of new)) = c.session.ensures ∙ sym (ap (λ (i : Input). session_at i (reverse (trace_of new))) same) in
+    let following : c.session.result.now.filters ≡ session_at c.input.result.now (reverse (trace_of new)) = c.session.ensures ∙ sym (ap (λ (i : Input). session_at i (reverse (trace_of new))) same) in
     shown print.Policy c.args.schedule.now c.args.kernel.now c.requires.none new c.in_ok-policies_text.field-0 end.input end.ok
-    (c.in_ok-policies_text.ensures (trace_of new) behind ∙ ap (λ (i : Input). policy_text i (trace_of new)) same)
+    (c.in_ok-policies_text.ensures (trace_of new) following ∙ ap (λ (i : Input). policy_text i (trace_of new)) same)

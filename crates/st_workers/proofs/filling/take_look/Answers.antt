@@ -1,6 +1,6 @@
 use Rattle.std.proofs.Common.{◌≡◌, rules, subst, IfSome}
 use Rattle.st_names.specs.Seen.{seen_text}
-use Rattle.st_lookaside.specs.Slot.{after_look, next_of, progress_of, IsLookNext}
+use Rattle.st_lookaside.specs.Slot.{after_look, next_need, slot_progress, IsLookNext}
 use Rattle.st_lookaside.specs.Slots.{slot_at}
 use Rattle.st_lookaside.specs.declared.slot.Next.{Next}
 use Rattle.st_workers.specs.Filling.{AreSame}
@@ -10,11 +10,11 @@ use Rattle.st_workers.proofs.filling.take_look.Goals as goal
 pub seal_last-requires-clause-ready : goal.seal_last-requires-clause-ready
 seal_last-requires-clause-ready c =
     ready_then c.args.slots.now c.take_look.new.self c.args.seq (λ s. after_look s (seen_text c.args.seen)) c.requires.slot c.in_ok-take_look.ensures.slot
-    (subst (λ (n : Next). IfSome (slot_at c.args.slots.now c.args.seq) (λ slot. n ≡ next_of (progress_of (after_look slot (seen_text c.args.seen))))) c.in-Ready.is c.in_ok-take_look.ensures.next)
+    (subst (λ (n : Next). IfSome (slot_at c.args.slots.now c.args.seq) (λ slot. n ≡ next_need (slot_progress (after_look slot (seen_text c.args.seen))))) c.in-Ready.is c.in_ok-take_look.ensures.next)
 
 pub returns-in_err-seal_last-clause-err : goal.returns-in_err-seal_last-clause-err
 returns-in_err-seal_last-clause-err c =
     let same : AreSame c.args.slots.now c.seal_last.new.slots =
-    undone c.args.slots.now c.take_look.new.self c.seal_last.new.slots c.args.seq (λ s. after_look s (seen_text c.args.seen)) (λ s. IsLookNext (progress_of s)) c.requires.slot c.take_look.ensures.order c.requires.next c.in_ok-take_look.ensures.slot
+    undone c.args.slots.now c.take_look.new.self c.seal_last.new.slots c.args.seq (λ s. after_look s (seen_text c.args.seen)) (λ s. IsLookNext (slot_progress s)) c.requires.slot c.take_look.ensures.order c.requires.next c.in_ok-take_look.ensures.slot
     (λ before. c.in_err-seal_last.ensures.look before (seen_text c.args.seen)) in
     search (rules, same)

@@ -1,17 +1,17 @@
 use Rattle.std.proofs.Common.{◌≡◌, false, rules}
 use Rattle.std.proofs.lemmas.Result.{on_ok_weaker}
 use Rattle.st_audit.specs.Recording.{IsAuditOf}
-use Rattle.st_audit.specs.Told.{tells_of_call}
+use Rattle.st_audit.specs.FromHistory.{concerns_call}
 use Rattle.st_audit.proofs.Following.{audit_more, kept_more, kept_still, printed_still}
 use Rattle.st_audit.proofs.audit.AuditRecorderRecorder.note.Goals as goal
 
-pub returns-then-not-tells_of_call : goal.returns-then-not-tells_of_call
-returns-then-not-tells_of_call c = λ trace same is.
+pub returns-then-not-concerns_call : goal.returns-then-not-concerns_call
+returns-then-not-concerns_call c = λ trace same is.
     let i = c.args.input.now in
     let session = c.args.session.now.filters in
     let e = c.args.entry.now in
     let ledger = c.args.self.now.ledger in
-    let none : tells_of_call e ≡ false = search rules in
+    let none : concerns_call e ≡ false = search rules in
     record {
       text = audit_more i trace e session ledger c.args.self.now.text c.args.self.now.text same is.text is.kept (printed_still i session ledger e c.args.self.now.text none);
       kept = kept_more i trace e ledger ledger is.kept (λ h. kept_still i ledger h e none);

@@ -1,5 +1,5 @@
 use Rattle.std.proofs.Common.{◌∙◌, ap, sym, subst, length}
-use Rattle.st_compile.specs.Table.{AreTables, Gains, first_answers, shown_table}
+use Rattle.st_compile.specs.Table.{AreTables, Gains, first_answers, represented_table}
 use Rattle.st_compile.proofs.Tables.{gains, had, inserted_whole}
 use Rattle.st_compile.proofs.table.FastTable.add.Goals as goal
 
@@ -10,11 +10,11 @@ returns-then-contains_key c =
 
 pub invariant_of-self-2 : goal.invariant_of-self-2
 invariant_of-self-2 c =
-    subst (λ es. AreTables (shown_table es)) (sym c.in_ok-insert.ensures.entries)
+    subst (λ es. AreTables (represented_table es)) (sym c.in_ok-insert.ensures.entries)
     (inserted_whole c.self.inside.tables.entries c.into_bytes.result c.in_ok-answers.answers (ap length c.in_ok-answers.ensures) c.self.invariant)
 
 pub returns : goal.returns
 returns c =
-    subst (λ rows. Gains rows c.args.binary.now (first_answers c.args.policy.now) (shown_table c.insert.new.self.entries)) c.self.view_is
-    (subst (λ es. Gains (shown_table c.self.inside.tables.entries) c.args.binary.now (first_answers c.args.policy.now) (shown_table es)) (sym c.in_ok-insert.ensures.entries)
+    subst (λ rows. Gains rows c.args.binary.now (first_answers c.args.policy.now) (represented_table c.insert.new.self.entries)) c.self.view_is
+    (subst (λ es. Gains (represented_table c.self.inside.tables.entries) c.args.binary.now (first_answers c.args.policy.now) (represented_table es)) (sym c.in_ok-insert.ensures.entries)
     (gains c.self.inside.tables.entries c.into_bytes.result c.in_ok-answers.answers c.args.binary.now (first_answers c.args.policy.now) (sym c.if-contains_key.ensures) (c.into_bytes.ensures ∙ c.in_ok-of.ensures) c.in_ok-answers.ensures))

@@ -1,5 +1,5 @@
 use Rattle.std.proofs.Common.{◌∙◌, ap, sym, arith, get_or}
-use Rattle.st_compile.specs.Table.{answers_in}
+use Rattle.st_compile.specs.Table.{binary_answers}
 use Rattle.st_compile.proofs.Tables.{found, lookup_length, missing}
 use Rattle.st_compile.proofs.table.FastTable.get.Goals as goal
 
@@ -12,8 +12,8 @@ pub returns-in-Some : goal.returns-in-Some
 returns-in-Some c = λ policies table.
     c.index-in-Some.ensures
     ∙ ap (λ place. get_or c.in-Some.answers.now.items place c.index-in-Some.result.now) c.index.ensures.value
-    ∙ found policies c.self.inside.tables.entries c.args.binary.now c.args.rule (λ binary. ap (λ rows. answers_in rows binary) c.self.view_is ∙ table binary) c.in-Some.answers.now c.index-in-Some.result.now (sym c.in-Some.ensures.value)
+    ∙ found policies c.self.inside.tables.entries c.args.binary.now c.args.rule (λ binary. ap (λ rows. binary_answers rows binary) c.self.view_is ∙ table binary) c.in-Some.answers.now c.index-in-Some.result.now (sym c.in-Some.ensures.value)
 
 pub returns-in-None : goal.returns-in-None
 returns-in-None c = λ policies table.
-    missing policies c.self.inside.tables.entries c.args.binary.now c.args.rule (λ binary. ap (λ rows. answers_in rows binary) c.self.view_is ∙ table binary) (sym c.in-None.ensures.value)
+    missing policies c.self.inside.tables.entries c.args.binary.now c.args.rule (λ binary. ap (λ rows. binary_answers rows binary) c.self.view_is ∙ table binary) (sym c.in-None.ensures.value)

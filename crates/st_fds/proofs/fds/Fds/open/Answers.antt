@@ -3,7 +3,7 @@ use Rattle.std.specs.List.Sorted.{IsStrictlySortedBy}
 use Rattle.std.specs.Map.{keys_of}
 use Rattle.std.specs.Ordering.{nat_cmp}
 use Rattle.st_model.specs.Descriptors.{Table}
-use Rattle.st_fds.specs.Table.{IsWhole}
+use Rattle.st_fds.specs.Table.{IsValidTable}
 use Rattle.st_fds.proofs.Whole.{one_place, fields_have}
 use Rattle.st_fds.proofs.fds.Fds.open.Goals as goal
 
@@ -17,7 +17,7 @@ invariant_of-self-2 c =
 pub returns-clause-opened : goal.returns-clause-opened
 returns-clause-opened c = record {
   has = c.requires;
-  whole = subst (λ (t : Table). IsWhole t.processes (length t.files)) c.self.view_is c.self.invariant;
+  whole = subst (λ (t : Table). IsValidTable t.processes (length t.files)) c.self.view_is c.self.invariant;
   ordered = subst (λ (t : Table). IsStrictlySortedBy nat_cmp (keys_of t.processes)) c.self.view_is c.set_place.ensures.ordered;
   descriptor = search rules;
   file = c.args.file;

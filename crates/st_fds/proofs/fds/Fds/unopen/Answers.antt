@@ -2,7 +2,7 @@ use Rattle.std.proofs.Common.{◌≡◌, ◌∙◌, ◌-◌, ap, sym, subst, len
 use Rattle.std.specs.BTreeMap.{insert_entry}
 use Rattle.std.specs.Ordering.{nat_cmp}
 use Rattle.st_model.specs.Descriptors.{Table, places_in}
-use Rattle.st_fds.specs.Table.{IsWhole, WasOpened}
+use Rattle.st_fds.specs.Table.{IsValidTable, WasOpened}
 use Rattle.st_fds.proofs.Undone.{files_back, given_within, processes_back, still_has}
 use Rattle.st_fds.proofs.Whole.{fields_have, places_at}
 use Rattle.st_fds.proofs.fds.Fds.unopen.Goals.{After-pop}
@@ -29,8 +29,8 @@ files c before was =
 pub invariant_of-self : goal.invariant_of-self
 invariant_of-self c =
     let was = c.requires.1 in
-    let kept : IsWhole c.requires.0.processes (length c.pop.new.self.items) = subst (λ fs. IsWhole c.requires.0.processes (length fs)) (sym (files c c.requires.0 was)) was.whole in
-    subst (λ es. IsWhole es (length c.pop.new.self.items)) (sym (processes c c.requires.0 was)) kept
+    let kept : IsValidTable c.requires.0.processes (length c.pop.new.self.items) = subst (λ fs. IsValidTable c.requires.0.processes (length fs)) (sym (files c c.requires.0 was)) was.whole in
+    subst (λ es. IsValidTable es (length c.pop.new.self.items)) (sym (processes c c.requires.0 was)) kept
 
 pub returns : goal.returns
 returns c = λ before was. λ i. record { processes = processes c before was i; files = files c before was i }

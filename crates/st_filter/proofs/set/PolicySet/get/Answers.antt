@@ -2,7 +2,7 @@ use Rattle.std.proofs.Common.{◌≡◌, ◌∙◌, ap, arith, [], List, length}
 use Rattle.std.specs.Prelude.{unwrap_or, Option}
 use Rattle.st_filter.specs.Policies.{policy_of}
 use Rattle.st_filter.specs.declared.set.BinaryPolicy.{BinaryPolicy}
-use Rattle.st_filter.specs.Kept.{shown_policies}
+use Rattle.st_filter.specs.PolicyEntries.{represented_policies}
 use Rattle.st_filter.proofs.Counts.{policy_within}
 use Rattle.st_filter.proofs.Entries.{policy_kept}
 use Rattle.st_filter.specs.Formula.{FilterValue}
@@ -18,7 +18,7 @@ returns-in-None-clause-is c =
 
 pub returns-in-Some-clause-few : goal.returns-in-Some-clause-few
 returns-in-Some-clause-few c =
-    let kept : List BinaryPolicy = shown_policies c.self.inside.policies.entries in
+    let kept : List BinaryPolicy = represented_policies c.self.inside.policies.entries in
     let is : c.in-Some.filters.now ≡ policy_of kept c.args.binary.now =
     ap (λ (o : Option (List FilterValue)). unwrap_or o []) c.in-Some.ensures.value ∙ policy_kept c.self.inside.policies.entries c.args.binary.now in
     let same : length c.in-Some.filters.now ≡ length (policy_of kept c.args.binary.now) = ap length is in

@@ -5,10 +5,10 @@ use Rattle.st_trace.specs.declared.entry.Entry.{Entry}
 use Rattle.st_law.specs.Machine.{entry_of}
 use Rattle.st_report.specs.ScheduleText.{repeats_with, spelled_choices}
 use Rattle.st_report.specs.declared.schedule.Repeat.{Repeat}
-use Rattle.st_next.specs.Machine.{IsStep, Running}
-use Rattle.st_kernel.specs.Kernel.{Course, IsCourse, state_in, with_choice}
+use Rattle.st_decide.specs.Machine.{IsStep, Running}
+use Rattle.st_kernel.specs.Kernel.{RunSoFar, IsRunSoFar, state_in, with_choice}
 use Rattle.st_kernel.specs.Waking.{is_asleep}
-use Rattle.st_kernel.proofs.Courses.{HasWoken, WakesNoOther, course_on, course_same, spelled_more}
+use Rattle.st_kernel.proofs.RunsSoFar.{HasWoken, WakesNoOther, course_on, course_same, spelled_more}
 use Rattle.st_kernel.proofs.kernel.Kernel.choose.Goals as goal
 
 -- a proposition that holds also holds on an error
@@ -17,8 +17,8 @@ on_err (Ok a) x = tt
 on_err (Err e) x = x
 
 -- reserving room in a list keeps its items
-kept_in : (m : Running) (kept kept_then : List Repeat) (first : ℕ) (asleep : List Bool) → kept_then ≡ kept → IsCourse m kept first asleep → IsCourse m kept_then first asleep
-kept_in m kept kept_then first asleep same course = subst (λ (l : List Repeat). IsCourse m l first asleep) (sym same) course
+kept_in : (m : Running) (kept kept_then : List Repeat) (first : ℕ) (asleep : List Bool) → kept_then ≡ kept → IsRunSoFar m kept first asleep → IsRunSoFar m kept_then first asleep
+kept_in m kept kept_then first asleep same so_far = subst (λ (l : List Repeat). IsRunSoFar m l first asleep) (sym same) so_far
 
 pub invariant_of-self-in_err-choose : goal.invariant_of-self-in_err-choose
 invariant_of-self-in_err-choose c =
@@ -44,7 +44,7 @@ invariant_of-self-in-Some c =
     let only = subst (λ (m : Running). WakesNoOther m c.in-Some.entry c.woken_by-woken.result) c.view-machine.ensures c.woken_by-woken.ensures.law in
     kept_in c.choose.new.self (repeats_with c.self.inside.made.items c.args.choice) c.note_choice.new.repeats.items c.cursor-self-inside.result _
     (c.note_choice.ensures ∙ ap (λ (l : List Repeat). repeats_with l c.args.choice) c.reserve.ensures.items)
-    (subst (IsCourse c.choose.new.self (repeats_with c.self.inside.made.items c.args.choice) c.cursor-self-inside.result) (sym written)
+    (subst (IsRunSoFar c.choose.new.self (repeats_with c.self.inside.made.items c.args.choice) c.cursor-self-inside.result) (sym written)
     (course_on c.self.inside.machine c.choose.new.self c.self.inside.made.items c.self.inside.first c.self.inside.asleep.items c.args.choice c.in-Some.entry c.woken_by-woken.result c.cursor-self-inside.result c.wake.new.asleep
     c.self.invariant c.choose.ensures.input step only has))
 
@@ -54,8 +54,8 @@ returns-in-Some-clause-chosen c =
     let all = ap spelled_choices (c.note_choice.ensures ∙ ap (λ (l : List Repeat). repeats_with l c.args.choice) c.reserve.ensures.items) ∙ spelled_more c.self.inside.made.items c.args.choice c.self.invariant.joined in (
       c.in-Some.entry,
       refl,
-      subst (λ (course : Course). entry_of course.input (state_in course) c.args.choice ≡ Some c.in-Some.entry) c.self.view_is (step _ c.self.invariant.machine).0,
-      (λ k. record { input = c.choose.ensures.input k; choices = all k }) ∙ ap (λ (course : Course). with_choice course c.args.choice) c.self.view_is,
+      subst (λ (so_far : RunSoFar). entry_of so_far.input (state_in so_far) c.args.choice ≡ Some c.in-Some.entry) c.self.view_is (step _ c.self.invariant.machine).0,
+      (λ k. record { input = c.choose.ensures.input k; choices = all k }) ∙ ap (λ (so_far : RunSoFar). with_choice so_far c.args.choice) c.self.view_is,
     )
 
 pub invariant_of-self-in-None : goal.invariant_of-self-in-None
@@ -68,6 +68,6 @@ pub returns-in-None-clause-chosen : goal.returns-in-None-clause-chosen
 returns-in-None-clause-chosen c =
     let step : IsStep c.self.inside.machine c.args.choice None c.choose.new.self = subst (λ (o : Option Entry). IsStep c.self.inside.machine c.args.choice o c.choose.new.self) c.in-None.is c.in_ok-choose.ensures.step in (
       c.in-None.is,
-      subst (λ (course : Course). entry_of course.input (state_in course) c.args.choice ≡ None) c.self.view_is (step _ c.self.invariant.machine).0,
+      subst (λ (so_far : RunSoFar). entry_of so_far.input (state_in so_far) c.args.choice ≡ None) c.self.view_is (step _ c.self.invariant.machine).0,
       (λ k. record { input = c.choose.ensures.input k; choices = spelled_choices (c.reserve.ensures.items k) }) ∙ c.self.view_is,
     )

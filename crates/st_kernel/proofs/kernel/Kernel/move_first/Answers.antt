@@ -1,7 +1,7 @@
 use Rattle.std.proofs.Common.{◌≡◌, ◌∙◌, false, None, subst, arith}
 use Rattle.st_law.specs.Machine.{thread_entry}
 use Rattle.st_trace.specs.declared.entry.Choice.TheVariants.{Thread}
-use Rattle.st_kernel.specs.Kernel.{Course, IsTried, state_in}
+use Rattle.st_kernel.specs.Kernel.{RunSoFar, IsTried, state_in}
 use Rattle.st_kernel.proofs.Cursors.{one_more}
 use Rattle.st_kernel.proofs.kernel.Kernel.move_first.Goals as goal
 
@@ -13,5 +13,5 @@ loop-tid-preserved c =
       from = omega arith;
       end = c.loop-tid.invariant.end;
       before = one_more (λ t. thread_entry c.args.self.now.input (state_in c.args.self.now) t ≡ None) c.loop-tid.tid c.loop-tid.invariant.before
-          (subst (λ (course : Course). thread_entry course.input (state_in course) c.loop-tid.tid ≡ None) c.loop-tid.invariant.same tried.0);
+          (subst (λ (so_far : RunSoFar). thread_entry so_far.input (state_in so_far) c.loop-tid.tid ≡ None) c.loop-tid.invariant.same tried.0);
     }

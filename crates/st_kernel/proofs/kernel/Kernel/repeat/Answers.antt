@@ -2,7 +2,7 @@ use Rattle.std.proofs.Common.{◌≡◌, ◌∙◌, Err, Some, ap, sym}
 use Rattle.std.proofs.lemmas.Option.{none-some}
 use Rattle.st_law.specs.Machine.{entry_of}
 use Rattle.st_kernel.specs.declared.kernel.StepFault.TheVariants.{NotEnabled}
-use Rattle.st_kernel.specs.Kernel.{Course, state_in}
+use Rattle.st_kernel.specs.Kernel.{RunSoFar, state_in}
 use Rattle.st_kernel.proofs.Plays.{came_from, continues_by, continues_on, noted_on, round_further, round_stuck}
 use Rattle.st_kernel.proofs.kernel.Kernel.repeat.Goals as goal
 
@@ -24,7 +24,7 @@ loop-preserved g c =
     let adds : entry_of c.loop.self.input (state_in c.loop.self) c.args.choice ≡ Some c.in-Some.entry = sym end.entry ∙ c.in-Some.is in
     record {
       made = continues_on c.args.self.now c.loop.self c.advance.new.self c.loop.invariant.made (continues_by c.loop.self c.args.choice c.advance.new.self end.ok);
-      input = ap (λ (course : Course). course.input) end.ok ∙ c.loop.invariant.input;
+      input = ap (λ (so_far : RunSoFar). so_far.input) end.ok ∙ c.loop.invariant.input;
       noted = λ x. noted_on (g.R.Recorder.has_noted c.loop.recorder) (g.R.Recorder.has_noted c.note.new.self) c.loop.self c.args.choice c.in-Some.entry c.advance.new.self c.input.result.now c.session.result.now.filters end.ok c.input.ensures c.session.ensures adds c.in_ok-note.ensures (c.loop.invariant.noted x);
       left = round_further c.loop.self c.args.choice c.args.count c.loop.counter c.loop-test.true c.args.self.now.input c.loop.invariant.input c.advance.new.self c.in-Some.entry end.ok adds ∙ c.loop.invariant.left;
     }

@@ -1,7 +1,7 @@
 use Rattle.std.proofs.Common.{◌≡◌, ◌∙◌, false, None, subst, arith}
 use Rattle.st_law.specs.Machine.{entry_of}
 use Rattle.st_trace.specs.declared.entry.Choice.TheVariants.{Worker}
-use Rattle.st_kernel.specs.Kernel.{Course, IsChosen, state_in}
+use Rattle.st_kernel.specs.Kernel.{RunSoFar, IsChosen, state_in}
 use Rattle.st_kernel.proofs.Cursors.{one_more}
 use Rattle.st_kernel.proofs.kernel.Kernel.serve_first.Goals as goal
 
@@ -13,5 +13,5 @@ loop-worker-preserved c =
       from = omega arith;
       end = c.loop-worker.invariant.end;
       before = one_more (λ n. entry_of c.args.self.now.input (state_in c.args.self.now) (Worker n) ≡ None) c.loop-worker.worker c.loop-worker.invariant.before
-          (subst (λ (course : Course). entry_of course.input (state_in course) (Worker c.loop-worker.worker) ≡ None) c.loop-worker.invariant.same chosen.1);
+          (subst (λ (so_far : RunSoFar). entry_of so_far.input (state_in so_far) (Worker c.loop-worker.worker) ≡ None) c.loop-worker.invariant.same chosen.1);
     }

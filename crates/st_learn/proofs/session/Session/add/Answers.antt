@@ -5,7 +5,7 @@ use Rattle.st_law.specs.Sessions.{SessionFilter, session_filters}
 use Rattle.st_learn.specs.Asked.{asked_text}
 use Rattle.st_learn.specs.Deciding.{count_for}
 use Rattle.st_learn.specs.Places.{GainsPlace, MayGainPlace}
-use Rattle.st_learn.specs.Sessions.{Session, firsts_of, numbers_behind, places_asking, places_of}
+use Rattle.st_learn.specs.Sessions.{Session, firsts_of, numbers_after, places_asking, places_of}
 use Rattle.st_learn.proofs.Filters.{added_places, one_longer, some_text, still_texts}
 use Rattle.st_learn.proofs.Leading.{firsts_added}
 use Rattle.st_learn.proofs.Numbers.{number_added}
@@ -77,7 +77,7 @@ invariant_of-self-3 c = record {
   numbers_are =
       c.push_reserved.ensures.items
       ∙ (λ k. (c.reserve-3.ensures.items ∙ c.self.invariant.numbers_are) k ++ (number_is c) k ∷ [])
-      ∙ sym (ap (numbers_behind []) (items_are c) ∙ number_added [] c.self.inside.kept.items c.new.result);
+      ∙ sym (ap (numbers_after []) (items_are c) ∙ number_added [] c.self.inside.kept.items c.new.result);
   few =
       let items = ap length (items_are c) in
       let longer = one_longer c.self.inside.kept.items c.new.result in

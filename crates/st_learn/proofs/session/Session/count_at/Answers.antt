@@ -4,7 +4,7 @@ use Rattle.std.proofs.lemmas.Slice.Eq.{bytes_eq-Decides}
 use Rattle.st_calls.proofs.Rules.{same_rule-Decides}
 use Rattle.st_calls.specs.Rules.{same_rule}
 use Rattle.st_law.specs.Sessions.{session_filters}
-use Rattle.st_learn.specs.Sessions.{is_of}
+use Rattle.st_learn.specs.Sessions.{is_filter_for}
 use Rattle.st_learn.proofs.Counting.{filters_before, filters_with, filters_without, own_policy}
 use Rattle.st_learn.proofs.Filters.{filters_at, filters_found, is_of_rule, item_inside}
 use Rattle.st_learn.proofs.session.Session.count_at.Goals as goal
@@ -19,11 +19,11 @@ loop-left-init c = record {
 
 pub kept-requires : goal.kept-requires
 kept-requires c =
-    item_inside c.args.self.now.filters (is_of c.requires.0) c.args.places.now (c.loop-left.left - 1) 0 c.requires.1 (omega (arith, c.loop-left.invariant.within, c.loop-left-test.true))
+    item_inside c.args.self.now.filters (is_filter_for c.requires.0) c.args.places.now (c.loop-left.left - 1) 0 c.requires.1 (omega (arith, c.loop-left.invariant.within, c.loop-left-test.true))
 
 pub number_before-requires : goal.number_before-requires
 number_before-requires c =
-    item_inside c.args.self.now.filters (is_of c.requires.0) c.args.places.now (c.loop-left.left - 1) 0 c.requires.1 (omega (arith, c.loop-left.invariant.within, c.loop-left-test.true))
+    item_inside c.args.self.now.filters (is_filter_for c.requires.0) c.args.places.now (c.loop-left.left - 1) 0 c.requires.1 (omega (arith, c.loop-left.invariant.within, c.loop-left-test.true))
 
 pub returns-then-eq-clause-is : goal.returns-then-eq-clause-is
 returns-then-eq-clause-is c = λ wanted are.

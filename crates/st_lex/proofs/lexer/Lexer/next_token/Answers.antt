@@ -1,19 +1,19 @@
 use Rattle.std.proofs.Common.{◌+◌, drop, ap, ◌∙◌, sym, arith}
 use Rattle.st_lex.specs.declared.token.Token.{Token}
 use Rattle.st_lex.specs.Tokens.{tokens_from, with_token}
-use Rattle.st_lex.proofs.Skips.{length-behind, gap_at, piece_at}
+use Rattle.st_lex.proofs.Skips.{length-following, gap_at, piece_at}
 use Rattle.st_lex.proofs.lexer.Lexer.next_token.Goals as goal
 
 pub loop-at-preserved : goal.loop-at-preserved
 loop-at-preserved c =
     let text = c.loop-at.self-inside.text.now in
     let w = c.in-Gap.ensures.within in
-    let n = length-behind text c.loop-at.at c.loop-at-test.true in
+    let n = length-following text c.loop-at.at c.loop-at-test.true in
     record {
       same = c.loop-at.invariant.same ∙ gap_at c.in-Gap.len c.loop-at.at c.loop-at.self-inside.line text c.loop-at-test.true c.in-Gap.ensures.is w.0 w.1;
       stays = c.loop-at.invariant.stays;
       place = omega (arith, w.1, n);
-      behind = omega (arith, c.loop-at.invariant.behind);
+      following = omega (arith, c.loop-at.invariant.following);
       line = c.loop-at.invariant.line;
       small = c.loop-at.invariant.small;
     }

@@ -8,7 +8,7 @@ invariant-loop-at l = record {
   same : l.fn.self ≡ tokens_from 0 l.at l.self-inside.line (drop l.at l.self-inside.text.now);
   stays : l.fn.self ≡ tokens_from 0 l.self-inside.at l.self-inside.line (drop l.self-inside.at l.self-inside.text.now);
   place : l.at ≤ length l.self-inside.text.now;
-  behind : l.self-inside.at ≤ l.at;
+  following : l.self-inside.at ≤ l.at;
   line : l.self-inside.line ≤ l.self-inside.at + 1;
   small : length l.self-inside.text.now < 2 ^ 32;
 }

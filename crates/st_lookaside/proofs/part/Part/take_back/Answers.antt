@@ -1,7 +1,7 @@
 use Rattle.std.proofs.Common.{◌≡◌, ◌∙◌, ◌-◌, ℕ, zero, suc, refl, [], List, take, ap, sym}
 use Rattle.std.proofs.lemmas.Bool.{ltb-true}
 use Rattle.st_names.specs.declared.seen.SeenText.{SeenText}
-use Rattle.st_lookaside.specs.Head.{request_of}
+use Rattle.st_lookaside.specs.Head.{arg_request}
 use Rattle.st_lookaside.specs.Part.{Filled, filled_of, words_in}
 use Rattle.st_lookaside.proofs.Parts.{copy_back, taken_back}
 use Rattle.st_translate.specs.Copied.{Copied}
@@ -13,7 +13,7 @@ take_none (suc n) = refl
 
 pub note_need-requires-clause-copied : goal.note_need-requires-clause-copied
 note_need-requires-clause-copied c =
-    copy_back (request_of c.args.head.now) c.args.self.now.spec c.args.self.now.copying c.in-Some.copying c.take_back.new.self c.in-Some.is c.requires.part.copied c.take_back.ensures (ltb-true _ _ c.requires.some)
+    copy_back (arg_request c.args.head.now) c.args.self.now.spec c.args.self.now.copying c.in-Some.copying c.take_back.new.self c.in-Some.is c.requires.part.copied c.take_back.ensures (ltb-true _ _ c.requires.some)
 
 pub returns-clause-word : goal.returns-clause-word
 returns-clause-word c = λ before word none is.

@@ -1,7 +1,7 @@
 use Rattle.std.proofs.Common.{◌∙◌, not, ap, sym}
 use Rattle.st_lookaside.specs.Need.{is_finished}
 use Rattle.st_lookaside.specs.Part.{with_word}
-use Rattle.st_lookaside.specs.Slot.{next_of, progress_of, Slot}
+use Rattle.st_lookaside.specs.Slot.{next_need, slot_progress, Slot}
 use Rattle.st_lookaside.specs.declared.need.Need.{Need}
 use Rattle.st_lookaside.proofs.Progress.{all_finished, next_at, open_at}
 use Rattle.st_lookaside.proofs.Sealed.{still_unsealed}
@@ -32,7 +32,7 @@ returns-clause-order c =
     in_order c.self.inside.head c.self.inside.parts.items c.args.self.now c.in-Some.j c.index_mut-part.result.now c.self.invariant.slot c.self.view_is at (word_is_due _ c.requires)
 
 pub returns-clause-next : goal.returns-clause-next
-returns-clause-next c = c.next.ensures.value ∙ ap (λ (s : Slot). next_of (progress_of s)) (returns-clause-slot c)
+returns-clause-next c = c.next.ensures.value ∙ ap (λ (s : Slot). next_need (slot_progress s)) (returns-clause-slot c)
 
 -- if one more word is needed
 

@@ -7,7 +7,7 @@ use Rattle.st_calls.specs.Argument.{args_of}
 use Rattle.st_calls.specs.declared.argument.ArgSpec.{ArgSpec}
 use Rattle.st_calls.specs.declared.argument.Label.TheVariants as label
 use Rattle.st_calls.specs.declared.argument.PartKind.TheVariants as kind
-use Rattle.st_lookaside.specs.Head.{request_of}
+use Rattle.st_lookaside.specs.Head.{arg_request}
 use Rattle.st_lookaside.specs.Part.{filled_of, nothing_filled, IsPart}
 use Rattle.st_lookaside.specs.declared.part.Part.{Part}
 use Rattle.st_lookaside.proofs.Turns.{begun_anew}
@@ -27,7 +27,7 @@ loop-spec-preserved c =
     record {
       specs = ap (map (λ (p : Part). p.spec)) items ∙ map-append (λ (p : Part). p.spec) old (part ∷ []) ∙ ap (λ (l : List ArgSpec). l ++ part.spec ∷ []) c.loop-spec.invariant.specs
           ∙ ap (λ (x : ArgSpec). take i specs ++ x ∷ []) here ∙ sym (take_more specs i part.spec within);
-      parts = subst (All (IsPart (request_of c.args.head))) (sym items) (All-push (IsPart (request_of c.args.head)) old part c.loop-spec.invariant.parts c.in_ok-begin.ensures.part);
+      parts = subst (All (IsPart (arg_request c.args.head))) (sym items) (All-push (IsPart (arg_request c.args.head)) old part c.loop-spec.invariant.parts c.in_ok-begin.ensures.part);
       filled = subst (All (λ (p : Part). filled_of p ≡ nothing_filled)) (sym items) (All-push (λ p. filled_of p ≡ nothing_filled) old part c.loop-spec.invariant.filled c.in_ok-begin.ensures.filled);
     }
 

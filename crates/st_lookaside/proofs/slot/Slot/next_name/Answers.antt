@@ -1,6 +1,6 @@
 use Rattle.std.proofs.Common.{◌∙◌, sym}
 use Rattle.std.proofs.lemmas.Result.{IfOk-weaker}
-use Rattle.st_lookaside.specs.Head.{request_of}
+use Rattle.st_lookaside.specs.Head.{arg_request}
 use Rattle.st_lookaside.specs.Part.{progress_of_arg}
 use Rattle.st_names.specs.Name.{Components}
 use Rattle.st_lookaside.proofs.Progress.{all_finished, open_at}
@@ -33,4 +33,4 @@ returns-clause-name c =
     let at = open_at c.self.inside.head c.self.inside.parts.items c.deref.result.now c.in-Some.j c.index_mut-part.result.now c.self.invariant.slot c.deref.ensures.value c.in-Some.ensures c.index_mut-part.ensures.value in
     IfOk-weaker c.next_name.result _ _
     (λ (name : Components) is. look_found c.self.inside.head c.self.inside.parts.items c.args.self.now c.in-Some.j c.index_mut-part.result.now c.self.invariant.slot c.self.view_is at name
-    (sym (λ k. progress_of_arg (request_of c.self.inside.head) (c.next_name.ensures.spec k) (c.next_name.ensures.filled k).words (c.next_name.ensures.filled k).lookups) ∙ is)) c.next_name.ensures.name
+    (sym (λ k. progress_of_arg (arg_request c.self.inside.head) (c.next_name.ensures.spec k) (c.next_name.ensures.filled k).words (c.next_name.ensures.filled k).lookups) ∙ is)) c.next_name.ensures.name

@@ -3,7 +3,7 @@ use Rattle.std.specs.List.{insert}
 use Rattle.st_lookaside.specs.Slot as slot
 use Rattle.st_lookaside.specs.Slot.{renewed}
 use Rattle.st_lookaside.specs.Slots.{AreAscending, ChangesSlot, RenewsSlot}
-use Rattle.st_lookaside.proofs.Places.{gone, kept_insert, kept_remove, now_inserted, now_removed, now_renewed, still_free, taken, told_of}
+use Rattle.st_lookaside.proofs.Places.{gone, kept_insert, kept_remove, now_inserted, now_removed, now_renewed, still_free, taken, known_of}
 use Rattle.st_lookaside.proofs.slots.Slots.renew.Goals as goal
 
 pub unreachable-requires : goal.unreachable-requires
@@ -41,5 +41,5 @@ returns c =
     subst (λ (l : List slot.Slot). ChangesSlot middle c.args.new (Some after) l) (sym c.in-Ok-insert.ensures.items)
     (subst (λ (s : slot.Slot). ChangesSlot middle c.args.new (Some s) (insert middle c.in-Err.place c.renew.new.self)) c.renew.ensures
     (now_inserted middle middle middle ascending refl refl c.args.new c.in-Err.place c.in-Err.ensures.missing c.renew.new.self (ap (λ (s : slot.Slot). s.head.seq) c.renew.ensures))) in
-    told_of c.self.inside.slots.items c.args.self.now c.self.inside.slots.items c.self.invariant c.self.view_is refl c.args.old c.in-Ok.place c.in-Ok.ensures.found old c.take_out-slot.ensures.value
+    known_of c.self.inside.slots.items c.args.self.now c.self.inside.slots.items c.self.invariant c.self.view_is refl c.args.old c.in-Ok.place c.in-Ok.ensures.found old c.take_out-slot.ensures.value
     (λ s. RenewsSlot c.args.self.now c.args.old c.args.new (renewed s c.args.new c.args.ids c.args.cwd) new) (now_renewed c.args.self.now middle new c.args.old c.args.new after out back)

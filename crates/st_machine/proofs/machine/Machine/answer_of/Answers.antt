@@ -1,14 +1,14 @@
 use Rattle.std.proofs.Common.{List, ◌≡◌, Some, ap, sym, subst, ◌∙◌}
 use Rattle.st_trace.specs.declared.entry.Choice.TheVariants as choice
 use Rattle.st_trace.specs.declared.entry.Entry.TheVariants as entry
-use Rattle.st_next.specs.Machine.{HasTask, IsStep, Running}
+use Rattle.st_decide.specs.Machine.{HasTask, IsStep, Running}
 use Rattle.st_machine.proofs.Served.{answered, applied_as, left_as, running_step, same_copies, with_workers}
 use Rattle.st_workers.specs.declared.task.Task.TheVariants as tasks
 use Rattle.st_calls.specs.declared.judged.Snapshot.{Snapshot}
 use Rattle.st_filter.specs.Formula.{FilterValue}
 use Rattle.st_filter.specs.Judging.{verdict}
 use Rattle.st_filter.specs.Policies.{filters_of, policy_of}
-use Rattle.st_messages.specs.Messages.{is_live}
+use Rattle.st_messages.specs.Messages.{is_live_number}
 use Rattle.st_machine.proofs.machine.Machine.answer_of.Goals as goal
 
 abbrev old : goal.After-leave → Running
@@ -29,7 +29,7 @@ judged c =
 
 step : (c : goal.After-leave) → IsStep (old c) (choice.Worker c.args.worker) (Some (entry.Answered c.args.worker c.answer-snapshot.result.0 c.decide-verdict.result c.is_applied.result)) (with_workers (old c) c.answer-snapshot.new.self)
 step c = answered (old c) c.args.worker c.answer-snapshot.new.self c.answer-snapshot.result.0 c.decide-verdict.result c.is_applied.result c.answer-snapshot.ensures.copies (judged c)
-    (λ i st alive kept. c.is_applied.ensures ∙ applied_as c.answer-snapshot.result.1 (is_live c.self.inside.workers.calls c.answer-snapshot.result.0.seq) c.answer-snapshot.ensures.applied ∙ c.answer-snapshot.ensures.lives i st alive kept)
+    (λ i st alive kept. c.is_applied.ensures ∙ applied_as c.answer-snapshot.result.1 (is_live_number c.self.inside.workers.calls c.answer-snapshot.result.0.seq) c.answer-snapshot.ensures.applied ∙ c.answer-snapshot.ensures.lives i st alive kept)
     (task c) c.answer-snapshot.ensures.kept
 
 pub invariant_of-self : goal.invariant_of-self

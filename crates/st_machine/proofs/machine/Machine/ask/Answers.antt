@@ -1,9 +1,9 @@
 use Rattle.std.proofs.Common.{◌∙◌, Some, ap, sym, subst}
 use Rattle.st_calls.specs.declared.judged.Snapshot.{Snapshot}
 use Rattle.st_trace.specs.declared.entry.Choice.TheVariants.{Operator}
-use Rattle.st_next.specs.Machine.{IsStep, Running}
-use Rattle.st_next.specs.Questions.{IsLeastFound}
-use Rattle.st_next.proofs.Asked.{answers_here}
+use Rattle.st_decide.specs.Machine.{IsStep, Running}
+use Rattle.st_decide.specs.Questions.{IsLeastFound}
+use Rattle.st_decide.proofs.Asked.{answers_here}
 use Rattle.st_machine.proofs.Answered.{answered_on, with_operator}
 use Rattle.st_machine.proofs.Served.{left_as, running_step}
 use Rattle.st_machine.proofs.machine.Machine.ask.Goals as goal

@@ -1,7 +1,7 @@
 use Rattle.std.proofs.Common.{Some, subst}
 use Rattle.st_trace.specs.declared.entry.Choice.TheVariants as choice
 use Rattle.st_trace.specs.declared.entry.Entry.TheVariants as entry
-use Rattle.st_next.specs.Machine.{IsStep, Running}
+use Rattle.st_decide.specs.Machine.{IsStep, Running}
 use Rattle.st_machine.proofs.Served.{claimed, left_as, running_step, with_workers}
 use Rattle.st_machine.proofs.machine.Machine.claim.Goals as goal
 

@@ -1,7 +1,7 @@
 use Rattle.std.proofs.Common.{Some, sym, subst}
 use Rattle.st_trace.specs.declared.entry.Choice.TheVariants as choice
 use Rattle.st_trace.specs.declared.entry.Entry.TheVariants as entry
-use Rattle.st_next.specs.Machine.{HasTask, IsStep, Running, Stands}
+use Rattle.st_decide.specs.Machine.{HasTask, IsStep, Running, SameState}
 use Rattle.st_machine.proofs.Served.{copied, left_as, on_err, process_there, running_stands, running_step, stands_so, with_workers}
 use Rattle.st_workers.specs.declared.task.Task.TheVariants as tasks
 use Rattle.st_machine.proofs.machine.Machine.copy.Goals as goal
@@ -33,11 +33,11 @@ word-word-requires-clause-process c =
 abbrev before : goal.After-from_residual → Running
 before c = record { input = c.self.inside.input.now; system = c.self.inside.system; workers = c.self.inside.workers; threads = c.self.inside.threads.items; answers = c.self.inside.answers; operator = c.self.inside.operator }
 
-stands : (c : goal.After-from_residual) → Stands (before c) (with_workers (before c) c.copy.new.self)
+stands : (c : goal.After-from_residual) → SameState (before c) (with_workers (before c) c.copy.new.self)
 stands c = stands_so (before c) c.copy.new.self c.in_err-copy.ensures.err
 
 pub invariant_of-self : goal.invariant_of-self
 invariant_of-self c = running_stands (before c) (with_workers (before c) c.copy.new.self) c.self.invariant (stands c)
 
 pub returns-in_err-copy-clause-err : goal.returns-in_err-copy-clause-err
-returns-in_err-copy-clause-err c = on_err c.from_residual.result (subst (λ (m : Running). Stands m (with_workers (before c) c.copy.new.self)) c.self.view_is (stands c))
+returns-in_err-copy-clause-err c = on_err c.from_residual.result (subst (λ (m : Running). SameState m (with_workers (before c) c.copy.new.self)) c.self.view_is (stands c))

@@ -3,10 +3,10 @@ use Rattle.st_base.specs.Numbered.{item_at_number}
 use Rattle.st_trace.specs.declared.entry.Choice.TheVariants as choice
 use Rattle.st_trace.specs.declared.entry.Entry.TheVariants as entry
 use Rattle.st_workers.proofs.Turns.{number_within, read_is}
-use Rattle.st_next.specs.Entering.{IsWayOf}
-use Rattle.st_next.specs.Machine.{IsNext, IsStep, Running}
+use Rattle.st_decide.specs.Entering.{IsWayOf}
+use Rattle.st_decide.specs.Machine.{IsNextStep, IsStep, Running}
 use Rattle.st_threads.specs.Thread.{ThreadRow, row_entered}
-use Rattle.st_next.specs.declared.step.Step.TheVariants as steps
+use Rattle.st_decide.specs.declared.step.Step.TheVariants as steps
 use Rattle.st_machine.proofs.After.{with_parts}
 use Rattle.st_machine.proofs.Entered.{unheld_step}
 use Rattle.st_machine.proofs.Moving.{row_entering}
@@ -16,13 +16,13 @@ use Rattle.st_machine.proofs.machine.Machine.enter_unheld.Goals as goal
 pub overflow_sub-tid : goal.overflow_sub-tid
 overflow_sub-tid c =
     let m : Running = record { input = c.self.inside.input.now; system = c.self.inside.system; workers = c.self.inside.workers; threads = c.self.inside.threads.items; answers = c.self.inside.answers; operator = c.self.inside.operator } in
-    let row = row_entering m c.self.invariant c.args.tid c.args.call c.args.regs (subst (λ (k : Running). IsNext k c.args.tid (steps.Enter c.args.call c.args.regs)) (sym c.self.view_is) c.requires.next) in
+    let row = row_entering m c.self.invariant c.args.tid c.args.call c.args.regs (subst (λ (k : Running). IsNextStep k c.args.tid (steps.Enter c.args.call c.args.regs)) (sym c.self.view_is) c.requires.next) in
     (number_within m.threads c.args.tid row.0 row.1).0
 
 pub index_mut-requires : goal.index_mut-requires
 index_mut-requires c =
     let m : Running = record { input = c.self.inside.input.now; system = c.self.inside.system; workers = c.self.inside.workers; threads = c.self.inside.threads.items; answers = c.self.inside.answers; operator = c.self.inside.operator } in
-    let row = row_entering m c.self.invariant c.args.tid c.args.call c.args.regs (subst (λ (k : Running). IsNext k c.args.tid (steps.Enter c.args.call c.args.regs)) (sym c.self.view_is) c.requires.next) in
+    let row = row_entering m c.self.invariant c.args.tid c.args.call c.args.regs (subst (λ (k : Running). IsNextStep k c.args.tid (steps.Enter c.args.call c.args.regs)) (sym c.self.view_is) c.requires.next) in
     let within = number_within m.threads c.args.tid row.0 row.1 in
     let from = within.0 in
     let to = within.1 in
@@ -31,8 +31,8 @@ index_mut-requires c =
 abbrev old : goal.After-leave → Running
 old c = record { input = c.self.inside.input.now; system = c.self.inside.system; workers = c.self.inside.workers; threads = c.self.inside.threads.items; answers = c.self.inside.answers; operator = c.self.inside.operator }
 
-next : (c : goal.After-leave) → IsNext (old c) c.args.tid (steps.Enter c.args.call c.args.regs)
-next c = subst (λ (k : Running). IsNext k c.args.tid (steps.Enter c.args.call c.args.regs)) (sym c.self.view_is) c.requires.next
+next : (c : goal.After-leave) → IsNextStep (old c) c.args.tid (steps.Enter c.args.call c.args.regs)
+next c = subst (λ (k : Running). IsNextStep k c.args.tid (steps.Enter c.args.call c.args.regs)) (sym c.self.view_is) c.requires.next
 
 row : (c : goal.After-leave) → (row : ThreadRow) × (item_at_number (old c).threads c.args.tid ≡ Some row)
 row c = row_entering (old c) c.self.invariant c.args.tid c.args.call c.args.regs (next c)

@@ -1,7 +1,7 @@
 use Rattle.std.proofs.Common.{Some, sym, subst}
 use Rattle.st_trace.specs.declared.entry.Choice.TheVariants as choice
 use Rattle.st_trace.specs.declared.entry.Entry.TheVariants as entry
-use Rattle.st_next.specs.Machine.{HasTask, IsStep, Running}
+use Rattle.st_decide.specs.Machine.{HasTask, IsStep, Running}
 use Rattle.st_machine.proofs.Served.{faulted, left_as, running_step, with_workers}
 use Rattle.st_workers.specs.declared.task.Task.TheVariants as tasks
 use Rattle.st_machine.proofs.machine.Machine.fault.Goals as goal

@@ -1,5 +1,5 @@
 use Rattle.std.proofs.Common.{sym, subst}
-use Rattle.st_next.specs.Machine.{HasTask, Running}
+use Rattle.st_decide.specs.Machine.{HasTask, Running}
 use Rattle.st_workers.specs.declared.task.Task.TheVariants as tasks
 use Rattle.st_machine.proofs.machine.Machine.serve.Goals as goal
 

@@ -1,9 +1,9 @@
 use Rattle.st_law.specs.Machine.{first_state}
-use Rattle.st_next.specs.Machine.{IsMachine}
+use Rattle.st_decide.specs.Machine.{Refines}
 use Rattle.st_machine.proofs.Begun.{begun}
 use Rattle.st_machine.proofs.machine.Machine.start.Goals as goal
 
-first : (c : goal.In_ok-parts) → IsMachine (record { input = c.args.input.now; system = c.in_ok-system.system; workers = c.in_ok-parts.parts.workers; threads = c.in_ok-parts.parts.threads.items; answers = c.in_ok-parts.parts.answers; operator = c.in_ok-parts.parts.operator }) (first_state c.args.input.now)
+first : (c : goal.In_ok-parts) → Refines (record { input = c.args.input.now; system = c.in_ok-system.system; workers = c.in_ok-parts.parts.workers; threads = c.in_ok-parts.parts.threads.items; answers = c.in_ok-parts.parts.answers; operator = c.in_ok-parts.parts.operator }) (first_state c.args.input.now)
 first c =
     begun c.args.input.now c.in_ok-system.system c.in_ok-parts.parts.workers c.in_ok-parts.parts.threads.items c.in_ok-parts.parts.answers c.in_ok-parts.parts.operator c.in_ok-parts.ensures.threads
     c.requires.startable c.requires.bounded c.requires.ungranted c.requires.replies c.in_ok-system.ensures c.in_ok-parts.ensures.workers c.in_ok-parts.ensures.answers c.in_ok-parts.ensures.operator

@@ -3,9 +3,9 @@ use Rattle.st_base.specs.Numbered.{item_at_number}
 use Rattle.st_trace.specs.declared.entry.Choice.TheVariants as choice
 use Rattle.st_trace.specs.declared.entry.Entry.TheVariants as entry
 use Rattle.st_workers.proofs.Turns.{number_within, read_is}
-use Rattle.st_next.specs.Machine.{IsNext, IsStep, Running}
+use Rattle.st_decide.specs.Machine.{IsNextStep, IsStep, Running}
 use Rattle.st_threads.specs.Thread.{ThreadRow}
-use Rattle.st_next.specs.declared.step.Step.TheVariants as steps
+use Rattle.st_decide.specs.declared.step.Step.TheVariants as steps
 use Rattle.st_machine.proofs.After.{with_parts}
 use Rattle.st_machine.proofs.Moving.{stored_inside, stored_started, stored_step, row_here}
 use Rattle.st_machine.proofs.Served.{left_as, running_step}
@@ -14,13 +14,13 @@ use Rattle.st_machine.proofs.machine.Machine.store.Goals as goal
 pub overflow_sub-tid : goal.overflow_sub-tid
 overflow_sub-tid c =
     let m : Running = record { input = c.self.inside.input.now; system = c.self.inside.system; workers = c.self.inside.workers; threads = c.self.inside.threads.items; answers = c.self.inside.answers; operator = c.self.inside.operator } in
-    let row = row_here m c.self.invariant c.args.tid (steps.Store c.args.place c.args.word) (entry.Stored c.args.tid c.args.place c.args.word) (subst (λ (k : Running). IsNext k c.args.tid (steps.Store c.args.place c.args.word)) (sym c.self.view_is) c.requires) (λ i st. refl) in
+    let row = row_here m c.self.invariant c.args.tid (steps.Store c.args.place c.args.word) (entry.Stored c.args.tid c.args.place c.args.word) (subst (λ (k : Running). IsNextStep k c.args.tid (steps.Store c.args.place c.args.word)) (sym c.self.view_is) c.requires) (λ i st. refl) in
     (number_within m.threads c.args.tid row.0 row.1).0
 
 pub index_mut-requires : goal.index_mut-requires
 index_mut-requires c =
     let m : Running = record { input = c.self.inside.input.now; system = c.self.inside.system; workers = c.self.inside.workers; threads = c.self.inside.threads.items; answers = c.self.inside.answers; operator = c.self.inside.operator } in
-    let row = row_here m c.self.invariant c.args.tid (steps.Store c.args.place c.args.word) (entry.Stored c.args.tid c.args.place c.args.word) (subst (λ (k : Running). IsNext k c.args.tid (steps.Store c.args.place c.args.word)) (sym c.self.view_is) c.requires) (λ i st. refl) in
+    let row = row_here m c.self.invariant c.args.tid (steps.Store c.args.place c.args.word) (entry.Stored c.args.tid c.args.place c.args.word) (subst (λ (k : Running). IsNextStep k c.args.tid (steps.Store c.args.place c.args.word)) (sym c.self.view_is) c.requires) (λ i st. refl) in
     let within = number_within m.threads c.args.tid row.0 row.1 in
     let from = within.0 in
     let to = within.1 in
@@ -29,8 +29,8 @@ index_mut-requires c =
 abbrev old : goal.After-leave → Running
 old c = record { input = c.self.inside.input.now; system = c.self.inside.system; workers = c.self.inside.workers; threads = c.self.inside.threads.items; answers = c.self.inside.answers; operator = c.self.inside.operator }
 
-next : (c : goal.After-leave) → IsNext (old c) c.args.tid (steps.Store c.args.place c.args.word)
-next c = subst (λ (k : Running). IsNext k c.args.tid (steps.Store c.args.place c.args.word)) (sym c.self.view_is) c.requires
+next : (c : goal.After-leave) → IsNextStep (old c) c.args.tid (steps.Store c.args.place c.args.word)
+next c = subst (λ (k : Running). IsNextStep k c.args.tid (steps.Store c.args.place c.args.word)) (sym c.self.view_is) c.requires
 
 row : (c : goal.After-leave) → (row : ThreadRow) × (item_at_number (old c).threads c.args.tid ≡ Some row)
 row c = row_here (old c) c.self.invariant c.args.tid (steps.Store c.args.place c.args.word) (entry.Stored c.args.tid c.args.place c.args.word) (next c) (λ i st. refl)
@@ -53,9 +53,9 @@ returns-clause-step c = left_as _ _ (choice.Thread c.args.tid) _ _ c.leave.ensur
 pub store-requires-clause-place : goal.store-requires-clause-place
 store-requires-clause-place c =
     let m : Running = record { input = c.self.inside.input.now; system = c.self.inside.system; workers = c.self.inside.workers; threads = c.self.inside.threads.items; answers = c.self.inside.answers; operator = c.self.inside.operator } in
-    stored_inside m c.args.tid c.args.place c.args.word (subst (λ (k : Running). IsNext k c.args.tid (steps.Store c.args.place c.args.word)) (sym c.self.view_is) c.requires) c.self.invariant.state c.self.invariant.is
+    stored_inside m c.args.tid c.args.place c.args.word (subst (λ (k : Running). IsNextStep k c.args.tid (steps.Store c.args.place c.args.word)) (sym c.self.view_is) c.requires) c.self.invariant.state c.self.invariant.is
 
 pub store-requires-clause-started : goal.store-requires-clause-started
 store-requires-clause-started c =
     let m : Running = record { input = c.self.inside.input.now; system = c.self.inside.system; workers = c.self.inside.workers; threads = c.self.inside.threads.items; answers = c.self.inside.answers; operator = c.self.inside.operator } in
-    stored_started m c.args.tid c.args.place c.args.word (subst (λ (k : Running). IsNext k c.args.tid (steps.Store c.args.place c.args.word)) (sym c.self.view_is) c.requires) c.self.invariant.state c.self.invariant.is
+    stored_started m c.args.tid c.args.place c.args.word (subst (λ (k : Running). IsNextStep k c.args.tid (steps.Store c.args.place c.args.word)) (sym c.self.view_is) c.requires) c.self.invariant.state c.self.invariant.is

@@ -1,7 +1,7 @@
 use Rattle.std.proofs.Common.{Some, sym, subst}
 use Rattle.st_trace.specs.declared.entry.Choice.TheVariants.{Thread}
 use Rattle.st_trace.specs.declared.entry.Entry.{Entry}
-use Rattle.st_next.specs.Machine.{IsStep}
+use Rattle.st_decide.specs.Machine.{IsStep}
 use Rattle.st_machine.proofs.Served.{left_as}
 use Rattle.st_machine.proofs.machine.Machine.use_call.Goals as goal
 

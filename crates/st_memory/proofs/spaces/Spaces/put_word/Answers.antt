@@ -1,7 +1,7 @@
 use Rattle.std.proofs.Common.{◌≡◌, ◌∙◌, true, ap, sym}
 use Rattle.std.proofs.lemmas.Bool.{true≢false}
 use Rattle.std.specs.Prelude.{is_some}
-use Rattle.st_memory.specs.Memory.{byte_in, bytes_after_store, is_live, memory_after_store, Memories}
+use Rattle.st_memory.specs.Memory.{byte_in, bytes_after_store, is_space_live, memory_after_store, Memories}
 use Rattle.st_memory.proofs.Numbers.{byte_in-put, words-place}
 use Rattle.st_memory.proofs.spaces.Spaces.put_word.Goals.{in-Some, in_default}
 use Rattle.st_memory.proofs.spaces.Spaces.put_word.Goals as goal
@@ -9,7 +9,7 @@ use Rattle.st_memory.proofs.spaces.Spaces.put_word.Goals as goal
 pub returns-clause-ok : goal.returns-clause-ok
 returns-clause-ok c =
     let spaces = c.self.inside.pages.items in
-    let live : is_live spaces c.args.space ≡ true = rw c.self.view_is c.requires in
+    let live : is_space_live spaces c.args.space ≡ true = rw c.self.view_is c.requires in
     elim c.match-index_mut.branch [
       | in-Some w ↦ λ s b.
           (λ k. byte_in (w.self-inside-is k).pages.items s b)

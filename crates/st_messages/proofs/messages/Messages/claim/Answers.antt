@@ -2,17 +2,17 @@ use Rattle.std.proofs.Common.{◌≡◌, ◌∙◌, Some, None, ap, get_or, sym,
 use Rattle.std.specs.List.{find, position}
 use Rattle.std.specs.Option.{option_map}
 use Rattle.std.specs.Prelude.{IsNone}
-use Rattle.st_messages.specs.Messages.{HeldCalls, is_waiting, waiting_message, IsLeastWaiting, IsWhole}
+use Rattle.st_messages.specs.Messages.{HeldCalls, is_unclaimed, waiting_message, IsLeastWaiting, AreValidCalls}
 use Rattle.st_messages.specs.declared.message.Message.{Message}
 use Rattle.st_messages.proofs.Lookups.{found_first, found_nowhere}
 use Rattle.st_messages.proofs.Ordered.{none_waits}
 use Rattle.st_messages.proofs.Whole.{least_waiting}
 use Rattle.st_messages.proofs.messages.Messages.claim.Goals as goal
 
-none : (c : goal.After-from_residual) → find is_waiting c.args.self.now.live ≡ None
+none : (c : goal.After-from_residual) → find is_unclaimed c.args.self.now.live ≡ None
 none c =
-    found_nowhere is_waiting c.args.self.now.live (
-    ap (λ (calls : HeldCalls). position is_waiting calls.live) (sym c.self.view_is) ∙ sym (c.waiting_place.ensures ∙ ap (position is_waiting) c.deref.ensures.value) ∙ c.in_err-place.was
+    found_nowhere is_unclaimed c.args.self.now.live (
+    ap (λ (calls : HeldCalls). position is_unclaimed calls.live) (sym c.self.view_is) ∙ sym (c.waiting_place.ensures ∙ ap (position is_unclaimed) c.deref.ensures.value) ∙ c.in_err-place.was
     )
 
 pub returns-in_err-place-clause-none : goal.returns-in_err-place-clause-none
@@ -25,16 +25,16 @@ returns-in_err-place-clause-first c = c.from_residual.ensures ∙ sym (ap (optio
 abbrev first : goal.After-set_state_at → Message
 first c = get_or c.args.self.now.live c.in_ok-place.place (waiting_message 0 0)
 
-found : (c : goal.After-set_state_at) → find is_waiting c.args.self.now.live ≡ Some (first c)
+found : (c : goal.After-set_state_at) → find is_unclaimed c.args.self.now.live ≡ Some (first c)
 found c =
-    found_first is_waiting c.args.self.now.live c.in_ok-place.place (waiting_message 0 0) (
-    ap (λ (calls : HeldCalls). position is_waiting calls.live) (sym c.self.view_is) ∙ sym (c.waiting_place.ensures ∙ ap (position is_waiting) c.deref.ensures.value) ∙ c.in_ok-place.was
+    found_first is_unclaimed c.args.self.now.live c.in_ok-place.place (waiting_message 0 0) (
+    ap (λ (calls : HeldCalls). position is_unclaimed calls.live) (sym c.self.view_is) ∙ sym (c.waiting_place.ensures ∙ ap (position is_unclaimed) c.deref.ensures.value) ∙ c.in_ok-place.was
     )
 
 least : (c : goal.After-set_state_at) → IsLeastWaiting c.args.self.now c.set_state_at.result
 least c =
     subst (IsLeastWaiting c.args.self.now) (sym (c.set_state_at.ensures.seq (waiting_message 0 0))) (
-    least_waiting c.args.self.now (first c) (subst IsWhole c.self.view_is c.self.invariant) (found c)
+    least_waiting c.args.self.now (first c) (subst AreValidCalls c.self.view_is c.self.invariant) (found c)
     )
 
 pub returns-clause-none : goal.returns-clause-none

@@ -1,15 +1,15 @@
 use Rattle.std.proofs.Common.{◌≡◌, ◌+◌, ◌∙◌, List, [], ◌∷◌, ◌++◌, add-one, ap, Some, sym, subst}
 use Rattle.std.specs.Option.{option_map}
-use Rattle.st_messages.specs.Messages.{HeldCalls, calls_after_renew, calls_after_renew_of, message_at, thread_at, waiting_message, IsWhole, RenewsState}
+use Rattle.st_messages.specs.Messages.{HeldCalls, calls_after_renew, calls_after_renew_of, message_of_number, thread_of_number, waiting_message, AreValidCalls, RenewsState}
 use Rattle.st_messages.specs.declared.message.Message.{Message}
 use Rattle.st_messages.proofs.Whole.{next_none, states_renewed, thread_renewed, whole-renewed}
 use Rattle.st_messages.proofs.messages.Messages.renew.Goals as goal
 
-whole : (c : goal.After-push_reserved) → IsWhole c.args.self.now
-whole c = subst IsWhole c.self.view_is c.self.invariant
+whole : (c : goal.After-push_reserved) → AreValidCalls c.args.self.now
+whole c = subst AreValidCalls c.self.view_is c.self.invariant
 
-found : (c : goal.After-push_reserved) → message_at c.args.self.now c.args.seq ≡ Some c.take-message.result
-found c = sym (ap (λ (calls : HeldCalls). message_at calls c.args.seq) c.self.view_is) ∙ c.take-message.ensures.message
+found : (c : goal.After-push_reserved) → message_of_number c.args.self.now c.args.seq ≡ Some c.take-message.result
+found c = sym (ap (λ (calls : HeldCalls). message_of_number calls c.args.seq) c.self.view_is) ∙ c.take-message.ensures.message
 
 left : (c : goal.After-push_reserved) → record { workers = c.self.inside.workers; next = c.self.inside.next + 1; live = c.push_reserved.new.self.items } ≡ calls_after_renew c.args.self.now c.args.seq
 left c =
@@ -20,12 +20,12 @@ left c =
     ∙ ap (λ (calls : HeldCalls). calls_after_renew calls c.args.seq) c.self.view_is
 
 pub invariant_of-self : goal.invariant_of-self
-invariant_of-self c = subst IsWhole (sym (left c)) (whole-renewed c.args.self.now c.args.seq (whole c) c.take-message.result (found c))
+invariant_of-self c = subst AreValidCalls (sym (left c)) (whole-renewed c.args.self.now c.args.seq (whole c) c.take-message.result (found c))
 
 pub returns-clause-thread : goal.returns-clause-thread
 returns-clause-thread c =
-    ap (λ (calls : HeldCalls). thread_at calls c.self.inside.next) (left c)
-    ∙ ap (λ (calls : HeldCalls). thread_at (calls_after_renew c.args.self.now c.args.seq) calls.next) c.self.view_is
+    ap (λ (calls : HeldCalls). thread_of_number calls c.self.inside.next) (left c)
+    ∙ ap (λ (calls : HeldCalls). thread_of_number (calls_after_renew c.args.self.now c.args.seq) calls.next) c.self.view_is
     ∙ thread_renewed c.args.self.now c.args.seq (whole c) c.take-message.result (found c)
 
 pub returns-clause-fresh : goal.returns-clause-fresh

@@ -3,7 +3,7 @@ use Rattle.std.proofs.lemmas.Bool.{eqb-true, true≢false}
 use Rattle.std.proofs.lemmas.List.Quantifiers.{position-Some}
 use Rattle.std.specs.List.{position}
 use Rattle.std.specs.Prelude.{is_some}
-use Rattle.st_messages.specs.Messages.{HeldCalls, has_number, is_live, message_in, waiting_message, with_state, ChangesState}
+use Rattle.st_messages.specs.Messages.{HeldCalls, is_message_of, is_live_number, message_in, waiting_message, with_state, ChangesState}
 use Rattle.st_messages.proofs.Lookups.{found_nowhere}
 use Rattle.st_messages.proofs.messages.Messages.set_state.Goals as goal
 
@@ -11,8 +11,8 @@ use Rattle.st_messages.proofs.messages.Messages.set_state.Goals as goal
 number : (c : goal.After-set_state_at) → c.set_state_at.result ≡ c.args.seq
 number c =
     let default = waiting_message 0 0 in
-    let is = ap (λ (calls : HeldCalls). position (has_number c.args.seq) calls.live) (sym c.self.view_is) ∙ sym (c.place_of.ensures ∙ ap (position (has_number c.args.seq)) c.deref.ensures.value) ∙ c.in-Some.is in
-    c.set_state_at.ensures.seq default ∙ eqb-true _ c.args.seq (position-Some (has_number c.args.seq) c.args.self.now.live c.in-Some.place default is).1
+    let is = ap (λ (calls : HeldCalls). position (is_message_of c.args.seq) calls.live) (sym c.self.view_is) ∙ sym (c.place_of.ensures ∙ ap (position (is_message_of c.args.seq)) c.deref.ensures.value) ∙ c.in-Some.is in
+    c.set_state_at.ensures.seq default ∙ eqb-true _ c.args.seq (position-Some (is_message_of c.args.seq) c.args.self.now.live c.in-Some.place default is).1
 
 pub returns-in-Some-clause-calls : goal.returns-in-Some-clause-calls
 returns-in-Some-clause-calls c = c.set_state_at.ensures.calls ∙ ap (λ seq. with_state c.args.self.now seq c.args.state) (number c)
@@ -23,8 +23,8 @@ returns-in-Some-clause-states c = subst (λ seq. ChangesState c.args.self.now se
 -- a live number has an index
 nowhere : (c : goal.In_default) → ⊥
 nowhere c =
-    let none : message_in c.self.inside.live.items c.args.seq ≡ None = found_nowhere (has_number c.args.seq) c.self.inside.live.items (sym (c.place_of.ensures ∙ ap (position (has_number c.args.seq)) c.deref.ensures.value) ∙ c.in_default.is) in
-    true≢false (sym c.requires.live ∙ sym (ap (λ (calls : HeldCalls). is_live calls c.args.seq) c.self.view_is) ∙ ap is_some none)
+    let none : message_in c.self.inside.live.items c.args.seq ≡ None = found_nowhere (is_message_of c.args.seq) c.self.inside.live.items (sym (c.place_of.ensures ∙ ap (position (is_message_of c.args.seq)) c.deref.ensures.value) ∙ c.in_default.is) in
+    true≢false (sym c.requires.live ∙ sym (ap (λ (calls : HeldCalls). is_live_number calls c.args.seq) c.self.view_is) ∙ ap is_some none)
 
 pub returns-in_default-clause-calls : goal.returns-in_default-clause-calls
 returns-in_default-clause-calls c = absurd (nowhere c)

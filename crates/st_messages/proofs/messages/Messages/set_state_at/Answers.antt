@@ -1,6 +1,6 @@
 use Rattle.std.proofs.Common.{◌≡◌, ◌∙◌, ◌<◌, Some, true, ap, length, sym, subst}
 use Rattle.std.specs.Prelude.{is_some, slice_set}
-use Rattle.st_messages.specs.Messages.{HeldCalls, is_live, with_state, ChangesState, IsWhole}
+use Rattle.st_messages.specs.Messages.{HeldCalls, is_live_number, with_state, ChangesState, AreValidCalls}
 use Rattle.st_messages.proofs.Lookups.{found_there, moved, set-placed}
 use Rattle.st_messages.proofs.Whole.{states_moved, whole-moved}
 use Rattle.st_messages.proofs.messages.Messages.set_state_at.Goals as goal
@@ -9,9 +9,9 @@ inside : (c : goal.After-self-1) → c.args.place < length c.self.inside.live.it
 inside c = subst (λ (calls : HeldCalls). c.args.place < length calls.live) (sym c.self.view_is) c.requires.place
 
 -- the message at the index is live
-live : (c : goal.After-self-1) → is_live c.args.self.now c.index_mut-message.result.now.seq ≡ true
+live : (c : goal.After-self-1) → is_live_number c.args.self.now c.index_mut-message.result.now.seq ≡ true
 live c =
-    ap (λ (calls : HeldCalls). is_live calls c.index_mut-message.result.now.seq) (sym c.self.view_is)
+    ap (λ (calls : HeldCalls). is_live_number calls c.index_mut-message.result.now.seq) (sym c.self.view_is)
     ∙ ap is_some (found_there c.self.inside.live.items 1 c.self.inside.next c.args.place c.index_mut-message.result.now c.self.invariant.ordered (inside c) c.index_mut-message.ensures.value)
 
 left : (c : goal.After-self-1) → record { workers = c.self.inside.workers; next = c.self.inside.next; live = slice_set c.self.inside.live.items c.args.place (moved c.args.state c.index_mut-message.result.now) } ≡ with_state c.args.self.now c.index_mut-message.result.now.seq c.args.state
@@ -20,7 +20,7 @@ left c =
     ∙ ap (λ (calls : HeldCalls). with_state calls c.index_mut-message.result.now.seq c.args.state) c.self.view_is
 
 pub invariant_of-self : goal.invariant_of-self
-invariant_of-self c = subst IsWhole (sym (left c)) (whole-moved c.args.self.now c.index_mut-message.result.now.seq c.args.state (subst IsWhole c.self.view_is c.self.invariant) (live c) c.requires.worker)
+invariant_of-self c = subst AreValidCalls (sym (left c)) (whole-moved c.args.self.now c.index_mut-message.result.now.seq c.args.state (subst AreValidCalls c.self.view_is c.self.invariant) (live c) c.requires.worker)
 
 pub returns-clause-calls : goal.returns-clause-calls
 returns-clause-calls c = left c

@@ -1,17 +1,17 @@
 use Rattle.std.proofs.Common.{◌≡◌, ◌⊎◌, ◌∙◌, ⊎_elim, ap, sym, subst₂, arith, ◌<◌, ℕ, List, [], ◌∷◌, ◌++◌, length, take, drop, get_or, nat_eq, false, true}
 use Rattle.std.proofs.lemmas.Bool.{eq-eqb, eqb-true}
 use Rattle.std.specs.Cmp.Lexicographic.{pointwise}
-use Rattle.st_names.specs.Name.{Components, IsSpelled, parts_behind, slash}
+use Rattle.st_names.specs.Name.{Components, IsNameText, parts_after, slash}
 use Rattle.st_names.proofs.Spelled.{begins_all, begins_more, begins_none, begun_rest, prefix_rest}
 use Rattle.st_names.proofs.name.AbsName.begins.Goals as goal
 
 abbrev Begins : Components → Components → Type 0
 Begins name other = name ≡ take (length name) other
 
-by_texts : (text other : List ℕ) (name begun : Components) → parts_behind text ≡ name → parts_behind other ≡ begun → Begins name begun → Begins (parts_behind text) (parts_behind other)
+by_texts : (text other : List ℕ) (name begun : Components) → parts_after text ≡ name → parts_after other ≡ begun → Begins name begun → Begins (parts_after text) (parts_after other)
 by_texts text other name begun e f h = subst₂ Begins (sym e) (sym f) h
 
-by_names : (text other : List ℕ) (name begun : Components) → parts_behind text ≡ name → parts_behind other ≡ begun → Begins (parts_behind text) (parts_behind other) → Begins name begun
+by_names : (text other : List ℕ) (name begun : Components) → parts_after text ≡ name → parts_after other ≡ begun → Begins (parts_after text) (parts_after other) → Begins name begun
 by_names text other name begun e f h = subst₂ Begins e f h
 
 none : (rest : List ℕ) → nat_eq (length rest) 0 ≡ true → rest ≡ []
@@ -28,7 +28,7 @@ first_slash rest more = ⊎_elim (λ empty. let e = ap length empty in absurd (o
 text_rest : (text other prefix whole rest : List ℕ) → prefix ≡ text → whole ≡ other → pointwise nat_eq (take (length prefix) whole) prefix ≡ true → rest ≡ drop (length prefix) whole → other ≡ text ++ rest
 text_rest text other prefix whole rest e f same is = sym f ∙ prefix_rest prefix whole rest same is ∙ ap (λ (front : List ℕ). front ++ rest) e
 
-no_rest : (text other prefix whole : List ℕ) → prefix ≡ text → whole ≡ other → IsSpelled text → IsSpelled other → pointwise nat_eq (take (length prefix) whole) prefix ≡ false → Begins (parts_behind text) (parts_behind other) → ⊥
+no_rest : (text other prefix whole : List ℕ) → prefix ≡ text → whole ≡ other → IsNameText text → IsNameText other → pointwise nat_eq (take (length prefix) whole) prefix ≡ false → Begins (parts_after text) (parts_after other) → ⊥
 no_rest text other prefix whole e f spelled spelled_other differs begins =
     begins_none text other spelled spelled_other (subst₂ (λ (p w : List ℕ). pointwise nat_eq (take (length p) w) p ≡ false) e f differs) begins
 

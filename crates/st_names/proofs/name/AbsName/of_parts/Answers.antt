@@ -1,5 +1,5 @@
 use Rattle.std.proofs.Common.{◌≡◌, ◌∙◌, ap, subst, sym, List, ℕ, [], ◌∷◌, ◌++◌}
-use Rattle.st_names.specs.Name.{IsSpelled, slash}
+use Rattle.st_names.specs.Name.{IsNameText, slash}
 use Rattle.st_names.proofs.Spelled.{spelled_after}
 use Rattle.st_names.proofs.name.AbsName.of_parts.Goals as goal
 
@@ -8,4 +8,4 @@ text_spelled none slashed spelled text e f g = g ∙ ap (λ (front : List ℕ). 
 
 pub invariant_of-result : goal.invariant_of-result
 invariant_of-result c =
-    subst IsSpelled (sym (text_spelled _ _ _ _ c.in_ok-spelled.ensures.items c.push_reserved.ensures.items c.in_ok-extend_from_slice.ensures.items)) (spelled_after c.args.text.now)
+    subst IsNameText (sym (text_spelled _ _ _ _ c.in_ok-spelled.ensures.items c.push_reserved.ensures.items c.in_ok-extend_from_slice.ensures.items)) (spelled_after c.args.text.now)

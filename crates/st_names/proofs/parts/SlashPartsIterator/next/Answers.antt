@@ -7,7 +7,7 @@ use Rattle.st_names.proofs.parts.SlashPartsIterator.next.Goals as goal
 pub returns-clause-steps : goal.returns-clause-steps
 returns-clause-steps c =
     sym c.self.view_is ∙ ap (λ o. parts_left (option_map (λ t. t.now) o)) c.in_ok-text.was
-    ∙ first_part_taken c.in_ok-text.text.now c.split_at.result.0.now c.split_at.result.1.now c.first_slash.result (parts_left (option_map (λ t. t.now) c.behind_slash-self-inside.result)) c.first_slash.ensures.place c.split_at.ensures.front c.split_at.ensures.back c.behind_slash-self-inside.ensures
+    ∙ first_part_taken c.in_ok-text.text.now c.split_at.result.0.now c.split_at.result.1.now c.first_slash.result (parts_left (option_map (λ t. t.now) c.after_slash-self-inside.result)) c.first_slash.ensures.place c.split_at.ensures.front c.split_at.ensures.back c.after_slash-self-inside.ensures
 
 pub returns-clause-goes : goal.returns-clause-goes
 returns-clause-goes c =

@@ -1,4 +1,4 @@
-use Rattle.st_outside.proofs.HeldLemmas.{held_of-added, held_of-others}
+use Rattle.st_outside.proofs.ContentsLemmas.{held_of-added, held_of-others}
 use Rattle.st_outside.proofs.memory_files.MemoryFiles.add.Goals as goal
 
 pub returns-clause-later : goal.returns-clause-later

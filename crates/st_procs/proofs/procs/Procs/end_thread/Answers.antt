@@ -1,5 +1,5 @@
 use Rattle.std.proofs.Common.{◌∙◌, ap, subst, sym}
-use Rattle.st_model.specs.Processes.{Processes, is_live}
+use Rattle.st_model.specs.Processes.{Processes, is_process_live}
 use Rattle.st_procs.specs.Laws.{ThreadEnds}
 use Rattle.st_procs.proofs.Live.{last_iff, threads_end}
 use Rattle.st_procs.proofs.procs.Procs.end_thread.Goals as goal
@@ -10,4 +10,4 @@ returns-clause-threads c = subst (ThreadEnds c.args.self.now c.args.tid) (sym c.
 pub returns-clause-last : goal.returns-clause-last
 returns-clause-last c =
     let f = c.finish-pid.ensures in
-    last_iff c.args.self.now c.args.tid c.finish-pid.result f.ordered f.pid f.there c.alive.result (c.alive.ensures.live ∙ ap (λ (p : Processes). is_live p c.finish-pid.result) f.ended)
+    last_iff c.args.self.now c.args.tid c.finish-pid.result f.ordered f.pid f.there c.alive.result (c.alive.ensures.live ∙ ap (λ (p : Processes). is_process_live p c.finish-pid.result) f.ended)

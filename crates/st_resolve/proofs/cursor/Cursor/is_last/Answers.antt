@@ -12,5 +12,5 @@ returns c =
     let view = ap (λ (t : List ℕ). components_of (drop at t)) same ∙ c.self.view_is in
     let is : IsComponentAt text at c.self.inside.end = subst (λ (t : List ℕ). IsComponentAt t at c.self.inside.end) (sym same) c.self.invariant in
     let short : at < length text = some_left text at (subst (λ (parts : Components). 0 < length parts) (sym view) c.requires) in
-    ends_there text c.component_behind-behind.result.0 c.component_behind-behind.ensures.at.place
-    ∙ ap (λ (all : Components). nat_eq (length all) 0) (c.component_behind-behind.ensures.rest at is short ∙ ap (drop 1) view)
+    ends_there text c.component_after-following.result.0 c.component_after-following.ensures.at.place
+    ∙ ap (λ (all : Components). nat_eq (length all) 0) (c.component_after-following.ensures.rest at is short ∙ ap (drop 1) view)

@@ -4,7 +4,7 @@ use Rattle.std.proofs.lemmas.Result.{err_from_is_err_and}
 use Rattle.std.specs.Vec.{with_items}
 use Rattle.st_model.specs.Tree.{Node, Tree, add_object, node_of_new}
 use Rattle.st_names.specs.Name.{last_part}
-use Rattle.st_tree.specs.Objects.{dirs_of, node_of, tree_of}
+use Rattle.st_tree.specs.Objects.{dirs_of, object_node, tree_of}
 use Rattle.st_tree.specs.Paths.{with_entry}
 use Rattle.st_tree.specs.declared.object.Object.{Object}
 use Rattle.st_tree.proofs.Changes.{Makes, made_added, same_count, written_same}
@@ -36,11 +36,11 @@ makes c =
     let old = c.self.inside.objects.items in
     let new = c.put_entry.new.objects in
     let at : c.deref_mut.result.now ≡ old = c.deref_mut.ensures.value ∙ c.in_ok-reserve.ensures.items in
-    let nodes : map node_of new ≡ map node_of old = c.put_entry.ensures.nodes ∙ ap (map node_of) at in
+    let nodes : map object_node new ≡ map object_node old = c.put_entry.ensures.nodes ∙ ap (map object_node) at in
     let number : c.len.result + 1 ≡ suc (length old) = omega (arith, c.len.ensures) in
     let free = rw c.deref.ensures.value at c.in_ok-holder.ensures.free in
     let room = rw c.deref.ensures.value at c.in_ok-holder.ensures.room in
-    let made : Makes (new ++ c.of.result ∷ []) (add_object (tree_of old) c.args.name.now (node_of c.of.result)) =
+    let made : Makes (new ++ c.of.result ∷ []) (add_object (tree_of old) c.args.name.now (object_node c.of.result)) =
     made_added old new c.of.result c.self.invariant room nodes c.args.name.now c.in_ok-holder.holder free
     (λ n. c.in_ok-put_entry.ensures.ok n
     ∙ ap (λ part. with_entry (dirs_of c.deref_mut.result.now) c.in_ok-holder.holder part (c.len.result + 1) n) c.last.ensures
@@ -52,7 +52,7 @@ makes c =
     (with_items_is c.reserve.new.self new (same_count old new nodes ∙ sym (ap length c.in_ok-reserve.ensures.items) ∙ sym c.reserve.new.self.ok.0)) in
     subst (λ (objects : List Object). Makes objects (add_object c.args.self.now c.args.name.now (node_of_new c.args.new))) (sym items)
     (subst (λ (node : Node). Makes (new ++ c.of.result ∷ []) (add_object c.args.self.now c.args.name.now node)) c.of.ensures.node
-    (subst (λ (tree : Tree). Makes (new ++ c.of.result ∷ []) (add_object tree c.args.name.now (node_of c.of.result))) c.self.view_is made))
+    (subst (λ (tree : Tree). Makes (new ++ c.of.result ∷ []) (add_object tree c.args.name.now (object_node c.of.result))) c.self.view_is made))
 
 pub invariant_of-self-2 : goal.invariant_of-self-2
 invariant_of-self-2 c = (makes c).whole

@@ -3,7 +3,7 @@ use Rattle.std.proofs.lemmas.Result.{err_from_is_err_and}
 use Rattle.std.specs.Vec.{with_items}
 use Rattle.st_model.specs.Tree.{link_object}
 use Rattle.st_names.specs.Name.{last_part}
-use Rattle.st_tree.specs.Objects.{dirs_of, node_of, tree_of}
+use Rattle.st_tree.specs.Objects.{dirs_of, object_node, tree_of}
 use Rattle.st_tree.specs.Paths.{with_entry}
 use Rattle.st_tree.proofs.Changes.{Makes, made_linked, same_count, written, written_same}
 use Rattle.st_tree.proofs.Trees.{made_within}
@@ -37,7 +37,7 @@ makes c =
     let new = c.put_entry.new.objects in
     let free = rw c.deref.ensures.value at c.in_ok-holder.ensures.free in
     let plain = rw c.deref.ensures.value at c.in_ok-holder.ensures.plain in
-    let nodes : map node_of new ≡ map node_of old = c.put_entry.ensures.nodes ∙ ap (map node_of) c.deref_mut.ensures.value in
+    let nodes : map object_node new ≡ map object_node old = c.put_entry.ensures.nodes ∙ ap (map object_node) c.deref_mut.ensures.value in
     written c.self.inside.objects new (tree_of old) c.args.self.now (λ tree. link_object tree c.args.name.now c.args.obj) (same_count old new nodes) c.self.view_is
     (made_linked old new c.self.invariant nodes c.args.name.now c.in_ok-holder.holder c.args.obj free (made_within _ _ c.args.obj c.self.view_is c.requires) plain
     (λ number. c.in_ok-put_entry.ensures.ok number ∙ ap (λ part. with_entry (dirs_of c.deref_mut.result.now) c.in_ok-holder.holder part c.args.obj number) c.last.ensures

@@ -2,7 +2,7 @@ use Rattle.std.proofs.Common.{◌≡◌, ◌∙◌, ap, refl, subst, map}
 use Rattle.std.proofs.lemmas.Result.{err_from_is_err_and}
 use Rattle.std.specs.Vec.{with_items}
 use Rattle.st_names.specs.Name.{last_part}
-use Rattle.st_tree.specs.Objects.{dirs_of, node_of, tree_of}
+use Rattle.st_tree.specs.Objects.{dirs_of, object_node, tree_of}
 use Rattle.st_tree.specs.Paths.{with_entry, without_entry}
 use Rattle.st_tree.specs.Reached.{IsRenaming, IsRenamePlan}
 use Rattle.st_tree.specs.Refusals.{tree_after_rename}
@@ -29,7 +29,7 @@ makes c =
     let new = c.move_entry.new.objects in
     let found = rw c.deref.ensures.value at c.in_ok-way.ensures.way in
     let way : IsRenamePlan old c.args.old.now c.args.new.now c.in-Some.way = subst (IsRenaming old c.args.old.now c.args.new.now) c.in-Some.is found in
-    let nodes : map node_of new ≡ map node_of old = c.move_entry.ensures.nodes ∙ ap (map node_of) c.deref_mut.ensures.value in
+    let nodes : map object_node new ≡ map object_node old = c.move_entry.ensures.nodes ∙ ap (map object_node) c.deref_mut.ensures.value in
     written c.self.inside.objects new (tree_of old) c.args.self.now (λ tree. tree_after_rename tree c.args.old.now c.args.new.now) (same_count old new nodes) c.self.view_is
     (made_renamed old new c.self.invariant nodes c.args.old.now c.args.new.now c.in-Some.way way
     (λ number. c.in_ok-move_entry.ensures.ok number

@@ -1,10 +1,10 @@
 use Rattle.std.proofs.Common.{◌≡◌, ◌↔◌, ◌-◌, ◌∙◌, set, Some, true, ap, refl, sym, subst}
 use Rattle.st_calls.specs.declared.judged.Snapshot.{Snapshot}
-use Rattle.st_messages.specs.Messages.{is_live}
+use Rattle.st_messages.specs.Messages.{is_live_number}
 use Rattle.st_messages.specs.declared.message.Delivered.TheVariants.{Applied}
-use Rattle.st_workers.specs.Kept.{IsKept}
+use Rattle.st_workers.specs.Refinement.{RepresentsMessages}
 use Rattle.st_workers.specs.Tasks.{task_of}
-use Rattle.st_workers.specs.UnderWay.{turn_at, UnderWay}
+use Rattle.st_workers.specs.UnderWay.{turn_of_worker, UnderWay}
 use Rattle.st_workers.specs.declared.turn.Turn.{Turn}
 use Rattle.st_workers.specs.declared.turn.Turn.TheVariants.{Idle, Ready}
 use Rattle.st_workers.proofs.Answered.{answered_kept, answered_whole, applied_where, IsDelivered}
@@ -25,7 +25,7 @@ old c = record { calls = c.self.inside.messages; slots = c.self.inside.slots; tu
 abbrev new : goal.After-answer-delivered → UnderWay
 new c = record { calls = c.answer-delivered.new.self; slots = c.self.inside.slots; turns = set c.self.inside.turns.items (c.args.worker - 1) c.replace-turn.new.dest }
 
-ready : (c : goal.After-answer-delivered) → turn_at (old c) c.args.worker ≡ Some (Ready c.in-Ready.snapshot)
+ready : (c : goal.After-answer-delivered) → turn_of_worker (old c) c.args.worker ≡ Some (Ready c.in-Ready.snapshot)
 ready c =
     let ready = answers_ready (old c) c.self.invariant c.args.worker (ap (λ (k : UnderWay). task_of k c.args.worker) c.self.view_is ∙ c.requires) in
     ready.1 ∙ ap Some (sym (sym c.in-Ready.is ∙ c.replace-turn.ensures.value ∙ read_is (old c).turns c.args.worker (Ready ready.0) c.index_mut.result.now ready.1 c.index_mut.ensures.value))
@@ -40,17 +40,17 @@ pub invariant_of-self : goal.invariant_of-self
 invariant_of-self c = answered_whole (old c) (new c) c.args.worker c.in-Ready.snapshot c.args.verdict c.answer-delivered.result (ready c) (delivered c) refl (put c) c.self.invariant
 
 pub returns-clause-copies : goal.returns-clause-copies
-returns-clause-copies c = sym (ap (λ (k : UnderWay). turn_at k c.args.worker) c.self.view_is) ∙ ready c
+returns-clause-copies c = sym (ap (λ (k : UnderWay). turn_of_worker k c.args.worker) c.self.view_is) ∙ ready c
 
 pub returns-clause-applied : goal.returns-clause-applied
 returns-clause-applied c =
-    subst (λ (k : UnderWay). (c.answer-delivered.result ≡ Applied) ↔ (is_live k.calls c.in-Ready.snapshot.seq ≡ true)) c.self.view_is
+    subst (λ (k : UnderWay). (c.answer-delivered.result ≡ Applied) ↔ (is_live_number k.calls c.in-Ready.snapshot.seq ≡ true)) c.self.view_is
     (applied_where (old c) (new c) c.args.worker c.in-Ready.snapshot c.args.verdict c.answer-delivered.result (ready c) (delivered c) refl (put c) c.self.invariant)
 
 pub returns-clause-kept : goal.returns-clause-kept
 returns-clause-kept c = λ i st alive kept judged.
     answered_kept (old c) (new c) c.args.worker c.in-Ready.snapshot c.args.verdict c.answer-delivered.result (ready c) (delivered c) refl (put c) i st alive
-    (subst (λ (k : UnderWay). IsKept i st alive k) (sym c.self.view_is) kept) judged
+    (subst (λ (k : UnderWay). RepresentsMessages i st alive k) (sym c.self.view_is) kept) judged
 
 pub returns-clause-lives : goal.returns-clause-lives
 returns-clause-lives c = λ i st alive kept. lives_as i st alive c.args.self.now c.in-Ready.snapshot.seq kept

@@ -2,18 +2,18 @@ use Rattle.std.proofs.Common.{◌≡◌, ◌≤◌, ◌∙◌, ◌-◌, ℕ, Lis
 use Rattle.std.specs.Prelude.{is_some, Err, IsSome, Ok, OnErr, Result}
 use Rattle.st_lookaside.specs.Slot.{Slot}
 use Rattle.st_lookaside.specs.Slots.{slot_at}
-use Rattle.st_messages.specs.Messages.{first_waiting, with_state, HeldCalls, IsWorker}
+use Rattle.st_messages.specs.Messages.{first_waiting, with_state, HeldCalls, HasWorker}
 use Rattle.st_messages.specs.declared.message.MsgState.TheVariants.{Waiting, Claimed}
 use Rattle.st_law.specs.State.{is_live}
 use Rattle.st_trace.specs.declared.entry.Entry.TheVariants as entry
 use Rattle.st_workers.specs.Filling.{IsTurnFor}
-use Rattle.st_workers.specs.Kept.{Follows, IsKept, IsWhole}
+use Rattle.st_workers.specs.Refinement.{RepresentsAfterEntry, RepresentsMessages, AreValidWorkers}
 use Rattle.st_workers.specs.Tasks.{task_of}
-use Rattle.st_workers.specs.UnderWay.{turn_at, UnderWay}
+use Rattle.st_workers.specs.UnderWay.{turn_of_worker, UnderWay}
 use Rattle.st_workers.specs.declared.task.Task.TheVariants.{Claim}
 use Rattle.st_workers.specs.declared.turn.Turn.TheVariants.{Idle}
 use Rattle.st_workers.proofs.Claims.{claimed_follows, claimed_whole}
-use Rattle.st_workers.proofs.Filled.{told}
+use Rattle.st_workers.proofs.Filled.{known}
 use Rattle.st_workers.proofs.Tasks.{claim_entry, claims_idle, state_slot, worker_there}
 use Rattle.st_workers.proofs.Turns.{number_within}
 use Rattle.st_workers.proofs.workers.Workers.claim.Goals as goal
@@ -26,7 +26,7 @@ some_there (Some seq) x = (seq, refl)
 pub unreachable-requires : goal.unreachable-requires
 unreachable-requires c =
     let kept : UnderWay = record { calls = c.self.inside.messages; slots = c.self.inside.slots; turns = c.self.inside.turns.items } in
-    let waits = some_there (first_waiting kept.calls) (claims_idle kept (turn_at kept c.args.worker) (ap (λ (k : UnderWay). task_of k c.args.worker) c.self.view_is ∙ c.requires)).1 in
+    let waits = some_there (first_waiting kept.calls) (claims_idle kept (turn_of_worker kept c.args.worker) (ap (λ (k : UnderWay). task_of k c.args.worker) c.self.view_is ∙ c.requires)).1 in
     c.in_default.not-Some waits.0 (c.least_waiting.ensures.first ∙ waits.1)
 
 pub turn_for-requires : goal.turn_for-requires
@@ -35,11 +35,11 @@ turn_for-requires c =
     ap is_some (state_slot kept c.self.invariant c.in-Some.seq Waiting c.in-Some.ensures.least.waiting).1
 
 -- the number of the worker is in range
-module _ (kept then : UnderWay) (same : kept ≡ then) (whole : IsWhole kept) (worker : ℕ) (claims : task_of then worker ≡ Claim) where
+module _ (kept then : UnderWay) (same : kept ≡ then) (whole : AreValidWorkers kept) (worker : ℕ) (claims : task_of then worker ≡ Claim) where
   number : (1 ≤ worker) × (worker ≤ length kept.turns)
-  number = number_within kept.turns worker Idle (claims_idle kept (turn_at kept worker) (ap (λ (k : UnderWay). task_of k worker) same ∙ claims)).0
+  number = number_within kept.turns worker Idle (claims_idle kept (turn_of_worker kept worker) (ap (λ (k : UnderWay). task_of k worker) same ∙ claims)).0
 
-  one_of_them : IsWorker kept.calls worker
+  one_of_them : HasWorker kept.calls worker
   one_of_them = (number.0, subst (λ (n : ℕ). worker ≤ n) whole.count number.1)
 
 pub overflow_sub-worker : goal.overflow_sub-worker
@@ -64,17 +64,17 @@ new c = record { calls = c.claim.new.self; slots = c.turn_for.new.slots; turns =
 put : (c : goal.After-claim) → (new c).turns ≡ set (old c).turns (c.args.worker - 1) c.in_ok-turn.turn
 put c = ap (set (old c).turns (c.args.worker - 1)) c.put_turn.ensures
 
-idle : (c : goal.After-claim) → turn_at (old c) c.args.worker ≡ Some Idle
-idle c = (claims_idle (old c) (turn_at (old c) c.args.worker) (ap (λ (k : UnderWay). task_of k c.args.worker) c.self.view_is ∙ c.requires)).0
+idle : (c : goal.After-claim) → turn_of_worker (old c) c.args.worker ≡ Some Idle
+idle c = (claims_idle (old c) (turn_of_worker (old c) c.args.worker) (ap (λ (k : UnderWay). task_of k c.args.worker) c.self.view_is ∙ c.requires)).0
 
 slot : (c : goal.After-claim) → (slot : Slot) × (slot_at (old c).slots c.in-Some.seq ≡ Some slot)
 slot c = state_slot (old c) c.self.invariant c.in-Some.seq Waiting c.in-Some.ensures.least.waiting
 
 calls : (c : goal.After-claim) → (new c).calls ≡ with_state (old c).calls c.in-Some.seq (Claimed c.args.worker)
-calls c = told c.claim.result (λ seq. c.claim.new.self ≡ with_state (old c).calls seq (Claimed c.args.worker)) c.in-Some.seq (c.claim.ensures.first ∙ sym c.in-Some.ensures.first) c.claim.ensures.ok
+calls c = known c.claim.result (λ seq. c.claim.new.self ≡ with_state (old c).calls seq (Claimed c.args.worker)) c.in-Some.seq (c.claim.ensures.first ∙ sym c.in-Some.ensures.first) c.claim.ensures.ok
 
 turn : (c : goal.After-claim) → IsTurnFor c.in-Some.seq (slot c).0 c.in_ok-turn.turn
-turn c = told (slot_at (old c).slots c.in-Some.seq) (λ s. IsTurnFor c.in-Some.seq s c.in_ok-turn.turn) (slot c).0 (slot c).1 c.in_ok-turn.ensures.turn
+turn c = known (slot_at (old c).slots c.in-Some.seq) (λ s. IsTurnFor c.in-Some.seq s c.in_ok-turn.turn) (slot c).0 (slot c).1 c.in_ok-turn.ensures.turn
 
 pub returns-clause-calls : goal.returns-clause-calls
 returns-clause-calls c = calls c ∙ ap (λ (k : UnderWay). with_state k.calls c.in-Some.seq (Claimed c.args.worker)) c.self.view_is
@@ -84,7 +84,7 @@ returns-clause-workers c = ap (λ (k : HeldCalls). k.workers) (calls c) ∙ ap (
 
 -- out of memory
 pub invariant_of-self : goal.invariant_of-self
-invariant_of-self c = subst (λ (slots : List Slot). IsWhole (record { calls = c.self.inside.messages; slots = slots; turns = c.self.inside.turns.items })) (sym c.turn_for.ensures.same) c.self.invariant
+invariant_of-self c = subst (λ (slots : List Slot). AreValidWorkers (record { calls = c.self.inside.messages; slots = slots; turns = c.self.inside.turns.items })) (sym c.turn_for.ensures.same) c.self.invariant
 
 pub returns-in_err-turn-clause-workers : goal.returns-in_err-turn-clause-workers
 returns-in_err-turn-clause-workers c = ap (λ (k : UnderWay). k.calls.workers) c.self.view_is
@@ -103,12 +103,12 @@ invariant_of-self-2 c = claimed_whole (old c) (new c) c.args.worker c.in-Some.se
 
 pub returns-clause-kept : goal.returns-clause-kept
 returns-clause-kept c =
-    let follows : Follows (old c) (entry.Claimed c.args.worker c.in-Some.seq) (new c) =
+    let follows : RepresentsAfterEntry (old c) (entry.Claimed c.args.worker c.in-Some.seq) (new c) =
     claimed_follows (old c) (new c) c.args.worker c.in-Some.seq (slot c).0 c.in_ok-turn.turn (idle c) c.in-Some.ensures.least.waiting (slot c).1 (calls c) c.turn_for.ensures.same (put c) (turn c) in
-    subst (λ (k : UnderWay). Follows k (entry.Claimed c.args.worker c.in-Some.seq) (new c)) c.self.view_is follows
+    subst (λ (k : UnderWay). RepresentsAfterEntry k (entry.Claimed c.args.worker c.in-Some.seq) (new c)) c.self.view_is follows
 
 pub returns-clause-law : goal.returns-clause-law
 returns-clause-law c = λ i st kept.
     let within : (1 ≤ c.args.worker) × (c.args.worker ≤ length (old c).turns) = number_within (old c).turns c.args.worker Idle (idle c) in
-    let is = subst (λ (k : UnderWay). IsKept i st (is_live st) k) (sym c.self.view_is) kept in
+    let is = subst (λ (k : UnderWay). RepresentsMessages i st (is_live st) k) (sym c.self.view_is) kept in
     claim_entry i st (old c) c.args.worker is (worker_there i st (is_live st) (old c) c.args.worker within.0 (subst (λ (n : ℕ). c.args.worker ≤ n) c.self.invariant.count within.1) is) (idle c) c.in-Some.seq c.in-Some.ensures.least

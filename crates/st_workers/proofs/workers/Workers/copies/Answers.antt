@@ -1,6 +1,6 @@
 use Rattle.std.proofs.Common.{◌∙◌, ap, arith, Some, sym}
 use Rattle.st_workers.specs.Tasks.{task_of}
-use Rattle.st_workers.specs.UnderWay.{turn_at, UnderWay}
+use Rattle.st_workers.specs.UnderWay.{turn_of_worker, UnderWay}
 use Rattle.st_workers.specs.declared.turn.Turn.TheVariants.{Ready}
 use Rattle.st_workers.proofs.Tasks.{answers_ready}
 use Rattle.st_workers.proofs.Turns.{read_is}
@@ -24,5 +24,5 @@ pub returns : goal.returns
 returns c =
     let kept : UnderWay = record { calls = c.self.inside.messages; slots = c.self.inside.slots; turns = c.self.inside.turns.items } in
     let ready = answers_ready kept c.self.invariant c.args.worker (ap (λ (k : UnderWay). task_of k c.args.worker) c.self.view_is ∙ c.requires.task) in
-    sym (ap (λ (k : UnderWay). turn_at k c.args.worker) c.self.view_is) ∙ ready.1
+    sym (ap (λ (k : UnderWay). turn_of_worker k c.args.worker) c.self.view_is) ∙ ready.1
     ∙ ap Some (sym (read_is kept.turns c.args.worker (Ready ready.0) c.index.result.now ready.1 c.index.ensures) ∙ c.in-Ready.is ∙ ap Ready (sym c.get.ensures))

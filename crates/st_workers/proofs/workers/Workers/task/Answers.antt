@@ -2,12 +2,12 @@ use Rattle.std.proofs.Common.{◌≡◌, ◌≤◌, ◌-◌, ◌∙◌, ℕ, Lis
 use Rattle.std.proofs.lemmas.Option.{same_Some}
 use Rattle.st_law.specs.State.{is_live, is_worker, State}
 use Rattle.st_law.specs.declared.input.Input.{Input}
-use Rattle.st_lookaside.specs.Slot.{next_of, progress_of, Slot}
+use Rattle.st_lookaside.specs.Slot.{next_need, slot_progress, Slot}
 use Rattle.st_lookaside.specs.Slots.{slot_at}
 use Rattle.st_lookaside.specs.declared.head.Head.{Head}
-use Rattle.st_workers.specs.Kept.{IsKept, IsWhole}
-use Rattle.st_workers.specs.Tasks.{idle_task, task_at, task_of, task_of_slot, task_of_turn, IsTask, IsThere}
-use Rattle.st_workers.specs.UnderWay.{turn_at, UnderWay}
+use Rattle.st_workers.specs.Refinement.{RepresentsMessages, AreValidWorkers}
+use Rattle.st_workers.specs.Tasks.{idle_task, task_at, task_of, task_of_slot, task_of_turn, IsTask, CanServe}
+use Rattle.st_workers.specs.UnderWay.{turn_of_worker, UnderWay}
 use Rattle.st_workers.specs.declared.task.Task.{Task}
 use Rattle.st_workers.specs.declared.task.Task.TheVariants as task
 use Rattle.st_workers.specs.declared.turn.Turn.{Turn}
@@ -19,23 +19,23 @@ use Rattle.st_workers.proofs.Turns.{item_here}
 use Rattle.st_workers.proofs.workers.Workers.task.Goals as goal
 
 -- what is kept of a worker whose turn was read
-module _ (turns : List Turn) (now kept : UnderWay) (view : now ≡ kept) (whole : IsWhole now) (same : turns ≡ now.turns) (worker : ℕ) (from : 1 ≤ worker) (to : worker ≤ kept.calls.workers) (turn read : Turn)
+module _ (turns : List Turn) (now kept : UnderWay) (view : now ≡ kept) (whole : AreValidWorkers now) (same : turns ≡ now.turns) (worker : ℕ) (from : 1 ≤ worker) (to : worker ≤ kept.calls.workers) (turn read : Turn)
     (read_is : read ≡ get_or turns (worker - 1) read) (is : read ≡ turn) where
-  here : turn_at now worker ≡ Some turn
+  here : turn_of_worker now worker ≡ Some turn
   here = item_here now.turns worker read from (subst (λ (n : ℕ). worker ≤ n) (ap (λ (k : UnderWay). k.calls.workers) (sym view) ∙ sym whole.count) to) ∙ ap Some (ap (λ (ts : List Turn). get_or ts (worker - 1) read) (sym same) ∙ sym read_is ∙ is)
 
   task_here : (task : Task) → task_of_turn now (Some turn) ≡ task → task ≡ task_of kept worker
   task_here task e = sym (sym (ap (λ (k : UnderWay). task_of k worker) view) ∙ ap (task_of_turn now) here ∙ e)
 
-  law_here : (task : Task) → ((i : Input) (st : State) → IsKept i st (is_live st) now → is_worker i worker ≡ true → IsTask i st now worker task) → (i : Input) (st : State) → IsKept i st (is_live st) kept → IsTask i st kept worker task
+  law_here : (task : Task) → ((i : Input) (st : State) → RepresentsMessages i st (is_live st) now → is_worker i worker ≡ true → IsTask i st now worker task) → (i : Input) (st : State) → RepresentsMessages i st (is_live st) kept → IsTask i st kept worker task
   law_here task law i st is_kept =
-      let inside : IsKept i st (is_live st) now = subst (λ (k : UnderWay). IsKept i st (is_live st) k) (sym view) is_kept in
+      let inside : RepresentsMessages i st (is_live st) now = subst (λ (k : UnderWay). RepresentsMessages i st (is_live st) k) (sym view) is_kept in
       subst (λ (k : UnderWay). IsTask i st k worker task) view (law i st inside (worker_there i st (is_live st) now worker from (subst (λ (n : ℕ). worker ≤ n) (ap (λ (k : UnderWay). k.calls.workers) (sym view)) to) inside))
 
 abbrev inside : goal.After-row_known-1 → UnderWay
 inside c = record { calls = c.self.inside.messages; slots = c.self.inside.slots; turns = c.self.inside.turns.items }
 
-working : (c : goal.After-row_known-1) → turn_at (inside c) c.args.worker ≡ Some (Working c.in-Working.seq)
+working : (c : goal.After-row_known-1) → turn_of_worker (inside c) c.args.worker ≡ Some (Working c.in-Working.seq)
 working c = here (inside c).turns (inside c) c.args.self.now c.self.view_is c.self.invariant refl c.args.worker c.requires.0 c.requires.1 (Working c.in-Working.seq) c.index.result.now c.index.ensures c.in-Working.is
 
 pub slot-slot-requires : goal.slot-slot-requires
@@ -51,10 +51,10 @@ slot c = working_slot (kept c) c.self.invariant c.args.worker c.in-Working.seq
 read : (c : goal.After-task_at) → c.slot-slot.result.now ≡ (slot c).0
 read c = same_Some c.slot-slot.result.now (slot c).0 (sym c.slot-slot.ensures ∙ (slot c).1)
 
-task_is : (c : goal.After-task_at) → c.task_at.result ≡ task_at c.in-Working.seq (slot c).0.head.pid (progress_of (slot c).0)
+task_is : (c : goal.After-task_at) → c.task_at.result ≡ task_at c.in-Working.seq (slot c).0.head.pid (slot_progress (slot c).0)
 task_is c =
-    c.task_at.ensures.task (progress_of (slot c).0) (c.next.ensures.value ∙ ap (λ (s : Slot). next_of (progress_of s)) (read c))
-    ∙ ap (λ (h : Head). task_at c.in-Working.seq h.pid (progress_of (slot c).0)) (c.head.ensures ∙ ap (λ (s : Slot). s.head) (read c))
+    c.task_at.ensures.task (slot_progress (slot c).0) (c.next.ensures.value ∙ ap (λ (s : Slot). next_need (slot_progress s)) (read c))
+    ∙ ap (λ (h : Head). task_at c.in-Working.seq h.pid (slot_progress (slot c).0)) (c.head.ensures ∙ ap (λ (s : Slot). s.head) (read c))
 
 pub returns-in-Working-clause-task : goal.returns-in-Working-clause-task
 returns-in-Working-clause-task c =
@@ -109,7 +109,7 @@ pub returns-in-Ready-clause-law : goal.returns-in-Ready-clause-law
 returns-in-Ready-clause-law c =
     law_here (answers c).turns (answers c) c.args.self.now c.self.view_is c.self.invariant refl c.args.worker c.requires.0 c.requires.1 (Ready c.in-Ready.field-0) c.index.result.now c.index.ensures c.in-Ready.is task.Answer
     (λ i st is there.
-    let ready : turn_at (answers c) c.args.worker ≡ Some (Ready c.in-Ready.field-0) =
+    let ready : turn_of_worker (answers c) c.args.worker ≡ Some (Ready c.in-Ready.field-0) =
     here (answers c).turns (answers c) c.args.self.now c.self.view_is c.self.invariant refl c.args.worker c.requires.0 c.requires.1 (Ready c.in-Ready.field-0) c.index.result.now c.index.ensures c.in-Ready.is in
     (c.in-Ready.field-0, ready, ready_is i st (answers c) c.args.worker is there c.in-Ready.field-0 ready))
 
@@ -117,6 +117,6 @@ pub returns-in-Working-clause-there : goal.returns-in-Working-clause-there
 returns-in-Working-clause-there c =
     let claimed = working_claimed (kept c) c.self.invariant c.args.worker c.in-Working.seq
     (here (kept c).turns (kept c) c.args.self.now c.self.view_is c.self.invariant refl c.args.worker c.requires.0 c.requires.1 (Working c.in-Working.seq) c.index.result.now c.index.ensures c.in-Working.is) in
-    subst (λ (k : UnderWay). IsThere k.calls c.task_at.result) c.self.view_is (
+    subst (λ (k : UnderWay). CanServe k.calls c.task_at.result) c.self.view_is (
     c.task_at.ensures.there (kept c).calls (state_live (kept c).calls c.in-Working.seq (Claimed claimed.0) claimed.1) c.next.ensures.inside
     )

@@ -1,7 +1,0 @@
-use Rattle.std.proofs.Common.{◌≡◌, ◌++◌, take, flat_map}
-use Rattle.st_audit.specs.AuditText.{told_arg}
-use Rattle.st_audit.proofs.line.append_told_args.Given as goal
-
--- the arguments so far are appended to the text
-abbrev pub invariant-loop-arg : goal.invariant-loop-arg
-invariant-loop-arg l = l.text ≡ l.initial.text ++ flat_map told_arg (take l.arg-index l.args)

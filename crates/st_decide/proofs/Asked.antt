@@ -1,0 +1,210 @@
+-- The least question, and whether the operator can answer.
+use native.Mathlib.Omega.{arith}
+use Rattle.std.proofs.Common.{◌≡◌, ◌≤◌, ◌<◌, ◌+◌, ◌∙◌, ◌&&◌, zero, suc, ℕ, Bool, true, false, cond, Option, Some, None, inl, inr, refl, ap, sym, subst, true≢false}
+use Rattle.std.proofs.lemmas.Bool.{and_parts}
+use Rattle.std.proofs.lemmas.Bool.Decides.{leb_tells}
+use Rattle.std.proofs.lemmas.Option.{none-some, same_Some}
+use Rattle.std.specs.Option.{option_or}
+use Rattle.std.specs.Prelude.{is_some}
+use Rattle.st_base.specs.Numbered.{item_at_number}
+use Rattle.st_calls.specs.declared.judged.Snapshot.{Snapshot}
+use Rattle.st_effects.specs.Progress.{Progress, Word, Look, Stuck, Ready}
+use Rattle.st_trace.specs.declared.entry.Choice.TheVariants.{Operator}
+use Rattle.st_trace.specs.declared.entry.Entry.{Entry}
+use Rattle.st_law.specs.declared.input.Mode.{Mode}
+use Rattle.st_law.specs.declared.input.Mode.TheVariants.{Enforce, Learn, AskText}
+use Rattle.st_law.specs.Machine.{asked_entry, entry_of, least_question, operator_entry, question_entry, reply_entry}
+use Rattle.st_law.specs.Messages.{Head}
+use Rattle.st_law.specs.Sessions.{least_from}
+use Rattle.st_law.specs.State.{State, decision_in, operator_decides, is_live, is_live_by, is_open_question, is_question, is_undecided, next_reply, snapshot_in, snapshot_of_progress}
+use Rattle.st_learn.specs.Operator.{answers}
+use Rattle.st_learn.proofs.Replies.{asked_same}
+use Rattle.st_decide.specs.Machine.{Refines, Running}
+use Rattle.st_decide.specs.Questions.{is_at_most, IsAtMost, AreQuestionCopies, IsLeastAmong, IsLeastFound, IsLeastWith, IsQuestion}
+use Rattle.st_threads.specs.Thread.{ThreadRow, number_held}
+use Rattle.st_threads.specs.Ending.{HasNumber}
+use Rattle.st_decide.proofs.HeldCalls.{are_held}
+
+-- ---- one after the other
+
+-- copies have the number of their message
+own_number : (q : ℕ) (o : Option Head) (p : Progress) (s : Snapshot) → snapshot_of_progress q o p ≡ Some s → s.seq ≡ q
+own_number q None p s e = cc
+own_number q (Some head) (Word part place) s e = cc
+own_number q (Some head) (Look part name) s e = cc
+own_number q (Some head) (Stuck errno) s e = cc
+own_number q (Some head) (Ready args) s e = sym (ap (λ (u : Snapshot). u.seq) (same_Some _ s e))
+
+pub seq_is : (st : State) (q : ℕ) (s : Snapshot) → snapshot_in st q ≡ Some s → s.seq ≡ q
+seq_is st q s e = own_number q (st.messages q).head _ s e
+
+pub at_most : (o : Option Snapshot) (seq : ℕ) → is_at_most o seq ≡ true → IsAtMost o seq
+at_most None seq e = cc
+at_most (Some copies) seq e = elim (leb_tells copies.seq seq) [
+  | inl x ↦ x.1
+  | inr x ↦ absurd (true≢false (sym e ∙ x.0))
+]
+
+pub above_all : (o : Option Snapshot) (seq : ℕ) → is_at_most o seq ≡ false → (copies : Snapshot) → o ≡ Some copies → seq < copies.seq
+above_all None seq e copies is = absurd (none-some copies is)
+above_all (Some found) seq e copies is = subst (λ (s : Snapshot). seq < s.seq) (same_Some found copies is) (elim (leb_tells found.seq seq) [
+  | inl x ↦ absurd (true≢false (sym x.0 ∙ e))
+  | inr x ↦ x.1
+])
+
+module _ (m : Running) where
+  -- the copies of a question are those of its number
+  pub found_here : (seq : ℕ) (found : Option Snapshot) → IsQuestion m seq found → AreQuestionCopies m found
+  found_here seq None question = tt
+  found_here seq (Some copies) question = λ st is.
+      let asks = question st is in
+      let same : copies.seq ≡ seq = seq_is st seq copies asks.1 in
+      (ap (is_question m.input st) same ∙ asks.0, ap (snapshot_in st) same ∙ asks.1)
+
+  -- a question with a smaller number, or with this one, stays the least
+  pub least_kept : (least : Option Snapshot) (seq : ℕ) → IsAtMost least seq → IsLeastWith m least seq least
+  least_kept least seq low = record { question = λ x. x; before = λ other x. x; this = λ st is asks. low }
+
+  -- otherwise the least is this number, if it is a question
+  pub least_this : (least : Option Snapshot) (seq : ℕ) (found : Option Snapshot) → ((copies : Snapshot) → least ≡ Some copies → seq < copies.seq) → IsQuestion m seq found → (st : State) → Refines m st → IsLeastWith m least seq (option_or found least)
+  least_this least seq None low question st is = record { question = λ x. x; before = λ other x. x; this = λ state machine asks. absurd (true≢false (sym asks ∙ question state machine)) }
+  least_this least seq (Some copies) low question st is =
+      let same : copies.seq ≡ seq = seq_is st seq copies (question st is).1 in record {
+        question = λ x. found_here seq (Some copies) question;
+        before = λ other x. under least other low x same;
+        this = λ state machine asks. omega (arith, same);
+      } where
+        under : (o : Option Snapshot) (other : ℕ) → ((s : Snapshot) → o ≡ Some s → seq < s.seq) → IsAtMost o other → copies.seq ≡ seq → copies.seq ≤ other
+        under None other below x e = absurd x
+        under (Some s) other below x e = let y = below s refl in omega (arith, x, y, e)
+
+  -- ---- from thread to thread
+
+  pub none_among : (found : Option Snapshot) → AreQuestionCopies m found → IsLeastAmong m 0 found
+  none_among found question = record { question = question; least = λ t seq row low is held. absurd (outside t row low is) } where
+    outside : (t : ℕ) (row : ThreadRow) → t ≤ 0 → item_at_number m.threads t ≡ Some row → ⊥
+    outside zero row low is = none-some row is
+    outside (suc t) row low is = omega (arith, low)
+
+  module _ (count : ℕ) (least : Option Snapshot) (among : IsLeastAmong m count least) (row : ThreadRow) (row_is : item_at_number m.threads (suc count) ≡ Some row) where
+    -- a thread that holds no call has no question
+    pub among_free : number_held row ≡ None → IsLeastAmong m (suc count) least
+    among_free free = record {
+      question = among.question;
+      least = λ t seq other low is held st machine asks. elim (leb_tells t count) [
+        | inl x ↦ among.least t seq other x.1 is held st machine asks
+        | inr x ↦
+            let past = x.1 in
+            let here : t ≡ suc count = omega (arith, low, past) in
+            let same : other ≡ row = same_Some other row (sym is ∙ ap (item_at_number m.threads) here ∙ row_is) in
+            absurd (none-some seq (sym free ∙ ap number_held (sym same) ∙ held))
+      ];
+    }
+
+    -- a thread that holds a call has at most the question of its number
+    pub among_held : (q : ℕ) → number_held row ≡ Some q → (found : Option Snapshot) → IsLeastWith m least q found → IsLeastAmong m (suc count) found
+    among_held q held found x = record {
+      question = x.question among.question;
+      least = λ t seq other low is mine st machine asks. elim (leb_tells t count) [
+        | inl y ↦ x.before seq (among.least t seq other y.1 is mine st machine asks)
+        | inr y ↦
+            let past = y.1 in
+            let here : t ≡ suc count = omega (arith, low, past) in
+            let same : other ≡ row = same_Some other row (sym is ∙ ap (item_at_number m.threads) here ∙ row_is) in
+            let number : seq ≡ q = same_Some seq q (sym mine ∙ ap number_held same ∙ held) in
+            subst (IsAtMost found) (sym number) (x.this st machine (subst (λ n. is_question m.input st n ≡ true) number asks))
+      ];
+    }
+
+-- ---- the least number of a kind
+
+least_none : (is : ℕ → Bool) (n count : ℕ) → ((p : ℕ) → n ≤ p → p < n + count → is p ≡ false) → least_from is n count ≡ None
+least_none is n zero none = refl
+least_none is n (suc count) none =
+    ap (λ (b : Bool). cond b (Some n) (least_from is (suc n) count)) (none n (omega arith) (omega arith))
+    ∙ least_none is (suc n) count (λ p low high. none p (omega (arith, low)) (omega (arith, high)))
+
+least_some : (is : ℕ → Bool) (n count q : ℕ) → n ≤ q → q < n + count → is q ≡ true → ((p : ℕ) → n ≤ p → p < q → is p ≡ false) → least_from is n count ≡ Some q
+least_some is n zero q low high holds none = absurd (omega (arith, low, high))
+least_some is n (suc count) q low high holds none = elim (leb_tells q n) [
+  | inl x ↦ let below = x.1 in let same : n ≡ q = omega (arith, low, below) in
+      ap (λ (b : Bool). cond b (Some n) (least_from is (suc n) count)) (ap is same ∙ holds) ∙ ap (λ (k : ℕ). Some k) same
+  | inr x ↦ let above = x.1 in
+      ap (λ (b : Bool). cond b (Some n) (least_from is (suc n) count)) (none n (omega arith) above)
+      ∙ least_some is (suc n) count q above (omega (arith, high)) holds (λ p from to. none p (omega (arith, from)) to)
+]
+
+module _ (m : Running) (st : State) (is : Refines m st) (found : Option Snapshot) (count : ℕ) (among : IsLeastAmong m count found) (all : (t : ℕ) (row : ThreadRow) → item_at_number m.threads t ≡ Some row → t ≤ count) where
+  live_of : (q : ℕ) → is_question m.input st q ≡ true → is_live st q ≡ true
+  live_of q asks = (and_parts (is_live st q) (st.messages q).answered (and_parts (is_live st q && (st.messages q).answered) (is_open_question m.input st (snapshot_in st q)) asks).0).0
+
+  headed : (o : Option Head) (q : ℕ) → (st.messages q).head ≡ o → is_live st q ≡ true → (head : Head) × ((st.messages q).head ≡ Some head)
+  headed None q e live = absurd (true≢false (sym live ∙ live_none)) where
+    live_none : is_live st q ≡ false
+    live_none = ap (λ (o : Option Head). is_live_by o (st.messages q).closed (λ t. (st.threads t).dying)) e
+  headed (Some head) q e live = (head, e)
+
+  -- each question is held by a thread
+  bounded : (q : ℕ) → is_question m.input st q ≡ true → IsAtMost found q
+  bounded q asks =
+      let live = live_of q asks in
+      let head = headed (st.messages q).head q refl live in
+      by head.0.tid (item_at_number m.threads head.0.tid) refl ((are_held m st is).own q head.0 live head.1) where
+        by : (t : ℕ) (o : Option ThreadRow) → item_at_number m.threads t ≡ o → HasNumber o q → IsAtMost found q
+        by t None e has = absurd has
+        by t (Some row) e has = among.least t q row (all t row e) e has st is asks
+
+  within : (q : ℕ) → is_question m.input st q ≡ true → (1 ≤ q) × (q < 1 + st.posted)
+  within q asks = let given = is.workers.agrees.given q (live_of q asks) in (omega (arith, given.0), omega (arith, given.1))
+
+  falsely : (b : Bool) → (b ≡ true → ⊥) → b ≡ false
+  falsely true no_such = absurd (no_such refl)
+  falsely false no_such = refl
+
+found_none : (m : Running) (count : ℕ) → IsLeastAmong m count None → ((t : ℕ) (row : ThreadRow) → item_at_number m.threads t ≡ Some row → t ≤ count) → IsLeastFound m None
+found_none m count among all st is = least_none (is_question m.input st) 1 st.posted (λ p low high. falsely m st is None count among all (is_question m.input st p) (λ asks. bounded m st is None count among all p asks))
+
+found_some : (m : Running) (count : ℕ) (copies : Snapshot) → IsLeastAmong m count (Some copies) → ((t : ℕ) (row : ThreadRow) → item_at_number m.threads t ≡ Some row → t ≤ count) → IsLeastFound m (Some copies)
+found_some m count copies among all st is =
+    let question = among.question st is in
+    let range = within m st is (Some copies) count among all copies.seq question.0 in (
+      least_some (is_question m.input st) 1 st.posted copies.seq range.0 range.1 question.0
+          (λ p low high. falsely m st is (Some copies) count among all (is_question m.input st p) (λ asks. let at_most = bounded m st is (Some copies) count among all p asks in omega (arith, at_most, high))),
+      question.0,
+      question.1,
+    )
+
+-- the question that was found is the least, or there is none
+pub found_by : (m : Running) (count : ℕ) (found : Option Snapshot) → IsLeastAmong m count found → ((t : ℕ) (row : ThreadRow) → item_at_number m.threads t ≡ Some row → t ≤ count) → IsLeastFound m found
+found_by m count None among all = found_none m count among all
+found_by m count (Some copies) among all = found_some m count copies among all
+
+-- ---- whether the operator can answer
+
+module _ (m : Running) (st : State) (is : Refines m st) where
+  pub asks_none : least_question m.input st ≡ None → entry_of m.input st Operator ≡ None
+  asks_none none = ap (operator_entry m.input st) none
+
+  module _ (copies : Snapshot) (least : least_question m.input st ≡ Some copies.seq) (question : is_question m.input st copies.seq ≡ true) (there : snapshot_in st copies.seq ≡ Some copies) where
+    asked : operator_decides m.input st copies m.input.options.mode ≡ true
+    asked =
+        let is_open : is_open_question m.input st (Some copies) ≡ true = subst (λ (o : Option Snapshot). is_open_question m.input st o ≡ true) there (and_parts (is_live st copies.seq && (st.messages copies.seq).answered) (is_open_question m.input st (snapshot_in st copies.seq)) question).1 in
+        (and_parts (is_undecided (decision_in m.input st copies)) (operator_decides m.input st copies m.input.options.mode) is_open).1
+
+    -- the operator would answer the question
+    pub answers_here : answers m.input m.operator copies ≡ true
+    answers_here = sym (asked_same m.input st m.operator is.operator copies m.input.options.mode) ∙ asked
+
+    pub entry_here : entry_of m.input st Operator ≡ question_entry m.input st copies.seq copies m.input.options.mode
+    entry_here = ap (operator_entry m.input st) least ∙ ap (asked_entry m.input st copies.seq) there
+
+    pub asks_some : is_some (entry_of m.input st Operator) ≡ true
+    asks_some = ap (λ (o : Option Entry). is_some o) entry_here ∙ by m.input.options.mode asked where
+      replied : (o : Option ℕ) → is_some o ≡ true → is_some (reply_entry m.input st copies.seq copies o) ≡ true
+      replied None e = cc
+      replied (Some reply) e = refl
+
+      by : (mode : Mode) → operator_decides m.input st copies mode ≡ true → is_some (question_entry m.input st copies.seq copies mode) ≡ true
+      by Enforce e = cc
+      by Learn e = refl
+      by AskText e = replied (next_reply m.input st copies.policy copies.rule) e

@@ -1,0 +1,34 @@
+-- How calls are entered.
+use Rattle.std.specs.Prelude.{◌≡◌, ℕ, suc, if◌then◌else◌, List}
+use Rattle.st_calls.specs.declared.call.SysCall.{SysCall}
+use Rattle.st_lookaside.specs.Need.{IsShort}
+use Rattle.st_lookaside.specs.declared.head.Head as kept
+use Rattle.st_trace.specs.declared.entry.Way.{Way}
+use Rattle.st_trace.specs.declared.entry.Way.TheVariants.{Fast, Barred, Held, Untraced}
+use Rattle.st_law.specs.declared.input.Input.{Input}
+use Rattle.st_law.specs.Machine.{way_of_answer}
+use Rattle.st_law.specs.Messages.{new_head}
+use Rattle.st_law.specs.State.{State, answer_in, process_in}
+use Rattle.st_workers.specs.Refinement.{head_of}
+use Rattle.st_decide.specs.Machine.{Refines, Running}
+
+-- how a thread's call goes on by the law
+abbrev pub way_in : Input → State → ℕ → SysCall → List ℕ → Way
+way_in i st t call regs = if (process_in st t).traced then way_of_answer (suc st.posted) (answer_in i st (process_in st t) call regs) else Untraced
+
+-- a thread's call goes on this way, in each state that the machine represents
+abbrev pub IsWayOf : Running → ℕ → SysCall → List ℕ → Way → Type 0
+IsWayOf m t call regs way = (st : State) → Refines m st → way_in m.input st t call regs ≡ way
+
+-- a way on which no message is posted
+abbrev pub IsUnposted : Way → Type 0
+IsUnposted Fast = Unit {0}
+IsUnposted (Barred n) = Unit {0}
+IsUnposted Untraced = Unit {0}
+IsUnposted (Held q) = ⊥
+
+-- the head of the message of a call of this process, under this number
+pub record IsHeadOf (m : Running) (seq pid : ℕ) (call : SysCall) (regs : List ℕ) (head : kept.Head) : Type 0 where
+  pub seq_is : head.seq ≡ seq
+  pub short : IsShort head.cwd
+  pub law : (st : State) (t : ℕ) → Refines m st → head_of t head ≡ new_head m.input t pid (st.processes pid) call regs

@@ -1,0 +1,70 @@
+-- How the machine that runs finds the questions for the operator.
+use Rattle.std.specs.Prelude.{◌≡◌, ◌≤◌, ℕ, suc, Bool, true, false, ◌&&◌, ◌||◌, not, nat_le, List, length, Option, Some, None, is_some}
+use Rattle.std.specs.List.{fold}
+use Rattle.st_base.specs.Numbered.{item_at_number}
+use Rattle.st_calls.specs.declared.judged.Snapshot.{Snapshot}
+use Rattle.st_calls.specs.declared.judged.Verdict.{Verdict}
+use Rattle.st_calls.specs.declared.judged.Verdict.TheVariants.{Unmatched}
+use Rattle.st_filter.specs.Judging.{verdict_from}
+use Rattle.st_messages.specs.declared.message.MsgState.{MsgState}
+use Rattle.st_messages.specs.declared.message.MsgState.TheVariants.{Answered}
+use Rattle.st_law.specs.declared.input.Input.{Input}
+use Rattle.st_learn.specs.Deciding.{lesser}
+use Rattle.st_law.specs.Machine.{least_question}
+use Rattle.st_law.specs.Sessions.{session_filters}
+use Rattle.st_law.specs.State.{State, is_live, is_question, read_for, snapshot_in}
+use Rattle.st_decide.specs.Machine.{Refines, Running}
+use Rattle.st_threads.specs.Thread.{ThreadRow, number_held}
+
+-- whether a message was answered, and no filter that was read decides
+abbrev pub is_unmatched : Option MsgState → Bool
+is_unmatched (Some (Answered Unmatched)) = true
+is_unmatched _ = false
+
+-- the least number that a thread holds, if any thread holds one
+abbrev pub least_held : List ThreadRow → Option ℕ
+least_held rows = fold (λ least row. lesser least (number_held row)) None rows
+
+-- the verdict of the session's filters on copies; the filters are numbered on after those that were read
+abbrev pub session_verdict : Running → Snapshot → Verdict
+session_verdict m s = verdict_from (suc (length (read_for m.input s.policy s.rule))) (session_filters m.operator.filters s.policy s.rule) s
+
+-- a number is a question with these copies, or it is no question
+abbrev pub IsQuestion : Running → ℕ → Option Snapshot → Type 0
+IsQuestion m seq None = (st : State) → Refines m st → is_question m.input st seq ≡ false
+IsQuestion m seq (Some copies) = (st : State) → Refines m st → (is_question m.input st seq ≡ true) × (snapshot_in st seq ≡ Some copies)
+
+-- these are the copies of a question, if there are any
+abbrev pub AreQuestionCopies : Running → Option Snapshot → Type 0
+AreQuestionCopies m None = Unit {0}
+AreQuestionCopies m (Some copies) = (st : State) → Refines m st → (is_question m.input st copies.seq ≡ true) × (snapshot_in st copies.seq ≡ Some copies)
+
+-- a question was found, with this number or a smaller one
+abbrev pub IsAtMost : Option Snapshot → ℕ → Type 0
+IsAtMost None seq = ⊥
+IsAtMost (Some copies) seq = copies.seq ≤ seq
+
+-- whether a question was found, with this number or a smaller one
+abbrev pub is_at_most : Option Snapshot → ℕ → Bool
+is_at_most None seq = false
+is_at_most (Some copies) seq = nat_le copies.seq seq
+
+-- the lesser of two questions: the question that was found before, and this number if it is a question
+pub record IsLeastWith (m : Running) (least : Option Snapshot) (seq : ℕ) (found : Option Snapshot) : Type 0 where
+  pub question : AreQuestionCopies m least → AreQuestionCopies m found
+  pub before : (other : ℕ) → IsAtMost least other → IsAtMost found other
+  pub this : (st : State) → Refines m st → is_question m.input st seq ≡ true → IsAtMost found seq
+
+-- the least of the questions that the first so many threads hold
+pub record IsLeastAmong (m : Running) (count : ℕ) (found : Option Snapshot) : Type 0 where
+  pub question : AreQuestionCopies m found
+  pub least : (t seq : ℕ) (row : ThreadRow) → t ≤ count → item_at_number m.threads t ≡ Some row → number_held row ≡ Some seq → (st : State) → Refines m st → is_question m.input st seq ≡ true → IsAtMost found seq
+
+-- the least question, or none
+abbrev pub IsLeastFound : Running → Option Snapshot → Type 0
+IsLeastFound m None = (st : State) → Refines m st → least_question m.input st ≡ None
+IsLeastFound m (Some copies) = (st : State) → Refines m st → (least_question m.input st ≡ Some copies.seq) × (is_question m.input st copies.seq ≡ true) × (snapshot_in st copies.seq ≡ Some copies)
+
+-- whether the call of a live number can be made or denied: its message was faulted or answered, and is no question
+abbrev pub CanBeMadeOrDenied : Input → State → ℕ → Bool → Type 0
+CanBeMadeOrDenied i st seq over = is_live st seq ≡ true → over ≡ ((is_some (st.messages seq).fault || (st.messages seq).answered) && not (is_question i st seq))

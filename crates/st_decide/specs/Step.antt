@@ -1,0 +1,25 @@
+-- The entry that each step of a thread adds.
+use Rattle.std.specs.Prelude.{ℕ, Option, Some, None}
+use Rattle.st_effects.specs.Effect.{effect}
+use Rattle.st_trace.specs.declared.entry.Entry.{Entry}
+use Rattle.st_trace.specs.declared.entry.Entry.TheVariants.{Stored, Denied, Ended}
+use Rattle.st_law.specs.declared.input.Input.{Input}
+use Rattle.st_law.specs.Machine.{entered_entry, failed_entry, used_entry}
+use Rattle.st_law.specs.State.{State, request_of, system_of}
+use Rattle.st_decide.specs.declared.step.Step.{Step}
+use Rattle.st_decide.specs.declared.step.Step.TheVariants.{Wait, End, Store, Enter, Make, Fail, Deny}
+use Rattle.st_decide.specs.declared.step.ReadyCall.{ReadyCall}
+
+-- the entry of a call that is made, with its outcome over the current system
+abbrev pub use_entry : Input → State → ℕ → ReadyCall → Entry
+use_entry i st t ready = used_entry t ready.seq ready.call ready.regs ready.args ready.ids (effect (system_of i st) ready.call (request_of i st t ready.regs ready.args ready.ids))
+
+-- the entry of a step of thread t; none if it waits
+abbrev pub step_entry : Input → State → ℕ → Step → Option Entry
+step_entry i st t Wait = None
+step_entry i st t End = Some (Ended t)
+step_entry i st t (Store place word) = Some (Stored t place word)
+step_entry i st t (Enter call regs) = entered_entry i st t call regs
+step_entry i st t (Make ready) = Some (use_entry i st t ready)
+step_entry i st t (Fail call regs ids errno) = Some (failed_entry t call regs ids errno)
+step_entry i st t (Deny seq errno cause) = Some (Denied t seq errno cause)

@@ -1,0 +1,83 @@
+// Whether a choice would add an entry, without making it. Only the copies of a question take memory.
+ghost use Rattle.std.specs.Prelude.{◌≡◌, ℕ, true, is_some, IfOk, IfSome};
+ghost use Rattle.st_law.specs.Machine.{thread_entry, worker_entry};
+ghost use Rattle.st_law.specs.State.{State};
+ghost use Rattle.st_decide.specs.Enabled.{is_faulted_or_answered, is_work};
+ghost use Rattle.st_decide.specs.Machine.{Refines};
+ghost use Rattle.st_decide.specs.Questions.{CanBeMadeOrDenied};
+ghost use Rattle.st_messages.specs.Messages.{thread_of_number, HasWorker};
+ghost use Rattle.st_reached.specs.Waiting.{is_message_by};
+
+use crate::view::View;
+use st_base::{Seq, Tid, Worker};
+use st_messages::MsgState;
+use st_workers::Task;
+use std::alloc::{AllocError, Global};
+
+// Whether a message was faulted or answered.
+fn has_come(state: Option<MsgState>) -> bool
+    ensures { result ≡ is_faulted_or_answered state }
+{
+    match state {
+        Some(MsgState::Answered(_) | MsgState::Faulted(_)) => true,
+        Some(MsgState::Waiting | MsgState::Claimed(_)) | None => false,
+    }
+}
+
+// Whether a worker has something to do.
+fn is_work(task: Task) -> bool
+    ensures { result ≡ is_work task }
+{
+    match task {
+        Task::Rest => false,
+        Task::Claim | Task::Copy { .. } | Task::Look { .. } | Task::Fault { .. } | Task::Answer =>
+            true,
+    }
+}
+
+impl<'v, 'a> View<'v, 'a> {
+    /// Whether a thread can move: it has started, hasn't ended, and waits neither for its held call nor for the operator.
+    pub fn can_move(&self, alloc: Global, tid: Tid) -> Result<bool, AllocError>
+        ensures { IfOk result (λ can. (st : State) → Refines self.now st → can ≡ is_some (thread_entry self.now.input st tid)) }
+    {
+        let Some(thread) = self.thread(tid) else {
+            return Ok(false);
+        };
+        let Some(_) = self.system.pid_of(tid) else {
+            return Ok(false);
+        };
+        if thread.has_ended() {
+            return Ok(false);
+        }
+        match thread.number_held() {
+            Some(seq) => self.is_over(alloc, seq),
+            None => Ok(true),
+        }
+    }
+
+    // Whether a held call can be made or denied: its message was faulted or answered, and is no question.
+    fn is_over(&self, alloc: Global, seq: Seq) -> Result<bool, AllocError>
+        ensures { IfOk result (λ over. (st : State) → Refines self.now st → CanBeMadeOrDenied self.now.input st seq over) }
+    {
+        if !has_come(self.workers.state(seq)) {
+            return Ok(false);
+        }
+        Ok(self.question(alloc, seq)?.is_none())
+    }
+
+    /// The thread that holds the call of a number, if the number is live.
+    pub fn holder(&self, seq: Seq) -> Option<Tid>
+        ensures thread { result ≡ thread_of_number self.now.workers.calls seq }
+        ensures law { IfSome result (λ tid. (st : State) → Refines self.now st → (t : ℕ) → is_message_by st t seq ≡ true → t ≡ tid) }
+    {
+        self.workers.thread(seq)
+    }
+
+    /// Whether a worker can move: it is at some number, or a number is waiting.
+    pub fn can_serve(&self, worker: Worker) -> bool
+        requires { HasWorker self.now.workers.calls worker }
+        ensures { (st : State) → Refines self.now st → result ≡ is_some (worker_entry self.now.input st worker) }
+    {
+        is_work(self.workers.task(worker))
+    }
+}

@@ -1,0 +1,15 @@
+//! Decides what each thread does next, without changing the machine: also how a call is entered, which calls are questions, and which
+//! thread holds which call.
+#![tactic(auto)]
+
+mod asking;
+mod deciding;
+mod enabled;
+mod entering;
+mod holding;
+mod making;
+pub mod step;
+pub mod view;
+
+pub use step::{ReadyCall, Step};
+pub use view::View;

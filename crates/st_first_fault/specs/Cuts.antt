@@ -1,8 +1,0 @@
--- Texts that are cut after one of their tokens.
-use Rattle.std.specs.Prelude.{ℕ, ◌+◌, List, [], ◌∷◌}
-use Rattle.st_lex.specs.declared.token.Token.{Token}
-
--- the offset after the last of some tokens; this offset if there are none
-abbrev pub end_of : ℕ → List Token → ℕ
-end_of at [] = at
-end_of at (token ∷ tokens) = end_of (token.at + token.len) tokens

@@ -1,0 +1,166 @@
+-- The invariant of a run is preserved by one more choice.
+use native.Mathlib.Omega.{arith}
+use Rattle.std.proofs.Common.{inl, inr, length, ◌≡◌, ◌≤◌, ◌<◌, ◌∙◌, ℕ, suc, ◌+◌, Bool, true, false, ◌∷◌, ◌++◌, List, [], Some, None, get_or, set, reverse, ap, sym, subst}
+use Rattle.std.proofs.lemmas.Bool.{cases_eq}
+use Rattle.std.proofs.lemmas.List.{get_or-set_other, length-append, length-set, reverse-append, reverse-reverse}
+use Rattle.std.proofs.lemmas.Grind.{reverse_onto}
+use Rattle.st_trace.specs.declared.entry.Choice.{Choice}
+use Rattle.st_trace.specs.declared.entry.Entry.{Entry}
+use Rattle.st_law.proofs.Ties.{state-is}
+use Rattle.st_law.specs.History.{session_at}
+use Rattle.st_law.specs.Machine.{entry_of, history, history_with, run, state_after, state_at, state_of_run, thread_entry}
+use Rattle.st_law.specs.State.{State, thread_count}
+use Rattle.st_law.specs.Threads.{History}
+use Rattle.st_law.specs.declared.input.Input.{Input}
+use Rattle.st_reached.specs.Waiting.{wakes}
+use Rattle.st_reached.proofs.Reached.{Reached, reached_run}
+use Rattle.st_reached.proofs.StillKept.{none_more}
+use Rattle.st_report.specs.ScheduleText.{repeats_of, repeats_with, spelled_choices}
+use Rattle.st_report.specs.declared.schedule.Repeat.{Repeat}
+use Rattle.st_report.proofs.Repeats.{one_more_choice, spelled_again}
+use Rattle.st_decide.specs.Machine.{Refines, IsStep, Running}
+use Rattle.st_kernel.specs.Kernel.{IsRunSoFar}
+use Rattle.st_kernel.specs.Waking.{is_asleep, is_woken}
+use Rattle.st_kernel.specs.declared.waking.Woken.{Woken}
+use Rattle.st_kernel.proofs.Unwoken.{not_woken, wakes_after}
+
+module _ (i : Input) (choices : List Choice) (c : Choice) (e : Entry) (adds : entry_of i (state_of_run i choices) c ≡ Some e) where
+  abbrev before : History
+  before = history i (reverse choices)
+
+  -- the history has the new entry in front
+  one_more : history i (reverse (choices ++ c ∷ [])) ≡ e ∷ before
+  one_more = ap (history i) (reverse-append choices (c ∷ [])) ∙ ap (history_with before) adds
+
+  -- the run has the new entry at its end
+  pub run_more : run i (choices ++ c ∷ []) ≡ run i choices ++ e ∷ []
+  run_more = ap reverse one_more ∙ reverse_onto before e []
+
+  -- the new state is the state after the new entry
+  pub state_more : state_of_run i (choices ++ c ∷ []) ≡ state_after i (state_of_run i choices) e
+  state_more = ap (state_at i) one_more
+
+-- the session is that of the state after the run
+pub session_later : (i : Input) (choices : List Choice) → (state_of_run i choices).session ≡ session_at i (reverse (run i choices))
+session_later i choices =
+    let h : History = history i (reverse choices) in
+    ap (λ (st : State). st.session) (state-is i h) ∙ ap (session_at i) (sym (reverse-reverse h))
+
+-- ---- the cursor and the marks
+
+-- the cursor, and the threads that are marked as asleep, after an entry that may wake some threads
+pub record HasWoken (m : Running) (woken : Woken) (first : ℕ) (asleep : List Bool) (first_then : ℕ) (asleep_then : List Bool) : Type 0 where
+  pub from : 1 ≤ first_then
+  pub to : first_then ≤ first
+  pub before : (t : ℕ) → 1 ≤ t → t < first_then → is_woken m woken t ≡ false
+  pub count : length asleep_then ≡ length asleep
+  pub marked : (place : ℕ) → is_asleep asleep_then place ≡ true → is_asleep asleep place ≡ true
+  pub unwoken : (place : ℕ) → is_asleep asleep_then place ≡ true → is_woken m woken (suc place) ≡ false
+
+-- the entry wakes no other threads, according to the machine after it
+abbrev pub WakesNoOther : Running → Entry → Woken → Type 0
+WakesNoOther m e woken = (st : State) → Refines m st → (t : ℕ) → wakes st e t ≡ true → is_woken m woken t ≡ true
+
+module _ (m new : Running) (kept : List Repeat) (first : ℕ) (asleep : List Bool) (so_far : IsRunSoFar m kept first asleep) (c : Choice) (e : Entry)
+    (adds : entry_of m.input (state_of_run m.input (spelled_choices kept)) c ≡ Some e) (is : Refines new (state_after m.input (state_of_run m.input (spelled_choices kept)) e)) (woken : Woken) (only : WakesNoOther new e woken) where
+  abbrev st : State
+  st = state_of_run m.input (spelled_choices kept)
+
+  reached : Reached m.input st
+  reached = reached_run m.input so_far.machine.reached.startable (spelled_choices kept)
+
+  -- a thread that couldn't move and isn't woken still can't move
+  still_then : (t : ℕ) → 1 ≤ t → thread_entry m.input st t ≡ None → is_woken new woken t ≡ false → thread_entry m.input (state_after m.input st e) t ≡ None
+  still_then t some none unwoken =
+      none_more m.input st reached t some none c e adds
+      (sym (wakes_after m.input st e t) ∙ not_woken (wakes (state_after m.input st e) e t) (is_woken new woken t) (only (state_after m.input st e) is t) unwoken)
+
+-- ---- the choices that are kept
+
+-- one more choice is appended to the choices that are kept
+pub spelled_more : (kept : List Repeat) (c : Choice) → kept ≡ repeats_of (spelled_choices kept) → spelled_choices (repeats_with kept c) ≡ spelled_choices kept ++ c ∷ []
+spelled_more kept c joined =
+    let choices = spelled_choices kept in
+    ap (λ (rs : List Repeat). spelled_choices (repeats_with rs c)) joined ∙ ap spelled_choices (one_more_choice choices c) ∙ spelled_again (choices ++ c ∷ [])
+
+joined_more : (kept : List Repeat) (c : Choice) → kept ≡ repeats_of (spelled_choices kept) → repeats_with kept c ≡ repeats_of (spelled_choices (repeats_with kept c))
+joined_more kept c joined =
+    ap (λ (rs : List Repeat). repeats_with rs c) joined ∙ one_more_choice (spelled_choices kept) c ∙ ap repeats_of (sym (spelled_more kept c joined))
+
+-- ---- one choice after the other
+
+-- the machine that runs has made one more choice
+pub course_on : (m new : Running) (kept : List Repeat) (first : ℕ) (asleep : List Bool) (c : Choice) (e : Entry) (woken : Woken) (first_then : ℕ) (asleep_then : List Bool) →
+    IsRunSoFar m kept first asleep → new.input ≡ m.input → IsStep m c (Some e) new → WakesNoOther new e woken → HasWoken new woken first asleep first_then asleep_then →
+    IsRunSoFar new (repeats_with kept c) first_then asleep_then
+course_on m new kept first asleep c e woken first_then asleep_then so_far same step only has =
+    let choices = spelled_choices kept in
+    let st = state_of_run m.input choices in
+    let made = step st so_far.machine in
+    let still = still_then m new kept first asleep so_far c e made.0 made.1 woken only in
+    let from = has.from in
+    let to = has.to in
+    let top = so_far.to in
+    let all : spelled_choices (repeats_with kept c) ≡ choices ++ c ∷ [] = spelled_more kept c so_far.joined in
+    let state_is : state_of_run new.input (spelled_choices (repeats_with kept c)) ≡ state_after m.input st e = (λ k. state_of_run (same k) (all k)) ∙ state_more m.input choices c e made.0 in
+    let entry_is : (t : ℕ) → thread_entry m.input (state_after m.input st e) t ≡ None → thread_entry new.input (state_of_run new.input (spelled_choices (repeats_with kept c))) t ≡ None =
+    λ t none. (λ k. thread_entry (same k) (state_is k) t) ∙ none in
+    record {
+      machine = subst (Refines new) (sym state_is) made.1;
+      joined = joined_more kept c so_far.joined;
+      enabled = (λ k. length (run (same k) (all k))) ∙ ap length (run_more m.input choices c e made.0) ∙ length-append (run m.input choices) (e ∷ []) ∙ ap (λ (k : ℕ). k + 1) so_far.enabled ∙ sym (length-append choices (c ∷ [])) ∙ sym (ap length all);
+      still = λ t some before. entry_is t (still t some (so_far.still t some (omega (arith, before, to))) (has.before t some before));
+      from = from;
+      to = subst (λ (i : Input). first_then ≤ suc (thread_count i)) (sym same) (omega (arith, to, top));
+      marked = λ place is. entry_is (suc place) (still (suc place) (omega arith) (so_far.marked place (has.marked place is)) (has.unwoken place is));
+      count = has.count ∙ so_far.count ∙ ap thread_count (sym same);
+    }
+
+-- the machine that runs represents the same state as before
+pub course_same : (m new : Running) (kept : List Repeat) (first : ℕ) (asleep : List Bool) → IsRunSoFar m kept first asleep → new.input ≡ m.input → Refines new (state_of_run m.input (spelled_choices kept)) →
+    IsRunSoFar new kept first asleep
+course_same m new kept first asleep so_far same is =
+    let choices = spelled_choices kept in
+    record {
+      machine = subst (λ (i : Input). Refines new (state_of_run i choices)) (sym same) is;
+      joined = so_far.joined;
+      enabled = ap (λ (i : Input). length (run i choices)) same ∙ so_far.enabled;
+      still = λ t some before. ap (λ (i : Input). thread_entry i (state_of_run i choices) t) same ∙ so_far.still t some before;
+      from = so_far.from;
+      to = subst (λ (i : Input). first ≤ suc (thread_count i)) (sym same) so_far.to;
+      marked = λ place is. ap (λ (i : Input). thread_entry i (state_of_run i choices) (suc place)) same ∙ so_far.marked place is;
+      count = so_far.count ∙ ap thread_count (sym same);
+    }
+
+-- ---- the threads before a thread
+
+-- the cursor moves to a later thread
+pub course_from : (m : Running) (kept : List Repeat) (first then : ℕ) (asleep : List Bool) → IsRunSoFar m kept first asleep → 1 ≤ then → then ≤ thread_count m.input
+    → ((t : ℕ) → 1 ≤ t → t < then → thread_entry m.input (state_of_run m.input (spelled_choices kept)) t ≡ None) → IsRunSoFar m kept then asleep
+course_from m kept first then asleep so_far from to still = record {
+  machine = so_far.machine;
+  joined = so_far.joined;
+  enabled = so_far.enabled;
+  still = still;
+  from = from;
+  to = omega (arith, to);
+  marked = so_far.marked;
+  count = so_far.count;
+}
+
+-- a thread that can't move is marked as asleep
+pub course_marked : (m : Running) (kept : List Repeat) (first place : ℕ) (asleep marks : List Bool) → IsRunSoFar m kept first asleep → marks ≡ set asleep place true
+    → thread_entry m.input (state_of_run m.input (spelled_choices kept)) (suc place) ≡ None → IsRunSoFar m kept first marks
+course_marked m kept first place asleep marks so_far is none = record {
+  machine = so_far.machine;
+  joined = so_far.joined;
+  enabled = so_far.enabled;
+  still = so_far.still;
+  from = so_far.from;
+  to = so_far.to;
+  marked = λ other marked. elim (cases_eq other place) [
+    | inl same ↦ ap (λ (k : ℕ). thread_entry m.input (state_of_run m.input (spelled_choices kept)) (suc k)) same ∙ none
+    | inr ne ↦ so_far.marked other (sym (get_or-set_other asleep place other true false ne) ∙ ap (λ (l : List Bool). get_or l other false) (sym is) ∙ marked)
+  ];
+  count = ap length is ∙ length-set asleep place true ∙ so_far.count;
+}

@@ -1,0 +1,14 @@
+use Rattle.st_law.proofs.Bars as bars
+use Rattle.st_law.proofs.meaning.a_bar_is_final.Goals as goal
+
+pub returns-clause-refused : goal.returns-clause-refused
+returns-clause-refused c = bars.barred_by
+
+pub returns-clause-stands : goal.returns-clause-stands
+returns-clause-stands c = bars.stands
+
+pub returns-clause-unmade : goal.returns-clause-unmade
+returns-clause-unmade c = bars.unmade
+
+pub returns-clause-denied : goal.returns-clause-denied
+returns-clause-denied c = bars.denied

@@ -1,5 +1,0 @@
-use Rattle.st_names.proofs.Spelled.{behind_slash}
-use Rattle.st_names.proofs.parts.behind_slash.Goals as goal
-
-pub returns : goal.returns
-returns c = λ spelled. behind_slash c.args.text.now c.in_ok-rest.rest.now c.in_ok-rest.field-0-0.now c.in_ok-rest.ensures.cases.0 spelled

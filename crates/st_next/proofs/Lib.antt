@@ -1,9 +1,0 @@
-pub mod Alike
-pub mod Asked
-mod Enabling
-mod Fits
-pub mod HeldCalls
-pub mod NextSteps
-mod Questions
-pub mod Reached
-pub mod Started

@@ -1,8 +1,0 @@
-use Rattle.st_top.proofs.Outcomes.{one_outcome, some_outcome}
-use Rattle.st_top.proofs.law.words_come_to_one_thing.Goals as goal
-
-pub returns-clause-some : goal.returns-clause-some
-returns-clause-some c = some_outcome
-
-pub returns-clause-one : goal.returns-clause-one
-returns-clause-one c = one_outcome
