@@ -10,12 +10,12 @@ ghost use Rattle.st_audit.specs.Ledger.{kept_line, owner_in, row_in};
 ghost use Rattle.st_audit.specs.Recording.{IsAuditOf};
 ghost use Rattle.st_audit.specs.FromHistory.{audit_from_history};
 
+use crate::concern::concerns_call;
 use crate::entered::EnteredCall;
 use crate::how::How;
 use crate::ledger::{Decided, Ledger};
 use crate::line::{Caller, Ending, append_call_line};
 use crate::process::{owner_of, row_of};
-use crate::telling::concerns_call;
 use st_base::{Seq, Text, Tid};
 use st_calls::{ArgText, Rule};
 use st_law::Input;

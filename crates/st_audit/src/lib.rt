@@ -4,6 +4,7 @@
 
 mod answer;
 mod audit;
+mod concern;
 mod entered;
 mod how;
 mod ledger;
@@ -13,7 +14,6 @@ mod policies;
 mod process;
 mod read;
 mod session;
-mod telling;
 
 pub use audit::{AuditRecorder, longer_runs_extend_the_audit};
 pub use policies::policies_text;

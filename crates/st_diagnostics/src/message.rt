@@ -1,18 +1,16 @@
-use crate::names::file_in;
 use st_base::Text;
 use st_command::Command;
+use st_policy_diagnostics::shown::OUT_OF_MEMORY;
+use st_schedule_diagnostics::names::file_in;
 use st_top::{Status, Which};
 use std::alloc::{AllocError, Global};
-
-/// The line of a program that has no memory left.
-pub const OUT_OF_MEMORY: &str = "systrace: out of memory";
 
 /// How the commands are written.
 pub const USAGE: &str =
     "usage: systrace step [-f POLICY]... [-a|-A|-t] [-i] [-u] [-c U:G] [-w N] [--print audit|trace|schedule|policy] SCRIPT SCHEDULE
        systrace check [-c U:G] POLICY [SCRIPT]";
 
-const REFUSED: &str = "refused, and no memory was left to tell why";
+const REFUSED: &str = "refused, and no memory was left for the reason";
 
 fn about_file(
     alloc: Global,
@@ -31,7 +29,7 @@ fn about_file(
     Ok(line)
 }
 
-/// The line that tells a person of a status by itself, without its newline; of `Done` there is nothing to tell.
+/// The message for a status alone, without its newline; empty for `Done`.
 pub fn message(
     alloc: Global,
     command: Option<&Command<'_>>,

@@ -1,20 +1,9 @@
-use crate::shown::append_shown;
 use st_base::Text;
+use st_outside::Unread;
+use st_policy_diagnostics::shown::append_shown;
 use std::alloc::{AllocError, Global};
 
-/// Why a file could not be read, as far as the host says it.
-#[derive(Clone, Copy)]
-pub enum Unread {
-    Directory,
-    /// The host doesn't let it be read.
-    Denied,
-    /// Its name is no UTF-8 text, as each name of the host's files has to be.
-    NoText,
-    /// For another reason.
-    Other,
-}
-
-/// The line that tells a person of a file that could not be read, without its newline.
+/// The message about a file that could not be read, without its newline.
 pub fn unread_message(alloc: Global, name: &[u8], why: Unread) -> Result<Text, AllocError> {
     let mut line = Text::of(alloc, b"systrace: ")?;
     match why {

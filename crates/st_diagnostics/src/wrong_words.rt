@@ -3,10 +3,10 @@
 
 use crate::message::USAGE;
 use crate::options::{CommandName, MOST_OPERANDS, is_mode, value_of};
-use crate::shown::append_shown;
 use st_base::{Sequence, Text};
 use st_command::read_words;
 use st_command::reading::MOST_POLICIES;
+use st_policy_diagnostics::shown::append_shown;
 use std::alloc::{AllocError, Global};
 
 // The words after a command's name, as far as they were read.

@@ -15,5 +15,5 @@ pub use history::History;
 pub use memory_files::MemoryFiles;
 pub use memory_sink::MemorySink;
 pub use sink::{Failed, Sink, write_all};
-pub use std_files::StdFiles;
+pub use std_files::{StdFiles, Unread};
 pub use std_sink::StdSink;

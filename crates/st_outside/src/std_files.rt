@@ -18,7 +18,32 @@ use std::{fs, rt, str};
 pub struct StdFiles<'a, R: rt::Files> {
     rt: &'a R,
     faults: u64,
+    // Of the last fetch that failed. No contract reads it: it is for messages alone.
+    reason: Unread,
     asked: History<Text>,
+}
+
+/// Why the host gave no text of a file.
+#[derive(Clone, Copy, Debug, PartialEq, Eq)]
+pub enum Unread {
+    Directory,
+    /// The host doesn't let it be read.
+    Denied,
+    /// Its name isn't UTF-8, as each name of the host's files has to be.
+    NoText,
+    /// Any other reason.
+    Other,
+}
+
+impl Unread {
+    // The reason of an error.
+    fn of(error: &io::Error) -> Self {
+        match error.kind() {
+            ErrorKind::IsADirectory => Unread::Directory,
+            ErrorKind::PermissionDenied => Unread::Denied,
+            _ => Unread::Other,
+        }
+    }
 }
 
 impl<'a, R: rt::Files> Model for StdFiles<'a, R> {
@@ -37,6 +62,7 @@ impl<'a, R: rt::Files> StdFiles<'a, R> {
         StdFiles {
             rt,
             faults: 0,
+            reason: Unread::Other,
             asked: History::new(),
         }
     }
@@ -46,6 +72,11 @@ impl<'a, R: rt::Files> StdFiles<'a, R> {
         ensures { result ≡ self.now.faults }
     {
         self.faults
+    }
+
+    /// Why the last fetch that failed did so.
+    pub fn reason(&self) -> Unread {
+        self.reason
     }
 }
 
@@ -71,7 +102,7 @@ impl<'a, R: rt::Files> Files for StdFiles<'a, R> {
         ensures no_text { (IsUtf8 name.now → ⊥) → result ≡ Err FetchFault.Failed }
     {
         self.asked = self.asked.and(name);
-        let result = read_named(self.rt, alloc, name);
+        let result = read_named(self.rt, alloc, name, &mut self.reason);
         if matches!(&result, Err(FetchFault::Failed)) {
             self.faults = one_more(self.faults);
         }
@@ -90,20 +121,31 @@ fn fault_of_open(error: &io::Error) -> FetchFault
     }
 }
 
-// Reads the file with this name.
-fn read_named<R: rt::Files>(rt: &R, alloc: Global, name: &Text) -> Result<Text, FetchFault>
+// Reads the file with this name. If the host fails, its reason is noted.
+fn read_named<R: rt::Files>(
+    rt: &R,
+    alloc: Global,
+    name: &Text,
+    reason: &mut Unread,
+) -> Result<Text, FetchFault>
     ensures within { IfOk result (λ text. length text ≤ FILE_LIMIT) }
     ensures no_text { (IsUtf8 name.now → ⊥) → result ≡ Err FetchFault.Failed }
 {
-    let path = str::from_utf8(name.bytes()).map_err(|_| FetchFault::Failed)?;
+    let Ok(path) = str::from_utf8(name.bytes()) else {
+        *reason = Unread::NoText;
+        return Err(FetchFault::Failed);
+    };
     match fs::open(rt, path) {
-        Ok(mut file) => read_text(&mut file, alloc),
-        Err(error) => Err(fault_of_open(&error)),
+        Ok(mut file) => read_text(&mut file, alloc, reason),
+        Err(error) => {
+            *reason = Unread::of(&error);
+            Err(fault_of_open(&error))
+        }
     }
 }
 
-// Reads all remaining bytes, if they are within the limit.
-fn read_text<F: Read>(file: &mut F, alloc: Global) -> Result<Text, FetchFault>
+// Reads all remaining bytes, if they are within the limit. If the host fails, its reason is noted.
+fn read_text<F: Read>(file: &mut F, alloc: Global, reason: &mut Unread) -> Result<Text, FetchFault>
     ensures content { IfOk result (λ text. IfSome (F.remaining file.old) (λ bytes. text ≡ bytes)) }
     ensures within { IfOk result (λ text. length text ≤ FILE_LIMIT) }
     ensures present { result ≢ Err FetchFault.Missing }
@@ -114,9 +156,13 @@ fn read_text<F: Read>(file: &mut F, alloc: Global) -> Result<Text, FetchFault>
     let mut buffer = [0; 4096];
     while text.bytes().len() < most {
         let room = buffer.len().min(most - text.bytes().len());
-        let count = file
-            .read(&mut buffer[..room])
-            .map_err(|_| FetchFault::Failed)?;
+        let count = match file.read(&mut buffer[..room]) {
+            Ok(count) => count,
+            Err(error) => {
+                *reason = Unread::of(&error);
+                return Err(FetchFault::Failed);
+            }
+        };
         if count == 0 {
             return Ok(text);
         }

@@ -45,6 +45,11 @@ impl<F: Drop> KeptFiles<F> {
         }
     }
 
+    /// The files that it fetches from.
+    pub fn files(&self) -> &F {
+        &self.files
+    }
+
     /// What was kept of the files that were fetched.
     pub fn into_kept(self) -> Kept {
         self.kept
@@ -59,7 +64,7 @@ fn keep(alloc: Global, kept: &mut MemoryFiles, name: &Text, text: &Text) -> Resu
     )
 }
 
-// Keeps what a fetch gave. Without memory for it nothing is kept, and then only why a file is refused can't be told.
+// Keeps what a fetch gave. If memory runs out, nothing is kept; then only the reason of a refusal can't be reported.
 fn note(alloc: Global, kept: &mut Kept, name: &Text, fetched: &Result<Text, FetchFault>) {
     match fetched {
         Ok(text) => {

@@ -7,13 +7,11 @@ ghost use Rattle.std.specs.Process.{exit_status};
 ghost use Rattle.st_top.specs.Number.{number_of_status};
 
 mod kept;
-mod unread;
 
 use crate::kept::{Kept, KeptFiles};
-use crate::unread::reason_of;
 use st_base::Text;
 use st_diagnostics::{OUT_OF_MEMORY, answer_of, line_of, no_text_message, unread_message};
-use st_outside::{StdFiles, StdSink};
+use st_outside::{StdFiles, StdSink, Unread};
 use st_top::{Status, systrace_plain};
 use std::alloc::{AllocError, Global};
 use std::process::ExitCode;
@@ -32,60 +30,74 @@ fn words_of<R: Env + AllocGlobal>(rt: &R) -> io::Result<Vec<Text>> {
     Ok(words)
 }
 
-// How words end, and what was kept of the files that were fetched for them.
-fn serve<R: Files + Print + AllocGlobal>(rt: &R, words: &[Text]) -> (Status, Kept) {
-    let alloc = rt.alloc();
-    match answer_of(words) {
-        Some(answer) => match rt.print(answer) {
-            Ok(()) => (Status::Done, Kept::new(alloc)),
-            Err(_) => (Status::WriteFault, Kept::new(alloc)),
-        },
-        None => {
-            let mut files = KeptFiles::new(alloc, StdFiles::new(rt));
-            let mut out = StdSink::new(rt);
-            let status = systrace_plain(alloc, words, &mut files, &mut out);
-            (status, files.into_kept())
-        }
-    }
-}
-
-// What tells a person of a status.
-fn told_of<R: Files + AllocGlobal>(
-    rt: &R,
+// The message about a status, with what was kept of the files. A file that could not be read has its reason.
+fn message_of(
+    alloc: Global,
     status: Status,
     words: &[Text],
     kept: &mut Kept,
+    reason: Unread,
 ) -> Result<Text, AllocError> {
-    let alloc = rt.alloc();
     if matches!(status, Status::ReadFault)
         && let Some(name) = &kept.failed
     {
-        return unread_message(alloc, name.bytes(), reason_of(rt, name));
+        return unread_message(alloc, name.bytes(), reason);
     }
     line_of(alloc, &mut kept.files, words, status)
 }
 
-// How a call with these words ends, and what tells a person of it.
-fn call<R: Files + Print + AllocGlobal>(
+// Serves words that the top call is for. Gives the status, and the message about it.
+fn serve<R: Files + Print + AllocGlobal>(
     rt: &R,
     words: &[Text],
 ) -> (Status, Result<Text, AllocError>) {
-    let (status, mut kept) = serve(rt, words);
-    let told = told_of(rt, status, words, &mut kept);
-    (status, told)
+    let alloc = rt.alloc();
+    let mut files = KeptFiles::new(alloc, StdFiles::new(rt));
+    let mut out = StdSink::new(rt);
+    let status = systrace_plain(alloc, words, &mut files, &mut out);
+    let reason = files.files().reason();
+    let mut kept = files.into_kept();
+    let message = message_of(alloc, status, words, &mut kept, reason);
+    (status, message)
 }
 
-// The same where there are no words, for this reason. A word that is no text is no word of a command.
-fn call_without_words(alloc: Global, error: &io::Error) -> (Status, Result<Text, AllocError>) {
+// Prints an answer. Gives the status, and the message about it.
+fn print<R: Print + AllocGlobal>(
+    rt: &R,
+    words: &[Text],
+    answer: &str,
+) -> (Status, Result<Text, AllocError>) {
+    let alloc = rt.alloc();
+    let status = match rt.print(answer) {
+        Ok(()) => Status::Done,
+        Err(_) => Status::WriteFault,
+    };
+    let message = message_of(alloc, status, words, &mut Kept::new(alloc), Unread::Other);
+    (status, message)
+}
+
+// Runs the program on these words. Gives the status, and the message about it.
+fn run<R: Files + Print + AllocGlobal>(
+    rt: &R,
+    words: &[Text],
+) -> (Status, Result<Text, AllocError>) {
+    match answer_of(words) {
+        Some(answer) => print(rt, words, answer),
+        None => serve(rt, words),
+    }
+}
+
+// The status if the words can't be read, and the message about it. A word that isn't valid text is no word of a command.
+fn without_words(alloc: Global, error: &io::Error) -> (Status, Result<Text, AllocError>) {
     match error.kind() {
         io::ErrorKind::InvalidData => (Status::Usage, no_text_message(alloc)),
         _ => (Status::NoMemory, Err(AllocError)),
     }
 }
 
-// Tells a person. A failed write is ignored, since there is nobody else to tell.
-fn tell(err: &impl Print, told: Result<Text, AllocError>) {
-    let _ = match told {
+// Writes a message to standard error. A failed write is ignored, since there is no one else to report it to.
+fn report(err: &impl Print, message: Result<Text, AllocError>) {
+    let _ = match message {
         Ok(mut lines) => match lines.push(b'\n') {
             Ok(()) => err.write_all(lines.bytes()),
             Err(_) => err.println(OUT_OF_MEMORY),
@@ -94,21 +106,21 @@ fn tell(err: &impl Print, told: Result<Text, AllocError>) {
     };
 }
 
-// How the program ends with this status.
-fn end(err: &impl Print, status: Status, told: Result<Text, AllocError>) -> ExitCode
+// Reports a status other than the first, and gives the exit status of the program.
+fn end(err: &impl Print, status: Status, message: Result<Text, AllocError>) -> ExitCode
     ensures { exit_status result ≡ number_of_status status }
 {
     if status != Status::Done {
-        tell(err, told);
+        report(err, message);
     }
     ExitCode::from(status.number())
 }
 
 fn main(rt: HostRuntime) -> ExitCode {
     let err = rt.stderr();
-    let (status, told) = match words_of(&rt) {
-        Ok(words) => call(&rt, words.as_slice()),
-        Err(error) => call_without_words(rt.alloc(), &error),
+    let (status, message) = match words_of(&rt) {
+        Ok(words) => run(&rt, words.as_slice()),
+        Err(error) => without_words(rt.alloc(), &error),
     };
-    end(&err, status, told)
+    end(&err, status, message)
 }

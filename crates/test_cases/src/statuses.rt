@@ -1,5 +1,5 @@
-use st_diagnostics::Unread;
 use st_grammar::{Place, PolicyFault, PolicyRefusal};
+use st_outside::Unread;
 use st_script_faults::ScriptFault;
 use st_top::{Status, Which};
 

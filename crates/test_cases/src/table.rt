@@ -158,7 +158,7 @@ impl Table {
         let words = words_of(self.alloc, line)?;
         match mark {
             b'a' => self.answer(words.as_slice()),
-            b':' => self.tell(words.as_slice()),
+            b':' => self.report(words.as_slice()),
             b'u' => self.tell_unread(words.as_slice()),
             b'$' | b'&' | b'?' | b'!' | b'^' => self.call(mark, words.as_slice()),
             _ => self.write_line(b"no such line"),
@@ -173,7 +173,7 @@ impl Table {
     }
 
     // Writes the message for words that end with the status of the number, if no file can be read.
-    fn tell(&mut self, words: &[Text]) -> Result<(), AllocError> {
+    fn report(&mut self, words: &[Text]) -> Result<(), AllocError> {
         let status = status_of(self.number);
         self.write_number(status.number())?;
         let known = tell_status(self.alloc, words, status)?;

@@ -1,8 +1,8 @@
 //! The names that the rows of a script give.
 
-use crate::details::{MOST_NAMES, known_front};
-use crate::shown::append_shown;
 use st_base::Text;
+use st_policy_diagnostics::details::{MOST_NAMES, known_front};
+use st_policy_diagnostics::shown::append_shown;
 use st_statements::{ScriptLine, Statement};
 use std::alloc::AllocError;
 

@@ -1,4 +1,4 @@
-//! What a command was read from: its files as they were kept. Where one wasn't kept, nothing is told of it.
+//! What a command was read from: its files as they were kept. If one wasn't kept, nothing is reported of it.
 
 ghost use Rattle.std.specs.Prelude.{◌≤◌, length, IfOk, IfSome};
 ghost use Rattle.st_outside.specs.declared.files.TheConstants.{FILE_LIMIT};

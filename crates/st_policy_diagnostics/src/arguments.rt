@@ -38,7 +38,7 @@ fn append_arguments(line: &mut Text, arguments: &[ArgSpec]) -> Result<(), AllocE
     Ok(())
 }
 
-// What may stand where a label does; behind an index it is known to be a label.
+// What may be in the place of a label; after an index it is known to be a label.
 fn beside_label(refusal: &Refusal<'_>) -> &'static str {
     if refusal.place == Place::Index {
         return "";

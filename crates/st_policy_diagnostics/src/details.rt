@@ -9,7 +9,7 @@ use st_grammar::{NamedId, Place};
 use st_lex::{Token, TokenKind, unquote};
 use std::alloc::{AllocError, Global};
 
-/// The most names that a message tells.
+/// The most names that a message lists.
 pub const MOST_NAMES: usize = 4;
 
 /// The innermost `(` of some tokens that no `)` among them closes.

@@ -1,20 +1,21 @@
 ghost use Rattle.std.specs.Prelude.{◌≤◌, length};
 ghost use Rattle.st_outside.specs.declared.files.TheConstants.{FILE_LIMIT};
 
-use crate::caret::append_line_with_caret;
 use crate::excess::too_much;
-use crate::message::OUT_OF_MEMORY;
 use crate::misfit::{OUTSIDE, unexpected};
 use crate::naming::{duplicate_name, unknown_name};
-use crate::position::{position_in, rest_of_line};
-use crate::refusal::{Found, is_byte_order_mark};
 use crate::refused_row::{Misfit, RefusedRow};
 use crate::reply::reply_message;
-use crate::row::row_numbered;
-use crate::shown::{broken, found_at, place_of, row_message, token_for};
 use st_base::Text;
 use st_law::Options;
 use st_lex::{LexFault, tokens};
+use st_policy_diagnostics::caret::append_line_with_caret;
+use st_policy_diagnostics::position::{position_in, rest_of_line};
+use st_policy_diagnostics::refusal::{Found, is_byte_order_mark};
+use st_policy_diagnostics::row::row_numbered;
+use st_policy_diagnostics::shown::{
+    OUT_OF_MEMORY, broken, found_at, place_of, row_message, token_for,
+};
 use st_script_faults::ScriptFault;
 use st_script_faults::environment::environment_of;
 use st_statements::lines::looked_at;
@@ -115,8 +116,8 @@ fn message_at_row(
     }
 }
 
-/// What tells a person why a script is refused that was read with these options: a line, the script's line at fault, and one with a `^`
-/// under the fault, without the newline after them.
+/// The message why a script is refused that was read with these options: a line, the script's line at fault, and one with a `^` under the
+/// fault, without the last newline.
 pub fn script_message(
     alloc: Global,
     name: &[u8],

@@ -1,9 +1,9 @@
-use crate::caret::append_line_with_caret;
-use crate::position::position_in;
-use crate::refusal::Found;
-use crate::shown::found_at;
 use st_base::Text;
 use st_lex::{Token, TokenKind};
+use st_policy_diagnostics::caret::append_line_with_caret;
+use st_policy_diagnostics::position::position_in;
+use st_policy_diagnostics::refusal::Found;
+use st_policy_diagnostics::shown::found_at;
 use st_statements::lines::saturated;
 use st_statements::{ScriptLine, Statement};
 use std::alloc::{AllocError, Global};

@@ -1,17 +1,17 @@
 ghost use Rattle.st_command.specs.Reading.{IsWithinLimits};
 
 use crate::message::message;
-use crate::names::file_in;
-use crate::policy_fault::policy_message;
-use crate::schedule_fault::schedule_message;
-use crate::script_fault::script_message;
-use crate::sources::{env_of, text_of};
 use crate::wrong_words::usage_message;
 use st_base::Text;
 use st_command::{Command, read_words};
 use st_grammar::PolicyRefusal;
 use st_law::Options;
 use st_outside::Files;
+use st_policy_diagnostics::policy_fault::policy_message;
+use st_schedule_diagnostics::names::file_in;
+use st_schedule_diagnostics::schedule_fault::schedule_message;
+use st_schedule_diagnostics::sources::{env_of, text_of};
+use st_script_diagnostics::script_fault::script_message;
 use st_script_faults::ScriptFault;
 use st_top::{Status, Which};
 use std::alloc::{AllocError, Global};
@@ -59,8 +59,8 @@ fn script_line<F: Files>(
     Ok(None)
 }
 
-// What a refused file tells of a status.
-fn told_of_file<F: Files>(
+// The message about a refused file, if the status is about one.
+fn refused_file_message<F: Files>(
     alloc: Global,
     files: &mut F,
     command: &Command<'_>,
@@ -76,9 +76,9 @@ fn told_of_file<F: Files>(
     }
 }
 
-/// The line that tells a person how a call with these words ended, over the files that it read, without its newline. Where a file is
-/// refused, the line says what stands there, and where it tells of a byte, two more lines show it. Where words are no command, the line says
-/// why, and two more how a command is written.
+/// The message about how a call with these words ended, over the files that it read, without its newline. If a file is refused, the first
+/// line says what was found there; if it names a byte, two more lines show it. If the words are no command, the first line says why, and
+/// two more how a command is written.
 pub fn line_of<F: Files>(
     alloc: Global,
     files: &mut F,
@@ -90,7 +90,7 @@ pub fn line_of<F: Files>(
     }
     let command = read_words(alloc, words)?;
     if let Some(command) = &command
-        && let Some(line) = told_of_file(alloc, files, command, status)?
+        && let Some(line) = refused_file_message(alloc, files, command, status)?
     {
         return Ok(line);
     }

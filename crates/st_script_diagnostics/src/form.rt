@@ -1,4 +1,4 @@
-use crate::row::Row;
+use st_policy_diagnostics::row::Row;
 
 /// What is written at one place of a row, after the row's first word.
 #[derive(Clone, Copy, Debug, PartialEq, Eq)]

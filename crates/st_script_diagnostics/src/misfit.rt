@@ -3,11 +3,11 @@
 use crate::fits::fitting;
 use crate::form::form_of;
 use crate::refused_row::{END_OF_FILE, Misfit, RefusedRow};
-use crate::row::Row;
-use crate::shown::append_shown;
 use crate::slot::append_expected_slot;
 use st_base::Text;
 use st_lex::Token;
+use st_policy_diagnostics::row::Row;
+use st_policy_diagnostics::shown::append_shown;
 use st_statements::{ScriptLine, Statement};
 use std::alloc::{AllocError, Global};
 

@@ -13,7 +13,7 @@ use st_grammar::{Env, Place, PolicyFault, PolicyRefusal};
 use st_lex::tokens;
 use std::alloc::{AllocError, Global};
 
-// Appends what was expected behind an operand.
+// Appends what was expected after an operand.
 fn append_expected_joint(line: &mut Text, refusal: &Refusal<'_>) -> Result<(), AllocError> {
     match open_bracket(refusal.row()) {
         Some(open) => {
@@ -67,8 +67,8 @@ pub fn refusal_message(
     Ok(line)
 }
 
-/// What tells a person why a policy file is refused: a line, the file's line at fault, and one with a `^` under the fault, without the
-/// newline behind them.
+/// The message why a policy file is refused: a line, the file's line at fault, and one with a `^` under the fault, without the last
+/// newline.
 pub fn policy_message(
     alloc: Global,
     name: &[u8],

@@ -2,8 +2,8 @@
 
 use crate::given::{Kind, append_processes, append_threads, line_giving};
 use crate::refused_row::{Misfit, RefusedRow};
-use crate::shown::append_shown;
 use st_base::Text;
+use st_policy_diagnostics::shown::append_shown;
 use st_script_faults::names::directory_of;
 use st_statements::{ScriptLine, Statement};
 use std::alloc::{AllocError, Global};

@@ -4,12 +4,12 @@ ghost use Rattle.st_outside.specs.declared.files.TheConstants.{FILE_LIMIT};
 
 use crate::names::file_in;
 use crate::replay::reason_at;
-use crate::row::row_numbered;
-use crate::shown::row_found;
 use crate::sources::text_of;
 use st_base::Text;
 use st_command::Command;
 use st_outside::Files;
+use st_policy_diagnostics::row::row_numbered;
+use st_policy_diagnostics::shown::row_found;
 use st_reading::{Refusal, Which};
 use st_schedule::read_schedule;
 use std::alloc::{AllocError, Global};
@@ -61,8 +61,7 @@ fn line_with(
     Ok(line)
 }
 
-/// The line that tells a person why the schedule of a command is refused at a line, without its newline; nothing where a file of the command
-/// wasn't kept.
+/// The message why the schedule of a command is refused at a line, without its newline; none if a file of the command wasn't kept.
 pub fn schedule_message<F: Files>(
     alloc: Global,
     files: &mut F,

@@ -9,7 +9,7 @@ const PART: usize = 70;
 
 const CUT: &[u8] = b"...";
 
-// What is shown of a line: so many bytes behind those that are left out.
+// What is shown of a line: so many bytes after those that are left out.
 #[derive(Clone, Copy)]
 struct Window {
     from: usize,

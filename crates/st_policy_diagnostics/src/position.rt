@@ -5,7 +5,7 @@ pub struct Position {
     pub column: usize,
 }
 
-/// What stands before a byte in its line; of a byte behind the text, before the text's end.
+/// The part of its line before a byte; for an offset past the text, before the text's end.
 pub fn before_in_line(text: &[u8], at: usize) -> &[u8] {
     let before = &text[..at.min(text.len())];
     let count = before
@@ -26,7 +26,7 @@ pub fn rest_of_line(text: &[u8], at: usize) -> &[u8] {
     &rest[..end.min(rest.len())]
 }
 
-/// The line in which a byte stands, from its first byte; of a byte behind the text, the last line.
+/// The line that contains a byte, from its first byte; for an offset past the text, the last line.
 pub fn line_around(text: &[u8], at: usize) -> &[u8] {
     let start = at
         .min(text.len())
@@ -40,7 +40,7 @@ pub fn line_around(text: &[u8], at: usize) -> &[u8] {
     }
 }
 
-/// The position of a byte; of a byte behind the text, that of the text's end.
+/// The position of a byte; for an offset past the text, that of the text's end.
 pub fn position_in(text: &[u8], at: usize) -> Position {
     let before = &text[..at.min(text.len())];
     let line = before.iter().filter(|byte| **byte == b'\n').count();
@@ -50,7 +50,7 @@ pub fn position_in(text: &[u8], at: usize) -> Position {
     }
 }
 
-/// The line of this number, from 1; nothing behind the last.
+/// The line of this number, from 1; empty after the last.
 pub fn line_numbered(text: &[u8], number: u32) -> &[u8] {
     let mut rest = text;
     for _ in 1..number {

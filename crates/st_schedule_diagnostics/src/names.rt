@@ -1,6 +1,6 @@
 use st_base::Text;
 use st_command::Command;
-use st_top::Which;
+use st_reading::Which;
 
 // The policy file of this number, from 1.
 fn policy_in<'a>(command: &'a Command<'_>, number: u32) -> Option<&'a Text> {

@@ -1,14 +1,14 @@
 //! What is wrong with a reply: with its binary, or with its filter, which is in the language of policies.
 
 use crate::excess::long_binary;
-use crate::policy_fault::refusal_message;
-use crate::refusal::Refusal;
 use crate::refused_row::{Misfit, RefusedRow};
-use crate::shown::append_shown;
 use crate::slot::append_expected_name;
 use st_base::Text;
 use st_grammar::{Env, Place, PolicyFault, PolicyRefusal, Symbol};
 use st_lex::{Token, unquote};
+use st_policy_diagnostics::policy_fault::refusal_message;
+use st_policy_diagnostics::refusal::Refusal;
+use st_policy_diagnostics::shown::append_shown;
 use st_policy_states::Reader;
 use st_script_faults::ScriptFault;
 use st_statements::parts::{is_long, is_normal};

@@ -1,5 +1,5 @@
-use Rattle.st_diagnostics.proofs.Runnable.{read_can_run}
-use Rattle.st_diagnostics.proofs.replay.reason_at.Goals as goal
+use Rattle.st_schedule_diagnostics.proofs.Runnable.{read_can_run}
+use Rattle.st_schedule_diagnostics.proofs.replay.reason_at.Goals as goal
 
 pub reason_in-requires-clause-startable : goal.reason_in-requires-clause-startable
 reason_in-requires-clause-startable g c =

@@ -3,10 +3,13 @@ use st_base::Text;
 use st_lex::{LexFault, hex_digit};
 use std::alloc::{AllocError, Global};
 
+/// The line of a program that has no memory left.
+pub const OUT_OF_MEMORY: &str = "systrace: out of memory";
+
 // How much of a file a message shows, in bytes.
 const SHOWN: usize = 60;
 
-/// Appends bytes between quotes, each that doesn't print by its number; behind the quotes `...` where there are more.
+/// Appends bytes between quotes, each that doesn't print by its number; after the quotes `...` if there are more.
 pub fn append_shown(line: &mut Text, bytes: &[u8]) -> Result<(), AllocError> {
     line.push(b'\'')?;
     for &byte in &bytes[..bytes.len().min(SHOWN)] {
