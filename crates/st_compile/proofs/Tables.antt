@@ -6,7 +6,7 @@ use Rattle.std.proofs.lemmas.Option.{same_Some}
 use Rattle.std.proofs.lemmas.Slice.Eq.{bytes_eq-Decides}
 use Rattle.std.specs.Map.{lookup}
 use Rattle.std.specs.Option.{option_or}
-use Rattle.std.specs.Prelude.{is_some, slice_get}
+use Rattle.std.specs.Prelude.{is_some, slice_get, unwrap_or}
 use Rattle.std.specs.Str.{bytes_eq}
 use Rattle.indexmap.specs.IndexMap.{insert_entry}
 use Rattle.st_calls.specs.Call.{every_rule, index_of_rule}
@@ -19,6 +19,7 @@ use Rattle.st_filter.specs.Formula.{FilterValue}
 use Rattle.st_filter.specs.Policies.{filters_of, policy_of, read_filters}
 use Rattle.st_filter.specs.declared.set.BinaryPolicy.{BinaryPolicy}
 use Rattle.st_filter.proofs.Entries.{is_key, same_key}
+use Rattle.st_compile.specs.Answers.{AreAnswersUnder, answer_at}
 use Rattle.st_compile.specs.Table.{AnswersEntry, AreTables, BinaryAnswers, Gains, IsTableOf, binary_answers, answers_of, first_answers, answers_of_entry, represented_table}
 
 -- ---- lookups
@@ -167,3 +168,19 @@ pub table_next : (policies : List BinaryPolicy) (i : ℕ) (binary : List ℕ) (f
     → IsTableOf (take i policies) old → Gains old binary (first_answers filters) new → IsTableOf (take (suc i) policies) new
 table_next policies i binary filters old new is are table gained other =
     gained other ∙ ap (λ o. option_or o (cond (bytes_eq binary other) (Some (first_answers filters)) None)) (table other) ∙ sym (next_of policies i binary filters is are other)
+
+-- ---- under the filters that were read
+
+module _ (policies : List BinaryPolicy) (binary : List ℕ) (rule : Rule) where
+  answer_by : (o : Option (List (Option FastAnswer))) → answers_of policies binary ≡ o → answer_at (unwrap_or o []) rule ≡ first_answer (read_filters policies binary rule)
+  answer_by (Some answers) is =
+      ap (λ (row : List (Option FastAnswer)). answer_at row rule) (some_answers policies binary answers is)
+      ∙ first_answers-at (policy_of policies binary) rule None
+  answer_by None is = no_answer rule ∙ ap (λ filters. first_answer (filters_of rule filters)) (sym (no_answers policies binary is)) where
+    no_answer : (r : Rule) → answer_at [] r ≡ first_answer (filters_of r [])
+    no_answer r = refl
+
+-- the table of policies has the answers under the filters that were read
+pub answers_read : (policies : List BinaryPolicy) (rows : List BinaryAnswers) → IsTableOf policies rows → AreAnswersUnder (read_filters policies) rows
+answers_read policies rows table binary rule =
+    ap (λ (o : Option (List (Option FastAnswer))). answer_at (unwrap_or o []) rule) (table binary) ∙ answer_by policies binary rule (answers_of policies binary) refl

@@ -1,6 +1,17 @@
-//! Compiles policies into tables of the kernel's own answers, so that no step of a run searches the policies.
+//! Compiles policies: what a held call's filters say, and the kernel's own answers, are found without searching the policies.
 #![tactic(auto)]
 
+mod asked;
+pub mod compiled;
+mod expr;
+mod filter;
+mod index;
+pub mod places;
+mod policy;
+mod rule;
 pub mod table;
 
+pub use asked::asked_text;
+pub use compiled::Compiled;
+pub use places::Places;
 pub use table::FastTable;

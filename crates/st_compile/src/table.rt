@@ -1,14 +1,15 @@
-ghost use Rattle.std.specs.Prelude.{◌≡◌, List, IfOk, OnOk};
+ghost use Rattle.std.specs.Prelude.{◌≡◌, List, None, IfOk, OnOk, OnErr, map};
 ghost use Rattle.st_calls.specs.Call.{every_rule};
-ghost use Rattle.st_filter.specs.Fast.{first_answer};
+ghost use Rattle.st_filter.specs.Fast.{fast, first_answer};
 ghost use Rattle.st_filter.specs.Policies.{read_filters};
 ghost use Rattle.st_filter.specs.declared.set.BinaryPolicy.{BinaryPolicy};
+ghost use Rattle.st_compile.specs.Answers.{answer_at, answer_in, answers_in, changed_answer, with_appended, AreAnswersUnder, ChangesAnswer, InForce};
 ghost use Rattle.st_compile.specs.Table.{first_answers, Gains, IsTableOf};
 
 use indexmap::IndexMap;
 use st_base::Text;
 use st_calls::{FastAnswer, Rule};
-use st_filter::{Policy, PolicySet, first_answer};
+use st_filter::{Filter, Policy, PolicySet, fast_answer, first_answer};
 use std::alloc::{AllocError, Global};
 use std::marker::Model;
 
@@ -31,6 +32,19 @@ impl Model for FastTable {
     ghost invariant = { λ t. AreTables (represented_table t.tables.entries) };
 }
 
+// The answers under each policy of a set.
+fn table_of(alloc: Global, policies: &PolicySet) -> Result<FastTable, AllocError>
+    ensures { IfOk result (λ table. IsTableOf policies.now table) }
+{
+    let mut table = FastTable {
+        tables: IndexMap::new(alloc),
+    };
+    for i in 0..policies.len() {
+        table.add(alloc, policies.binary(i), policies.policy(i))?;
+    }
+    Ok(table)
+}
+
 // The answers under the filters of one binary.
 fn answers_under(alloc: Global, policy: &Policy) -> Result<Vec<Option<FastAnswer>>, AllocError>
     ensures { IfOk result (λ answers. answers.items ≡ first_answers policy.now) }
@@ -41,17 +55,54 @@ fn answers_under(alloc: Global, policy: &Policy) -> Result<Vec<Option<FastAnswer
         .collect(alloc)
 }
 
+// The answer for a rule by the answers of its binary.
+fn answer_at(answers: &[Option<FastAnswer>], rule: Rule) -> Option<FastAnswer>
+    ensures { result ≡ answer_at answers.now rule }
+{
+    match answers.get(rule.index()) {
+        Some(answer) => *answer,
+        None => None,
+    }
+}
+
+// The same, where one rule has this answer.
+fn changed_answer(
+    answers: &[Option<FastAnswer>],
+    rule: Rule,
+    answer: FastAnswer,
+    other: Rule,
+) -> Option<FastAnswer>
+    ensures { result ≡ changed_answer answers.now rule answer other }
+{
+    if rule == other {
+        Some(answer)
+    } else {
+        answer_at(answers, other)
+    }
+}
+
+// The answers of a binary, where one rule has this answer.
+fn answers_with(
+    alloc: Global,
+    answers: &[Option<FastAnswer>],
+    rule: Rule,
+    answer: FastAnswer,
+) -> Result<Vec<Option<FastAnswer>>, AllocError>
+    ensures { IfOk result (λ changed. changed.items ≡ map (changed_answer answers.now rule answer) every_rule) }
+{
+    Rule::ALL
+        .iter()
+        .map(|&other| changed_answer(answers, rule, answer, other))
+        .collect(alloc)
+}
+
 impl FastTable {
     /// The answers under all policies of a set.
     pub fn build(alloc: Global, policies: &PolicySet) -> Result<Self, AllocError>
-        ensures { IfOk result (λ table. IsTableOf policies.now table) }
+        ensures table { IfOk result (λ table. IsTableOf policies.now table) }
+        ensures answers { IfOk result (AreAnswersUnder (read_filters policies.now)) }
     {
-        let mut table = FastTable {
-            tables: IndexMap::new(alloc),
-        };
-        for i in 0..policies.len() {
-            table.add(alloc, policies.binary(i), policies.policy(i))?;
-        }
+        let table = table_of(alloc, policies)?;
         Ok(table)
     }
 
@@ -75,6 +126,74 @@ impl FastTable {
         match self.tables.get(binary) {
             Some(answers) => answers[rule.index()],
             None => None,
+        }
+    }
+
+    // The answers of a binary; empty if it has none.
+    fn answers(&self, binary: &[u8]) -> &[Option<FastAnswer>]
+        ensures { result.now ≡ answers_in self.now binary.now }
+    {
+        match self.tables.get(binary) {
+            Some(answers) => answers.as_slice(),
+            None => &[],
+        }
+    }
+
+    /// The kernel's own answer for a binary and a rule, by the first filter in force.
+    pub fn answer(&self, binary: &[u8], rule: Rule) -> FastAnswer
+        ensures { (filters : InForce) → AreAnswersUnder filters self.now → result ≡ fast (filters binary.now rule) }
+    {
+        answer_at(self.answers(binary), rule).unwrap_or(FastAnswer::Ask)
+    }
+
+    // Gives a binary and a rule an answer.
+    fn set_answer(
+        &mut self,
+        alloc: Global,
+        binary: &[u8],
+        rule: Rule,
+        answer: FastAnswer,
+    ) -> Result<(), AllocError>
+        ensures ok { OnOk result (ChangesAnswer self.old binary.now rule answer self.new) }
+        ensures err { OnErr result (self.new ≡ self.old) }
+    {
+        let answers = answers_with(alloc, self.answers(binary), rule, answer)?;
+        let key = Text::of(alloc, binary)?.into_bytes();
+        self.tables.insert(key, answers)?;
+        Ok(())
+    }
+
+    // Gives a binary and a rule their first filter's answer.
+    fn set_first(
+        &mut self,
+        alloc: Global,
+        binary: &[u8],
+        rule: Rule,
+        filter: &Filter,
+    ) -> Result<(), AllocError>
+        requires { answer_in self.old binary.now rule ≡ None }
+        ensures ok { OnOk result ((filters : InForce) → AreAnswersUnder filters self.old → AreAnswersUnder (with_appended filters binary.now rule filter.now) self.new) }
+        ensures err { OnErr result (self.new ≡ self.old) }
+    {
+        self.set_answer(alloc, binary, rule, fast_answer(filter))?;
+        Ok(())
+    }
+
+    /// Takes a filter into account that was appended for a binary and a rule. Only the first filter for them makes a difference. If memory
+    /// runs out, nothing changes.
+    pub fn appended(
+        &mut self,
+        alloc: Global,
+        binary: &[u8],
+        rule: Rule,
+        filter: &Filter,
+    ) -> Result<(), AllocError>
+        ensures ok { OnOk result ((filters : InForce) → AreAnswersUnder filters self.old → AreAnswersUnder (with_appended filters binary.now rule filter.now) self.new) }
+        ensures err { OnErr result (self.new ≡ self.old) }
+    {
+        match answer_at(self.answers(binary), rule) {
+            Some(_) => Ok(()),
+            None => self.set_first(alloc, binary, rule, filter),
         }
     }
 }

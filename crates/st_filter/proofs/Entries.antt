@@ -1,9 +1,10 @@
 -- The policies that a map stores, looked up by their binaries.
-use Rattle.std.proofs.Common.{◌≡◌, ℕ, suc, zero, ◌+◌, Bool, true, false, List, [], ◌∷◌, ◌++◌, length, take, ◌≤◌, refl, ap, sym, ◌∙◌, arith, Option, Some, nat_eq, ◌&&◌, ◌||◌, Vec, cond}
+use Rattle.std.proofs.Common.{◌≡◌, ℕ, suc, zero, ◌+◌, Bool, true, false, List, [], ◌∷◌, ◌++◌, length, take, ◌≤◌, refl, ap, sym, ◌∙◌, arith, Option, Some, None, option_map, ◌<◌, nat_eq, ◌&&◌, ◌||◌, Vec, cond}
 use Rattle.std.proofs.lemmas.Bool.{both_ways, or_left, or_parts}
 use Rattle.std.proofs.lemmas.List.{map-append, length-map, take-append-le}
-use Rattle.st_filter.proofs.Counts.{filters_in_last, counted_added}
-use Rattle.std.specs.Prelude.{Result, Ok, Err, OnErr, unwrap_or, is_some, slice_get, if◌then◌else◌}
+use Rattle.st_filter.proofs.Counts.{filters_in_last, filters_in_first, counted_added}
+use Rattle.std.proofs.lemmas.Option.{same_Some, slice_get-map}
+use Rattle.std.specs.Prelude.{IfSome, Result, Ok, Err, OnErr, unwrap_or, is_some, slice_get, if◌then◌else◌}
 use Rattle.std.specs.Str.{bytes_eq}
 use Rattle.std.specs.Map.{lookup, values_of}
 use Rattle.indexmap.specs.IndexMap.{insert_entry, set_value_at}
@@ -103,3 +104,43 @@ front_before n es fs e h lt =
 pub on_err : {T E : Type 0} (r : Result T E) {P : Type 0} → P → OnErr r P
 on_err (Ok x) p = tt
 on_err (Err e) p = p
+
+-- ---- the index of a policy
+
+abbrev at_index : List PolicyEntry → ℕ → Option (List FilterValue)
+at_index es i = option_map (λ (p : BinaryPolicy). p.filters) (slice_get (represented_policies es) i)
+
+filters_at : (es : List PolicyEntry) (i : ℕ) → at_index es i ≡ slice_get (values_of es) i
+filters_at [] i = refl
+filters_at (e ∷ es) zero = refl
+filters_at (e ∷ es) (suc i) = filters_at es i
+
+some_there : (es : List PolicyEntry) (i : ℕ) → i < length es → (v : List FilterValue) × (slice_get (values_of es) i ≡ Some v)
+some_there [] i within = absurd (omega (arith, within))
+some_there (e ∷ es) zero within = (e.1, refl)
+some_there (e ∷ es) (suc i) within = some_there es i (omega (arith, within))
+
+-- what the map has at the index of a binary is the binary's policy
+pub policy_at : (es : List PolicyEntry) (binary : List ℕ) (o : Option ℕ) → IfSome o (λ i. i < length es) → IfSome o (λ i. slice_get (values_of es) i ≡ lookup (is_key binary) es)
+    → IfSome o (λ i. option_map (λ (p : BinaryPolicy). p.filters) (slice_get (represented_policies es) i) ≡ Some (policy_of (represented_policies es) binary))
+policy_at es binary None within at = tt
+policy_at es binary (Some i) within at =
+    let v = some_there es i within in
+    filters_at es i ∙ v.1 ∙ ap Some (ap (λ (o : Option (List FilterValue)). unwrap_or o []) (sym v.1 ∙ at) ∙ policy_kept es binary)
+
+none_there : (o : Option (List FilterValue)) → is_some o ≡ false → unwrap_or o [] ≡ []
+none_there None e = refl
+none_there (Some v) e = cc
+
+-- a binary that isn't in the map has no filters
+pub no_policy : (es : List PolicyEntry) (binary : List ℕ) → is_some (lookup (is_key binary) es) ≡ false → policy_of (represented_policies es) binary ≡ []
+no_policy es binary e = sym (policy_kept es binary) ∙ none_there (lookup (is_key binary) es) e
+
+few_at : (ps : List BinaryPolicy) (i : ℕ) (fs : List FilterValue) → option_map (λ (p : BinaryPolicy). p.filters) (slice_get ps i) ≡ Some fs → length fs ≤ filters_in ps
+few_at [] i fs e = cc
+few_at (p ∷ ps) zero fs e = let same : p.filters ≡ fs = same_Some p.filters fs e in let n : length p.filters ≡ length fs = ap length same in omega (arith, n, filters_in_first p ps)
+few_at (p ∷ ps) (suc i) fs e = omega (arith, few_at ps i fs e, filters_in_first p ps)
+
+-- the policy at an index has at most as many filters as all have
+pub few_there : (es : List PolicyEntry) (i : ℕ) (e : PolicyEntry) → Some e ≡ slice_get es i → length e.1 ≤ filters_in (represented_policies es)
+few_there es i e at = few_at (represented_policies es) i e.1 (ap (option_map (λ (p : BinaryPolicy). p.filters)) (slice_get-map policy_of_entry es i ∙ ap (option_map policy_of_entry) (sym at)))

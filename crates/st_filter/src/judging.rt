@@ -56,7 +56,8 @@ fn id_of(who: Who, ids: Ids) -> u32
     }
 }
 
-fn ids_match(predicate: Option<Predicate>, ids: Ids) -> bool
+/// Whether the effective ids are as a predicate requires; any are, if there is none.
+pub fn ids_match(predicate: Option<Predicate>, ids: Ids) -> bool
     ensures { result ≡ ids_match predicate ids }
 {
     match predicate {

@@ -5,10 +5,13 @@
 mod answer;
 mod compare;
 pub mod filter;
+pub mod judged;
 mod judging;
 pub mod set;
 
 pub use answer::{fast_answer, first_answer};
+pub use compare::compares;
 pub use filter::{Action, Cmp, Expr, Filter, FilterName, Grant, Op, Policy, Predicate, Who};
-pub use judging::{decide, holds, verdict_of};
+pub use judged::Judged;
+pub use judging::{decide, holds, ids_match, verdict_of};
 pub use set::{BinaryPolicy, MOST_FILTERS, PolicySet, Reply};

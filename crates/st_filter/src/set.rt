@@ -1,5 +1,5 @@
-ghost use Rattle.std.specs.Prelude.{◌≡◌, [], ◌∷◌, ◌++◌, ◌<◌, ◌≤◌, false, length, take, option_map, OnOk, OnErr, slice_get};
-ghost use Rattle.st_filter.specs.Policies.{has_policy};
+ghost use Rattle.std.specs.Prelude.{◌≡◌, [], ◌∷◌, ◌++◌, ◌<◌, ◌≤◌, false, length, take, option_map, OnOk, OnErr, None, Some, IfSome, slice_get};
+ghost use Rattle.st_filter.specs.Policies.{has_policy, policy_of};
 
 use crate::filter::{Filter, Policy};
 use indexmap::IndexMap;
@@ -96,12 +96,21 @@ impl PolicySet {
     /// The filters of the policy at this index.
     pub fn policy(&self, i: usize) -> &Policy
         requires { i < length self.now }
-        ensures { option_map (λ p. p.filters) (slice_get self.now i) ≡ Some result.now }
+        ensures is { option_map (λ p. p.filters) (slice_get self.now i) ≡ Some result.now }
+        ensures few { length result.now ≤ MOST_FILTERS }
     {
         match self.policies.get_index(i) {
             Some((_, filters)) => filters,
             None => unreachable!(),
         }
+    }
+
+    /// The index of the policy of a binary, if it has one.
+    pub fn row_of(&self, binary: &[u8]) -> Option<usize>
+        ensures none { result ≡ None → policy_of self.now binary.now ≡ [] }
+        ensures some { IfSome result (λ row. option_map (λ p. p.filters) (slice_get self.now row) ≡ Some (policy_of self.now binary.now)) }
+    {
+        self.policies.get_index_of(binary)
     }
 
     /// Whether a binary has a policy.

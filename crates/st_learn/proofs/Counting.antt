@@ -6,8 +6,10 @@ use Rattle.std.specs.Str.{bytes_eq}
 use Rattle.st_calls.specs.declared.rule.Rule.{Rule}
 use Rattle.st_filter.specs.Formula.{FilterValue}
 use Rattle.st_law.specs.Sessions.{SessionFilter, session_filters}
-use Rattle.st_learn.specs.Sessions.{is_filter_for, places_from}
-use Rattle.st_learn.proofs.Filters.{filters_at, is_of_rule, one_longer, there, with_kind}
+use Rattle.st_learn.specs.Sessions.{is_filter_for}
+use Rattle.st_compile.specs.Places.{places_from}
+use Rattle.st_compile.proofs.Indices.{one_longer, there}
+use Rattle.st_learn.proofs.Filters.{filters_at, is_of_rule, with_kind}
 
 -- ---- indices are at least the number of the first item
 

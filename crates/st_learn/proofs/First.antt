@@ -8,8 +8,8 @@ use Rattle.std.specs.List.{fold, list_any}
 use Rattle.std.specs.Prelude.{nat_lt, slice_get}
 use Rattle.st_law.specs.Sessions.{SessionFilter}
 use Rattle.st_learn.specs.Deciding.{first_at, lesser}
-use Rattle.st_learn.specs.Sessions.{places_from}
-use Rattle.st_learn.proofs.Filters.{one_longer, there}
+use Rattle.st_compile.specs.Places.{places_from}
+use Rattle.st_compile.proofs.Indices.{one_longer, there}
 
 -- equal kinds have the same first index
 pub first_same : {X : Type 0} (p q : X → Bool) (xs : List X) → ((x : X) → p x ≡ q x) → first_at p xs ≡ first_at q xs

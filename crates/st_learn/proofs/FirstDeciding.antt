@@ -16,7 +16,8 @@ use Rattle.st_filter.specs.Formula.{FilterValue}
 use Rattle.st_filter.specs.Judging.{holds, verdict_by, verdict_from}
 use Rattle.st_law.specs.Sessions.{SessionFilter, is_kept_for, session_filters}
 use Rattle.st_learn.specs.Deciding.{asks_first, count_for, decides, first_at, lesser, IsDeciding, NoneHolds}
-use Rattle.st_learn.proofs.Asking.{asks_of_call, left_of, right_of}
+use Rattle.st_compile.proofs.Asking.{left_of, right_of}
+use Rattle.st_learn.proofs.Asking.{asks_of_call}
 use Rattle.st_learn.proofs.Filters.{mapped}
 use Rattle.st_learn.proofs.First.{first_of_any, first_same}
 

@@ -10,10 +10,11 @@ use Rattle.st_calls.specs.declared.rule.Rule.{Rule}
 use Rattle.st_filter.specs.Formula.{FilterValue}
 use Rattle.st_law.specs.Sessions.{SessionFilter, is_kept_for, session_filters}
 use Rattle.st_learn.specs.Deciding.{count_for}
-use Rattle.st_learn.specs.Places.{MayGainPlace, PolicyPlaces, policy_places}
+use Rattle.st_compile.specs.Places.{MayGainPlace, PolicyPlaces, policy_places}
 use Rattle.st_learn.specs.Sessions.{firsts_after, firsts_of, is_filter_for}
-use Rattle.st_learn.proofs.Asking.{left_of, right_of}
-use Rattle.st_learn.proofs.Filters.{filters_at, inside_by, is_of_rule, mapped, more_by, one_longer, there, with_kind}
+use Rattle.st_compile.proofs.Asking.{left_of, right_of}
+use Rattle.st_compile.proofs.Indices.{inside_by, more_by, one_longer, there}
+use Rattle.st_learn.proofs.Filters.{filters_at, is_of_rule, mapped, with_kind}
 
 -- ---- one more filter
 

@@ -10,4 +10,3 @@ pub mod OperatorPlaces
 mod Permitting
 mod Printing
 pub mod Replies
-mod Rows

@@ -6,7 +6,7 @@ use Rattle.st_calls.specs.declared.rule.Rule.{Rule}
 use Rattle.st_law.specs.Sessions.{SessionFilter, is_kept_for, session_filters}
 use Rattle.st_learn.specs.Deciding.{count_for}
 use Rattle.st_learn.specs.Sessions.{numbers_after}
-use Rattle.st_learn.proofs.Filters.{one_longer}
+use Rattle.st_compile.proofs.Indices.{one_longer}
 
 -- each filter has a number
 pub numbers_length : (front back : List SessionFilter) → length (numbers_after front back) ≡ length back

@@ -20,7 +20,8 @@ use Rattle.st_lex.proofs.Pieces.{print-append}
 use Rattle.st_printing.specs.Canon.{canon, canon_filter, filter_pieces, header_pieces, policy_pieces, row_pieces, set_pieces}
 use Rattle.st_learn.specs.Learnt.{all_policies, empty_policy, filters_added, learnt_so_far, rows_text, with_policy, with_session}
 use Rattle.st_learn.proofs.Filters.{filters_at, is_any, with_kind}
-use Rattle.st_learn.specs.Sessions.{is_first_at, is_filter_for, places_from, places_of}
+use Rattle.st_learn.specs.Sessions.{is_first_at, is_filter_for, places_of}
+use Rattle.st_compile.specs.Places.{places_from}
 
 rows-append : (fs gs : List FilterValue) → rows_text (fs ++ gs) ≡ rows_text fs ++ rows_text gs
 rows-append fs gs =

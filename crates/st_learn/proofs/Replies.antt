@@ -21,7 +21,7 @@ use Rattle.st_law.specs.declared.input.Mode.TheVariants.{Enforce, Learn, AskText
 use Rattle.st_law.specs.Machine.{question_entry, reply_entry, state_after}
 use Rattle.st_law.specs.Sessions.{is_reply_for, kept_for, replied_by, session_filters}
 use Rattle.st_law.specs.State.{State, filter_count, operator_decides, is_reply_left, next_reply, snapshot_in}
-use Rattle.st_learn.specs.Places.{GainsPlace, LosesPlace, PolicyPlaces, policy_places}
+use Rattle.st_compile.specs.Places.{GainsPlace, LosesPlace, PolicyPlaces, policy_places}
 use Rattle.st_learn.specs.Operator.{Added, AreRepliesLeft, IsAdded, operator_answers, is_for_rule, is_left, is_reply_of, next_reply_left, places_among}
 use Rattle.st_learn.proofs.OperatorPlaces.{among_is, among_more, among_without, found_at, item_at, least_found, there_at}
 

@@ -6,7 +6,7 @@ use Rattle.st_calls.specs.declared.judged.Snapshot.{Snapshot}
 use Rattle.st_filter.specs.Formula.{FilterValue}
 use Rattle.st_filter.specs.Judging.{holds, verdict_by, verdict_from}
 use Rattle.st_law.specs.Sessions.{SessionFilter, is_kept_for, session_filters}
-use Rattle.st_learn.specs.Asked.{asked_text}
+use Rattle.st_compile.specs.Asked.{asked_text}
 
 -- the index of the first item of a kind
 abbrev pub first_at : {X : Type 0} → (X → Bool) → List X → Option ℕ

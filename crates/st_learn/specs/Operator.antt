@@ -11,7 +11,7 @@ use Rattle.st_law.specs.State.{State}
 use Rattle.st_law.specs.declared.input.Input.{Input}
 use Rattle.st_law.specs.declared.input.Mode.{Mode}
 use Rattle.st_law.specs.declared.input.Mode.TheVariants.{Enforce, Learn, AskText}
-use Rattle.st_learn.specs.Places.{PolicyPlaces, policy_places}
+use Rattle.st_compile.specs.Places.{PolicyPlaces, policy_places}
 
 -- the filters of the session, the script's replies, and for each policy the indices of its replies that were not given yet
 pub record Added : Type 0 where

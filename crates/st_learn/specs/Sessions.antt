@@ -6,7 +6,7 @@ use Rattle.st_calls.specs.declared.rule.Rule.{Rule}
 use Rattle.st_filter.specs.Formula.{FilterValue}
 use Rattle.st_law.specs.Sessions.{SessionFilter}
 use Rattle.st_learn.specs.Deciding.{asks_first, count_for}
-use Rattle.st_learn.specs.Places.{PolicyPlaces, policy_places}
+use Rattle.st_compile.specs.Places.{PolicyPlaces, places_from, policy_places}
 
 -- the filters of a session, in order
 pub record Session : Type 0 where
@@ -25,11 +25,6 @@ added policy rule filter = record { policy = policy; rule = rule; filter = filte
 -- whether a filter of a session is for this policy, of whatever rule
 abbrev pub is_filter_for : List ℕ → SessionFilter → Bool
 is_filter_for policy kept = bytes_eq kept.policy policy
-
--- the numbers of the items of a kind, if the items are numbered from n on
-abbrev pub places_from : {X : Type 0} → (X → Bool) → ℕ → List X → List ℕ
-places_from is n [] = []
-places_from is n (x ∷ xs) = if is x then n ∷ places_from is (suc n) xs else places_from is (suc n) xs
 
 -- the indices of a policy's filters in a session, in order
 abbrev pub places_of : List SessionFilter → List ℕ → List ℕ

@@ -4,11 +4,9 @@
 
 mod added_filter;
 mod answering;
-mod asked;
 pub mod law;
 mod learnt;
 pub mod operator;
-pub mod places;
 mod print;
 pub mod session;
 
@@ -16,6 +14,5 @@ pub use added_filter::AddedFilter;
 pub use answering::read_count;
 pub use learnt::learnt_filter;
 pub use operator::Operator;
-pub use places::Places;
 pub use print::print_learnt;
 pub use session::Session;

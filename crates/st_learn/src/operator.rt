@@ -9,14 +9,14 @@ ghost use Rattle.st_law.specs.State.{State, snapshot_in};
 ghost use Rattle.st_law.specs.declared.input.Input.{Input};
 ghost use Rattle.st_law.specs.declared.input.Mode.TheVariants.{AskText, Learn};
 ghost use Rattle.st_trace.specs.declared.entry.Entry.TheVariants.{Learned, Replied};
-ghost use Rattle.st_learn.specs.Places.{policy_row};
+ghost use Rattle.st_compile.specs.Places.{policy_row};
 ghost use Rattle.st_learn.specs.Operator.{answers, is_for_rule, next_reply_left, AreRepliesLeft, IsAdded};
 
 use crate::answering::read_count;
 use crate::learnt::learnt_filter;
-use crate::places::Places;
 use crate::session::Session;
 use st_calls::{FastAnswer, Rule, Snapshot, Verdict};
+use st_compile::Places;
 use st_filter::{Filter, PolicySet, Reply};
 use st_law::{Input, Mode};
 use st_trace::Entry;

@@ -1,14 +1,13 @@
 ghost use Rattle.std.specs.Prelude.{◌≡◌, ℕ, List, ◌≤◌, ◌<◌, ◌^◌, ◌&&◌, [], ◌∷◌, ◌++◌, length, slice_get, Some, IfOk, OnOk, OnErr};
 ghost use Rattle.st_law.specs.Sessions.{session_filters};
 ghost use Rattle.st_learn.specs.Deciding.{asks_first, decides, first_at, lesser, NumberIs};
-ghost use Rattle.st_learn.specs.Places.{KeepsPlaces, MayGainPlace};
+ghost use Rattle.st_compile.specs.Places.{KeepsPlaces, MayGainPlace};
 ghost use Rattle.st_learn.specs.Sessions.{added, firsts_of, is_first_at, places_asking, places_of, session_with};
 
 use crate::added_filter::AddedFilter;
-use crate::asked::asked_text;
-use crate::places::Places;
 use st_base::Text;
 use st_calls::{Rule, Snapshot};
+use st_compile::{Places, asked_text};
 use st_filter::{Filter, holds};
 use std::alloc::{AllocError, Global};
 use std::marker::Model;

@@ -1,6 +1,6 @@
 use Rattle.std.proofs.Common.{◌∙◌, Some, false, ap, refl, subst, sym}
 use Rattle.std.proofs.lemmas.Option.{slice_get-get_or}
-use Rattle.st_learn.specs.Places.{GainsPlace}
+use Rattle.st_compile.specs.Places.{GainsPlace}
 use Rattle.st_learn.proofs.Replies.{left_more}
 use Rattle.st_learn.proofs.operator.places_of.Goals as goal
 

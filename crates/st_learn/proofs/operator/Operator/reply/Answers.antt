@@ -3,7 +3,7 @@ use Rattle.std.proofs.lemmas.Option.{slice_get-get_or}
 use Rattle.st_filter.specs.Formula.{FilterValue}
 use Rattle.st_filter.specs.declared.set.Reply.{Reply}
 use Rattle.st_law.specs.Sessions.{kept_for}
-use Rattle.st_learn.specs.Places.{LosesPlace, PolicyPlaces, policy_places, policy_row}
+use Rattle.st_compile.specs.Places.{LosesPlace, PolicyPlaces, policy_places, policy_row}
 use Rattle.st_learn.specs.Operator.{Added}
 use Rattle.st_learn.proofs.Replies.{is_replied, place_there, place_within}
 use Rattle.st_learn.proofs.operator.Operator.reply.Goals as goal

@@ -2,11 +2,12 @@ use Rattle.std.proofs.Common.{◌≡◌, ◌∙◌, ◌++◌, ◌==◌, [], ◌�
 use Rattle.std.proofs.lemmas.Bool.{or_parts}
 use Rattle.std.specs.Str.{bytes_eq}
 use Rattle.st_law.specs.Sessions.{SessionFilter, session_filters}
-use Rattle.st_learn.specs.Asked.{asked_text}
+use Rattle.st_compile.specs.Asked.{asked_text}
 use Rattle.st_learn.specs.Deciding.{count_for}
-use Rattle.st_learn.specs.Places.{GainsPlace, MayGainPlace}
+use Rattle.st_compile.specs.Places.{GainsPlace, MayGainPlace}
 use Rattle.st_learn.specs.Sessions.{Session, firsts_of, numbers_after, places_asking, places_of}
-use Rattle.st_learn.proofs.Filters.{added_places, one_longer, some_text, still_texts}
+use Rattle.st_compile.proofs.Indices.{added_places, one_longer}
+use Rattle.st_learn.proofs.Filters.{some_text, still_texts}
 use Rattle.st_learn.proofs.Leading.{firsts_added}
 use Rattle.st_learn.proofs.Numbers.{number_added}
 use Rattle.st_learn.proofs.session.Session.add.Goals as goal

@@ -2,7 +2,7 @@ use Rattle.std.proofs.Common.{◌∙◌, ap, sym}
 use Rattle.st_filter.specs.Judging.{holds}
 use Rattle.st_law.specs.Sessions.{is_kept_for}
 use Rattle.st_learn.specs.Deciding.{asks_first, decides}
-use Rattle.st_learn.proofs.Asking.{both_of}
+use Rattle.st_compile.proofs.Asking.{both_of}
 use Rattle.st_learn.proofs.Filters.{item_inside}
 use Rattle.st_learn.proofs.First.{first_found, here_first, is_there, none_left}
 use Rattle.st_learn.proofs.session.Session.first_asking.Goals as goal
