@@ -54,23 +54,31 @@ def crate_list(crates, _):
     return [f"- *{layer}*: {quoted(crate.name for crate in each)}" for layer, each in tree.layers(crates).items()]
 
 
-def crate_tables(crates, lines):
-    """A table of each layer. Its last column is written by hand: what the part has for a crate is kept."""
-    by_hand = {cells[0].strip("`"): cells[-1] for cells in map(markdown.cells_of, lines) if len(cells) > 2}
-    head = row(("Crate", "What it does", "Its contracts are about"))
+def crate_tables(crates, _):
+    """A table of each layer."""
+    head = row(("Crate", "What it does"))
     made = []
     for layer, each in tree.layers(crates).items():
         made += ["", f"### {layer[0].upper()}{layer[1:]}", "", head, edge(head)]
-        made += [row((f"`{crate.name}`", crate.description(), by_hand.get(crate.name))) for crate in each]
+        made += [row((f"`{crate.name}`", crate.description())) for crate in each]
     return made[1:]
 
 
 def sizes(crates, _):
-    """The table of sizes."""
-    head = row(("Crate", "Code", "Definitions", "Proofs"))
-    rows = [(f"`{crate.name}`", crate.sizes()) for crate in crates.values()]
+    """The table of sizes, by layer."""
+    head = row(("Layer", "Crates", "Code", "Definitions", "Proofs"))
+    rows = [(layer, [sum(column) for column in zip(*((1, *crate.sizes()) for crate in each))]) for layer, each in tree.layers(crates).items()]
     rows.append(("all", [sum(column) for column in zip(*(counts for _, counts in rows))]))
     return [head, edge(head)] + [row((name, *(f"{count:,}" for count in counts))) for name, counts in rows]
+
+
+def gate_times(crates, _):
+    """The measured times of the gate, without the rows of crates that take less than 100 seconds."""
+    lines = measured("gate_times")(crates, _)
+    seconds = {line: sum(int(cell or 0) for cell in line.split("|")[2:5]) for line in lines[2:] if line.startswith("|`")}
+    short = [line for line in seconds if seconds[line] < 100]
+    rest = f"|{len(short)} others, each under 100|{sum(seconds[line] for line in short)}||||"
+    return [line for line in lines[:-3] if line not in short] + [rest] + lines[-3:]
 
 
 def measured(name):
@@ -93,7 +101,7 @@ def short_costs(crates, _):
 PARTS = {
     "README.md": {"crates": crate_list, "costs": short_costs},
     "bench/README.md": {name: measured(name) for name in ("run", "run_step", "run_check")},
-    "docs/ARCHITECTURE.md": {"crates": crate_tables, "sizes": sizes, "gate times": measured("gate_times")},
+    "docs/ARCHITECTURE.md": {"crates": crate_tables, "sizes": sizes, "gate times": gate_times},
 }
 
 

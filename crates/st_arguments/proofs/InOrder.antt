@@ -7,14 +7,14 @@ use Rattle.st_calls.specs.declared.argument.ArgSpec.{ArgSpec}
 use Rattle.st_calls.specs.declared.argument.ArgText.{ArgText}
 use Rattle.st_calls.specs.declared.argument.PartKind.{PartKind}
 use Rattle.st_calls.specs.declared.argument.PartKind.TheVariants as kind
-use Rattle.st_effects.specs.Progress.{ArgRequest, Progress, Stuck, Ready, progress_of_walk, text_arg, with_arg}
+use Rattle.st_effects.specs.Progress.{ArgRequest, Progress, Stuck, Ready, progress_of_walk, text_arg, with_arg, is_followed}
 use Rattle.st_law.specs.Arguments.{Surroundings, arguments_in, part_of_spelling, part_of_text, parts_from}
 use Rattle.st_model.specs.Spelling.{Spelled, Text, Fault}
 use Rattle.st_model.specs.Walk as walk
 use Rattle.st_names.specs.Name.{Components, printed_name}
 use Rattle.std.specs.Prelude.{slice_index_or}
 use Rattle.std.proofs.lemmas.List.{get_or_default}
-use Rattle.st_arguments.specs.Parts.{is_followed, part_in, IsArgument, IsFaultOf, IsSpelledBy}
+use Rattle.st_arguments.specs.Parts.{part_in, IsArgument, IsFaultOf, IsSpelledBy}
 
 -- the progress of arguments that come after these complete ones
 abbrev pub with_args : List ArgText → Progress → Progress

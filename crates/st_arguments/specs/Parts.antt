@@ -1,9 +1,8 @@
 -- A single argument, in the memory and the tree of one step.
-use Rattle.std.specs.Prelude.{◌≡◌, ℕ, Bool, slice_index_or}
+use Rattle.std.specs.Prelude.{◌≡◌, ℕ, slice_index_or}
 use Rattle.st_arguments.specs.declared.fault.ArgFault.{ArgFault}
 use Rattle.st_arguments.specs.declared.fault.ArgFault.TheVariants as fault
 use Rattle.st_base.specs.declared.errno.Errno.{Errno}
-use Rattle.st_calls.specs.Call.{follows}
 use Rattle.st_calls.specs.declared.argument.ArgSpec.{ArgSpec}
 use Rattle.st_calls.specs.declared.argument.ArgText.{ArgText}
 use Rattle.st_calls.specs.declared.argument.PartKind.{PartKind}
@@ -18,10 +17,6 @@ use Rattle.st_resolve.specs.declared.walk.WalkFault.TheVariants as walk
 -- the bytes of this memory space, and the tree
 abbrev pub surroundings : Tree → Memories → ℕ → Surroundings
 surroundings tree spaces space = record { bytes = byte_in spaces space; tree = tree }
-
--- whether a call follows a link at the end of an argument's name
-abbrev pub is_followed : ArgRequest → ArgSpec → Bool
-is_followed asked spec = follows asked.call asked.regs spec.register
 
 -- why an argument has no text if its name can't be resolved
 abbrev pub fault_of_walk : WalkFault → ArgFault

@@ -1,6 +1,7 @@
 // An argument in one step: copied from memory, and resolved in the tree, as both are.
 ghost use Rattle.std.specs.Prelude.{◌≡◌, ℕ, true, None, slice_index_or, IsErrOf, IfOk};
-ghost use Rattle.st_arguments.specs.Parts.{is_followed, surroundings, IsArgument, IsFaultOf, IsSpelledBy};
+ghost use Rattle.st_arguments.specs.Parts.{surroundings, IsArgument, IsFaultOf, IsSpelledBy};
+ghost use Rattle.st_effects.specs.Progress.{is_followed};
 ghost use Rattle.st_arguments.specs.declared.fault.ArgFault.TheVariants.{Os};
 ghost use Rattle.st_base.specs.declared.errno.Errno.{Errno};
 ghost use Rattle.st_memory.specs.Memory.{byte_in, is_space_live};

@@ -51,6 +51,14 @@ every_call =
     Rmdir ∷ Chdir ∷ Chmod ∷ Chown ∷ Truncate ∷ Fork ∷ Execve ∷ Exit ∷ Kill ∷ GetPid ∷ GetUid ∷ GetEuid ∷ SetUid ∷ SetEuid ∷
     SetGid ∷ SetEgid ∷ Socket ∷ Bind ∷ Connect ∷ []
 
+-- whether a call sets ids
+abbrev pub sets_ids : SysCall → Bool
+sets_ids SetUid = true
+sets_ids SetEuid = true
+sets_ids SetGid = true
+sets_ids SetEgid = true
+sets_ids _ = false
+
 -- the call whose name is this word
 abbrev pub call_named : List ℕ → Option SysCall
 call_named word = find (λ call. bytes_eq (name_of_call call) word) every_call

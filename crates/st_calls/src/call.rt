@@ -1,6 +1,6 @@
 ghost use Rattle.std.specs.Prelude.{◌≡◌, find};
 ghost use Rattle.std.specs.Str.{bytes_eq};
-ghost use Rattle.st_calls.specs.Call.{name_of_call, call_named, index_of_call, follows};
+ghost use Rattle.st_calls.specs.Call.{name_of_call, call_named, index_of_call, follows, sets_ids};
 
 use crate::flags::{O_CREAT, O_EXCL, has_flag};
 
@@ -171,6 +171,16 @@ impl SysCall {
             SysCall::Bind => 32,
             SysCall::Connect => 33,
         }
+    }
+
+    /// Whether the call sets ids of its process.
+    pub fn sets_ids(self) -> bool
+        ensures { result ≡ sets_ids self }
+    {
+        matches!(
+            self,
+            SysCall::SetUid | SysCall::SetEuid | SysCall::SetGid | SysCall::SetEgid
+        )
     }
 }
 

@@ -1,10 +1,10 @@
 -- The least question, and whether the operator can answer.
 use native.Mathlib.Omega.{arith}
-use Rattle.std.proofs.Common.{◌≡◌, ◌≤◌, ◌<◌, ◌+◌, ◌∙◌, ◌&&◌, zero, suc, ℕ, Bool, true, false, cond, Option, Some, None, inl, inr, refl, ap, sym, subst, true≢false}
+use Rattle.std.proofs.Common.{◌≡◌, ◌≤◌, ◌<◌, ◌+◌, ◌∙◌, ◌&&◌, zero, suc, ℕ, Bool, Bor, true, false, cond, Option, Some, None, inl, inr, refl, ap, sym, subst, true≢false}
 use Rattle.std.proofs.lemmas.Bool.{and_parts}
 use Rattle.std.proofs.lemmas.Bool.Decides.{leb_tells}
 use Rattle.std.proofs.lemmas.Option.{none-some, same_Some}
-use Rattle.std.specs.Option.{option_or}
+use Rattle.std.specs.Option.{option_copied, option_or}
 use Rattle.std.specs.Prelude.{is_some}
 use Rattle.st_base.specs.Numbered.{item_at_number}
 use Rattle.st_calls.specs.declared.judged.Snapshot.{Snapshot}
@@ -208,3 +208,8 @@ module _ (m : Running) (st : State) (is : Refines m st) where
       by Enforce e = cc
       by Learn e = refl
       by AskText e = replied (next_reply m.input st copies.policy copies.rule) e
+
+-- the operator can answer iff a question was found
+pub can_answer : (m : Running) (found : Option (Bor Snapshot)) → IsLeastFound m (option_copied found) → (st : State) → Refines m st → is_some found ≡ is_some (entry_of m.input st Operator)
+can_answer m None found st is = sym (ap (λ (o : Option Entry). is_some o) (asks_none m st is (found st is)))
+can_answer m (Some copies) found st is = let x = found st is in sym (asks_some m st is copies.now x.0 x.1 x.2)

@@ -1,8 +1,8 @@
 -- Which threads and workers can move.
-use Rattle.std.proofs.Common.{◌≡◌, ◌∙◌, ◌<◌, ◌&&◌, ◌||◌, not, ℕ, arith, Bool, true, false, Option, Some, None, refl, ap, sym, true≢false}
+use Rattle.std.proofs.Common.{◌≡◌, ◌∙◌, ◌<◌, ◌&&◌, ◌||◌, not, ℕ, arith, Bool, Bor, true, false, Option, Some, None, refl, ap, sym, true≢false}
 use Rattle.std.proofs.lemmas.Bool.{eqb-true}
 use Rattle.std.proofs.lemmas.Option.{none-some, same_Some}
-use Rattle.std.specs.Option.{option_map}
+use Rattle.std.specs.Option.{option_copied, option_map}
 use Rattle.std.specs.Prelude.{is_none, is_some, IfSome}
 use Rattle.st_base.specs.declared.errno.Errno.{Errno}
 use Rattle.st_calls.specs.declared.judged.Snapshot.{Snapshot}
@@ -116,7 +116,7 @@ come_by i st q (Some (Answered v)) come live = sym (λ k. is_some (come.1.fault 
 come_by i st q (Some (Faulted errno)) come live = sym (λ k. is_some (come.1.fault k) || come.1.answered k)
 
 -- an option that isn't some is none
-pub none_of : {X : Type 0} (o : Option X) (b : Bool) → is_some o ≡ not b → b ≡ is_none o
+pub none_of : {X : Type 0} (o : Option (Bor X)) (b : Bool) → is_some o ≡ not b → b ≡ is_none (option_copied o)
 none_of None true e = refl
 none_of None false e = cc
 none_of (Some x) true e = cc

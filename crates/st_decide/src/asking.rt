@@ -1,5 +1,5 @@
 // Finds the questions that the operator can answer.
-ghost use Rattle.std.specs.Prelude.{◌≡◌, ◌&&◌, is_some, IfOk};
+ghost use Rattle.std.specs.Prelude.{◌≡◌, ◌&&◌, is_some, option_copied};
 ghost use Rattle.st_law.specs.Machine.{entry_of};
 ghost use Rattle.st_law.specs.State.{State, is_undecided};
 ghost use Rattle.st_decide.specs.Machine.{Refines};
@@ -12,7 +12,6 @@ use crate::view::View;
 use st_base::{Seq, Shared};
 use st_calls::{Snapshot, Verdict};
 use st_messages::MsgState;
-use std::alloc::{AllocError, Global};
 
 // Whether a message was answered, and no filter that was read decides.
 fn is_unmatched(state: Option<MsgState>) -> bool
@@ -29,8 +28,8 @@ fn is_undecided(verdict: Verdict) -> bool
 }
 
 // Whether a question was found with this number or a smaller one.
-fn is_at_most(least: &Option<Shared<Snapshot>>, seq: Seq) -> bool
-    ensures { result ≡ is_at_most least.now seq }
+fn is_at_most(least: Option<&Shared<Snapshot>>, seq: Seq) -> bool
+    ensures { result ≡ is_at_most (option_copied least.entry) seq }
 {
     match least {
         Some(copies) => copies.get().seq <= seq,
@@ -59,37 +58,31 @@ impl<'v, 'a> View<'v, 'a> {
     }
 
     // The copies of a number if it is a question: it is answered, no filter decides it, and the operator would answer it.
-    pub(crate) fn question(
-        &self,
-        alloc: Global,
-        seq: Seq,
-    ) -> Result<Option<Shared<Snapshot>>, AllocError>
-        ensures { IfOk result (IsQuestion self.now seq) }
+    pub(crate) fn question(&self, seq: Seq) -> Option<&'v Shared<Snapshot>>
+        ensures { IsQuestion self.now seq (option_copied result) }
     {
         if !is_unmatched(self.workers.state(seq)) {
-            return Ok(None);
+            return None;
         }
-        let copies = self.workers.snapshot(alloc, seq)?;
+        let copies = self.workers.snapshot(seq);
         if !self.is_asked(copies.get()) {
-            return Ok(None);
+            return None;
         }
-        Ok(Some(copies))
+        Some(copies)
     }
 
     // The lesser of two questions: the question that was found before, and this number if it is a question.
-    fn lesser(
-        &self,
-        alloc: Global,
-        least: Option<Shared<Snapshot>>,
-        seq: Seq,
-    ) -> Result<Option<Shared<Snapshot>>, AllocError>
-        ensures { IfOk result (IsLeastWith self.now least seq) }
+    fn lesser(&self, least: Option<&'v Shared<Snapshot>>, seq: Seq) -> Option<&'v Shared<Snapshot>>
+        ensures { IsLeastWith self.now (option_copied least.entry) seq (option_copied result) }
     {
         let _ = &self.input;
-        if is_at_most(&least, seq) {
-            return Ok(least);
+        if is_at_most(least, seq) {
+            return least;
         }
-        Ok(self.question(alloc, seq)?.or(least))
+        match self.question(seq) {
+            Some(copies) => Some(copies),
+            None => least,
+        }
     }
 
     // The least number of a call that a thread holds.
@@ -104,25 +97,25 @@ impl<'v, 'a> View<'v, 'a> {
     }
 
     /// The copies of the least question. Usually it is the least number that is held, and then no other copies are looked at.
-    pub fn least_question(&self, alloc: Global) -> Result<Option<Shared<Snapshot>>, AllocError>
-        ensures { IfOk result (IsLeastFound self.now) }
+    pub fn least_question(&self) -> Option<&'v Shared<Snapshot>>
+        ensures { IsLeastFound self.now (option_copied result) }
     {
         let mut least = match self.least_held() {
-            Some(seq) => self.question(alloc, seq)?,
+            Some(seq) => self.question(seq),
             None => None,
         };
         for thread in self.threads {
             if let Some(seq) = thread.number_held() {
-                least = self.lesser(alloc, least, seq)?;
+                least = self.lesser(least, seq);
             }
         }
-        Ok(least)
+        least
     }
 
     /// Whether the operator can answer: there is a question.
-    pub fn can_ask(&self, alloc: Global) -> Result<bool, AllocError>
-        ensures { IfOk result (λ can. (st : State) → Refines self.now st → can ≡ is_some (entry_of self.now.input st Operator)) }
+    pub fn can_ask(&self) -> bool
+        ensures { (st : State) → Refines self.now st → result ≡ is_some (entry_of self.now.input st Operator) }
     {
-        Ok(self.least_question(alloc)?.is_some())
+        self.least_question().is_some()
     }
 }

@@ -208,7 +208,7 @@ impl<'v, 'a> View<'v, 'a> {
         ensures step { IfOk result (IsDecidedStep self.now tid seq Unmatched) }
         ensures fit { IfOk result (CanBeDone self.now.system) }
     {
-        let shared = self.workers.snapshot(alloc, seq)?;
+        let shared = self.workers.snapshot(seq);
         let copies = shared.get();
         match self.operator.verdict(&self.input.policies, copies) {
             Verdict::Permit(_, ids) => self.permitted_step(alloc, tid, seq, ids),
@@ -230,7 +230,7 @@ impl<'v, 'a> View<'v, 'a> {
         ensures step { IfOk result (IsPermittedStep self.now tid seq ids) }
         ensures fit { IfOk result (CanBeDone self.now.system) }
     {
-        let shared = self.workers.snapshot(alloc, seq)?;
+        let shared = self.workers.snapshot(seq);
         let copies = shared.get();
         let call = copies.call;
         let regs = copies.regs;
@@ -244,7 +244,7 @@ impl<'v, 'a> View<'v, 'a> {
                 seq: Some(seq),
                 call,
                 regs,
-                args: CallArgs::judged(shared),
+                args: CallArgs::judged(shared.share()?),
                 ids,
             })),
         }

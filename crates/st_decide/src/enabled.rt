@@ -1,5 +1,5 @@
-// Whether a choice would add an entry, without making it. Only the copies of a question take memory.
-ghost use Rattle.std.specs.Prelude.{◌≡◌, ℕ, true, is_some, IfOk, IfSome};
+// Whether a choice would add an entry, without making it. It takes no memory.
+ghost use Rattle.std.specs.Prelude.{◌≡◌, ℕ, true, is_some, IfSome};
 ghost use Rattle.st_law.specs.Machine.{thread_entry, worker_entry};
 ghost use Rattle.st_law.specs.State.{State};
 ghost use Rattle.st_decide.specs.Enabled.{is_faulted_or_answered, is_work};
@@ -12,7 +12,6 @@ use crate::view::View;
 use st_base::{Seq, Tid, Worker};
 use st_messages::MsgState;
 use st_workers::Task;
-use std::alloc::{AllocError, Global};
 
 // Whether a message was faulted or answered.
 fn has_come(state: Option<MsgState>) -> bool
@@ -37,32 +36,32 @@ fn is_work(task: Task) -> bool
 
 impl<'v, 'a> View<'v, 'a> {
     /// Whether a thread can move: it has started, hasn't ended, and waits neither for its held call nor for the operator.
-    pub fn can_move(&self, alloc: Global, tid: Tid) -> Result<bool, AllocError>
-        ensures { IfOk result (λ can. (st : State) → Refines self.now st → can ≡ is_some (thread_entry self.now.input st tid)) }
+    pub fn can_move(&self, tid: Tid) -> bool
+        ensures { (st : State) → Refines self.now st → result ≡ is_some (thread_entry self.now.input st tid) }
     {
         let Some(thread) = self.thread(tid) else {
-            return Ok(false);
+            return false;
         };
         let Some(_) = self.system.pid_of(tid) else {
-            return Ok(false);
+            return false;
         };
         if thread.has_ended() {
-            return Ok(false);
+            return false;
         }
         match thread.number_held() {
-            Some(seq) => self.is_over(alloc, seq),
-            None => Ok(true),
+            Some(seq) => self.is_over(seq),
+            None => true,
         }
     }
 
     // Whether a held call can be made or denied: its message was faulted or answered, and is no question.
-    fn is_over(&self, alloc: Global, seq: Seq) -> Result<bool, AllocError>
-        ensures { IfOk result (λ over. (st : State) → Refines self.now st → CanBeMadeOrDenied self.now.input st seq over) }
+    fn is_over(&self, seq: Seq) -> bool
+        ensures { (st : State) → Refines self.now st → CanBeMadeOrDenied self.now.input st seq result }
     {
         if !has_come(self.workers.state(seq)) {
-            return Ok(false);
+            return false;
         }
-        Ok(self.question(alloc, seq)?.is_none())
+        self.question(seq).is_none()
     }
 
     /// The thread that holds the call of a number, if the number is live.

@@ -64,13 +64,17 @@ pub record ArgRequest : Type 0 where
   pub regs : List ℕ
   pub cwd : Components
 
+-- whether a call follows a link at the end of an argument's name
+abbrev pub is_followed : ArgRequest → ArgSpec → Bool
+is_followed asked spec = follows asked.call asked.regs spec.register
+
 -- the progress of the parts from number j on, in order, by the words that were copied and the looks that were taken for each: the
 -- first part that isn't complete decides
 abbrev pub progress_from : ℕ → List ArgSpec → ArgRequest → (ℕ → List ℕ) → (ℕ → List SeenText) → Progress
 progress_from j [] asked words lookups = Ready []
 progress_from j (spec ∷ specs) asked words lookups =
     let value = slice_index_or asked.regs spec.register 0 in
-    progress_of_spelling j spec asked.cwd (follows asked.call asked.regs spec.register) (lookups j)
+    progress_of_spelling j spec asked.cwd (is_followed asked spec) (lookups j)
     (spelling.spell spec.kind value (words j))
     (progress_from (j + 1) specs asked words lookups)
 

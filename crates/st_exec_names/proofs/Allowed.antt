@@ -11,7 +11,8 @@ use Rattle.st_model.specs.declared.limits.TheConstants.{MOST_OBJECTS}
 use Rattle.st_model.specs.declared.object.Kind.{Kind}
 use Rattle.st_model.specs.declared.object.Kind.TheVariants as kind
 use Rattle.st_model.specs.Tree.{Tree, entry_count, is_directory, node_at, node_with_number, object_of, seen_of, seen_of_kind}
-use Rattle.st_tree.specs.Refusals.{add_refused, has_entries, is_missing, is_no_directory, is_not_dir, link_refused, no_directory, no_object, place_refused, remove_refused, IsObjectNumber}
+use Rattle.st_tree.specs.Refusals.{has_entries, is_not_dir, link_refused, no_object, remove_refused, IsObjectNumber}
+use Rattle.st_model.specs.Adding.{add_refused, is_missing, is_no_directory, no_directory, place_refused}
 use Rattle.st_effects.specs.NameTests.{walk_error}
 use Rattle.st_exec_names.proofs.Looked.{holder_looked, looked}
 use Rattle.st_exec_objects.proofs.Objects.{numbered}

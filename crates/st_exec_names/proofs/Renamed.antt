@@ -8,7 +8,8 @@ use Rattle.st_base.specs.declared.errno.Errno.TheVariants.{EINVAL, EISDIR, ENOTD
 use Rattle.st_base.specs.declared.ids.Ids.{Ids}
 use Rattle.st_names.specs.Name.{Components, is_root}
 use Rattle.st_model.specs.Tree.{Tree, entry_count, is_directory, is_proper_prefix, is_same_name, node_with_number, object_of, rename, remove_name, without_name}
-use Rattle.st_tree.specs.Refusals.{is_same_object, no_directory, no_object, rename_refused, replace_refused, tree_after_rename, IsObjectNumber}
+use Rattle.st_tree.specs.Refusals.{is_same_object, no_object, rename_refused, replace_refused, tree_after_rename, IsObjectNumber}
+use Rattle.st_model.specs.Adding.{no_directory}
 use Rattle.st_effects.specs.Changes.{tree_after}
 use Rattle.st_effects.specs.Names.{directory_not_empty, move_outcome, rename_outcome}
 use Rattle.st_effects.specs.NameTests.{Object, object_at, object_numbered, object_with, on_found, on_object, parent_not_writable, walk_error}

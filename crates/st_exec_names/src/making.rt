@@ -8,7 +8,8 @@ ghost use Rattle.st_effects.specs.NameTests.{parent_not_writable, walk_error};
 ghost use Rattle.st_effects.specs.System.{arg_name_at, success, System};
 ghost use Rattle.st_model.specs.Tree.{node_of_kind, node_with_number};
 ghost use Rattle.st_model.specs.declared.object.NewKind.{NewKind};
-ghost use Rattle.st_tree.specs.Refusals.{add_refused, link_refused, place_refused, IsObjectNumber};
+ghost use Rattle.st_tree.specs.Refusals.{link_refused, IsObjectNumber};
+ghost use Rattle.st_model.specs.Adding.{add_refused, place_refused};
 ghost use Rattle.st_request.specs.Outcome.{outcome_of, unless_err, with_tree};
 
 use st_base::{Errno, Ids, Obj, Text};
@@ -48,17 +49,6 @@ fn may_make(tree: &Tree, request: &Request<'_>, name: &AbsName) -> Result<(), Er
     Ok(())
 }
 
-// A copy of the kind of a new object, with its own memory.
-fn copy_of(alloc: Global, kind: &NewKind) -> Result<NewKind, AllocError>
-    ensures { IfOk result (λ copied. copied ≡ kind.now) }
-{
-    Ok(match kind {
-        NewKind::Dir => NewKind::Dir,
-        NewKind::File(content) => NewKind::File(content.copy(alloc)?),
-        NewKind::Link(target) => NewKind::Link(target.copy(alloc)?),
-    })
-}
-
 /// Makes an object that isn't refused, and that belongs to the effective ids. Returns the outcome of a call whose result is this
 /// number. If memory runs out, nothing changes.
 pub fn make_object(
@@ -82,7 +72,7 @@ pub fn make_object(
     let change = Change::Made {
         name: name.copy(alloc)?,
         obj: tree.made() + 1,
-        kind: copy_of(alloc, &kind)?,
+        kind: kind.copy(alloc)?,
         uid,
         gid,
         mode,

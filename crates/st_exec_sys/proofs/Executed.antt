@@ -1,8 +1,8 @@
 -- The system after a call on processes, ids and sockets, by the part that the call changes.
-use Rattle.std.proofs.Common.{◌≡◌, ◌<◌, ◌∙◌, ap, refl, subst, sym, ℕ, List, [], Result, Ok, Err, IfOk, OnErr}
+use Rattle.std.proofs.Common.{◌≡◌, ◌<◌, ◌∙◌, ap, refl, subst, sym, true, true≢false, ℕ, List, [], Result, Ok, Err, IfOk, OnErr}
 use Rattle.st_calls.specs.declared.call.SysCall.{SysCall}
 use Rattle.st_calls.specs.declared.call.SysCall.TheVariants.{SetUid, SetEuid, SetGid, SetEgid}
-use Rattle.st_procs.specs.Calls.{SetsIds}
+use Rattle.st_calls.specs.Call.{sets_ids}
 use Rattle.st_effects.specs.Processes.{set_ids_outcome}
 use Rattle.st_fds.specs.Table.{KeepsTables}
 use Rattle.st_memory.specs.Memory.{Memories, is_space_live}
@@ -67,14 +67,14 @@ module _ (request : Request) (table : Table) (processes : Processes) (memories :
   moved_if_ok call same (Err error) left named is none keeps = tt
 
   -- each of the calls that set ids has one outcome
-  pub ids_outcome : {E : Type 0} (call : SysCall) (result : Result Outcome E) → SetsIds call
+  pub ids_outcome : {E : Type 0} (call : SysCall) (result : Result Outcome E) → sets_ids call ≡ true
       → IfOk result (λ given. (system : System) → system.held ≡ [] → outcome_of given system.descriptors ≡ set_ids_outcome call system request)
       → IfOk result (λ given. (system : System) → system.held ≡ [] → outcome_of given system.descriptors ≡ effect system call request)
   ids_outcome SetUid result sets is = is
   ids_outcome SetEuid result sets is = is
   ids_outcome SetGid result sets is = is
   ids_outcome SetEgid result sets is = is
-  ids_outcome call result sets is = absurd sets
+  ids_outcome call result sets is = absurd (true≢false (sym sets))
 
   -- a call that sets ids
   pub ids_set : {E : Type 0} (call : SysCall) (result : Result Outcome E) (new : Processes)

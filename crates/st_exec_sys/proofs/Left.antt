@@ -6,11 +6,11 @@ use Rattle.st_fds.specs.Table.{KeepsTables}
 use Rattle.st_memory.specs.Memory.{Memories, byte_in, is_space_live, next_space}
 use Rattle.st_model.specs.Descriptors.{Table, has_table}
 use Rattle.st_model.specs.Process.{Process}
-use Rattle.st_model.specs.Processes.{Processes, StartedThread, next_pid, process_at, thread_at}
+use Rattle.st_model.specs.Processes.{Processes, StartedThread, next_pid, process_at, thread_at, owner_of}
 use Rattle.st_effects.specs.Changes.{memory_after, next_process_after, next_space_after, owner_after, process_after, process_after_change}
 use Rattle.st_trace.specs.declared.entry.Change.{Change}
 use Rattle.st_trace.specs.declared.entry.Change.TheVariants.{Dying, SetIds}
-use Rattle.st_exec_sys.specs.Changes.{has_table_after, is_live_after, owner_of, thread_after_changes, AreEndings, AreMemoriesAfter, AreSetIdsOnly, AreProcessesAndThreadsAfter}
+use Rattle.st_exec_sys.specs.Changes.{has_table_after, is_live_after, thread_after_changes, AreEndings, AreMemoriesAfter, AreSetIdsOnly, AreProcessesAndThreadsAfter}
 
 -- changes leave everything but the rows of processes
 pub record LeaveRest (changes : List Change) : Type 0 where

@@ -1,7 +1,7 @@
 -- How the changes of a call change processes, threads, memories and tables of descriptors.
-use Rattle.std.specs.Prelude.{◌≡◌, ℕ, Bool, true, false, ◌==◌, if◌then◌else◌, List, [], ◌∷◌, Option, Some, unwrap_or}
+use Rattle.std.specs.Prelude.{◌≡◌, ℕ, Bool, true, false, ◌==◌, if◌then◌else◌, List, [], ◌∷◌, Option, Some}
 use Rattle.std.specs.List.{fold}
-use Rattle.st_model.specs.Processes.{Processes, StartedThread, next_pid, pid_of, process_at, thread_at}
+use Rattle.st_model.specs.Processes.{Processes, StartedThread, next_pid, owner_of, process_at, thread_at}
 use Rattle.st_memory.specs.Memory.{Memories, byte_in, is_space_live, next_space}
 use Rattle.st_effects.specs.Changes.{memory_after, next_process_after, next_space_after, owner_after, process_after}
 use Rattle.st_trace.specs.declared.entry.Change.{Change}
@@ -29,10 +29,6 @@ thread_after_change t before _ = before
 -- thread t after changes
 abbrev pub thread_after_changes : ℕ → Option StartedThread → List Change → Option StartedThread
 thread_after_changes t before changes = fold (thread_after_change t) before changes
-
--- the process of a thread; 0 before it starts
-abbrev pub owner_of : Processes → ℕ → ℕ
-owner_of processes t = unwrap_or (pid_of processes t) 0
 
 -- the processes are as the changes that one of them makes leave them, and so are the threads
 pub record AreProcessesAndThreadsAfter (old : Processes) (pid : ℕ) (changes : List Change) (new : Processes) : Type 0 where

@@ -1,12 +1,12 @@
 // The calls that report and set who a process is.
-ghost use Rattle.std.specs.Prelude.{◌≡◌, [], IfOk, OnErr};
+ghost use Rattle.std.specs.Prelude.{◌≡◌, true, [], IfOk, OnErr};
+ghost use Rattle.st_calls.specs.Call.{sets_ids};
 ghost use Rattle.st_calls.specs.declared.call.SysCall.TheVariants.{GetEuid, GetPid, GetUid};
 ghost use Rattle.st_effects.specs.Effect.{effect};
 ghost use Rattle.st_effects.specs.Processes.{set_ids_outcome};
 ghost use Rattle.st_effects.specs.System as effects;
 ghost use Rattle.st_exec_sys.specs.Changes.{AreSetIdsOnly, AreProcessesAndThreadsAfter};
 ghost use Rattle.st_model.specs.Processes.{next_pid, process_at, IsPid};
-ghost use Rattle.st_procs.specs.Calls.{SetsIds};
 ghost use Rattle.st_request.specs.Outcome.{outcome_of};
 
 use st_calls::SysCall;
@@ -48,7 +48,7 @@ pub fn set_ids(
     request: &Request<'_>,
 ) -> Result<Outcome, AllocError>
     requires process { IsPid procs.old request.now.pid }
-    requires call { SetsIds call }
+    requires call { sets_ids call ≡ true }
     requires ids { request.now.ids ≡ (process_at procs.old request.now.pid).ids }
     ensures outcome { IfOk result (λ outcome. (system : effects.System) → system.held ≡ [] → outcome_of outcome system.descriptors ≡ set_ids_outcome call system request.now) }
     ensures processes { IfOk result (λ outcome. AreProcessesAndThreadsAfter procs.old request.now.pid outcome.changes procs.new) }

@@ -6,7 +6,7 @@ ghost use Rattle.st_grammar.specs.Words.{is_label, is_name_byte, native_name, na
 
 use crate::env::{Env, NamedId};
 use st_base::number::{number_of, numeral_up_to};
-use st_calls::{Rule, SysCall};
+use st_calls::Rule;
 use st_filter::{Op, Who};
 
 /// Whether a word is this keyword.
@@ -84,10 +84,7 @@ pub fn sets_ids(name: &[u8], rule: Option<Rule>) -> bool
     ensures { result ≡ names_set_id_call (name_by name.now rule) }
 {
     match rule {
-        Some(Rule::Call(call)) => match call {
-            SysCall::SetUid | SysCall::SetEuid | SysCall::SetGid | SysCall::SetEgid => true,
-            _ => false,
-        },
+        Some(Rule::Call(call)) => call.sets_ids(),
         _ => false,
     }
 }

@@ -1,13 +1,10 @@
 ghost use Rattle.std.specs.Prelude.{◌≡◌, ◌≤◌, [], reverse, None, Some, is_some, IfOk, OnOk, OnErr};
 ghost use Rattle.st_law.specs.History.{session_at};
-ghost use Rattle.st_law.specs.Inputs.{IsStartable};
 ghost use Rattle.st_law.specs.Lawful.{Lawful};
 ghost use Rattle.st_law.specs.Machine.{entry_of, IsEnabled, IsSettled};
 ghost use Rattle.st_law.specs.State.{thread_count};
-ghost use Rattle.st_reached.specs.Grants.{RepliesUngranted, SetIdsUngranted};
-ghost use Rattle.st_reached.specs.Scripts.{IsBounded};
+ghost use Rattle.st_reached.specs.Runnable.{CanRun};
 ghost use Rattle.st_report.specs.ScheduleText.{repeats_of};
-ghost use Rattle.st_system.specs.Start.{CanStart};
 ghost use Rattle.st_trace.specs.declared.entry.Choice.TheVariants.{Thread, Worker};
 ghost use Rattle.st_kernel.specs.Kernel.{rested, state_in, trace_of, with_choice, Continues, HasMadeFirstEnabled, IsChosen, IsNextEntry, IsPlayed, IsTried, NoneMoves};
 
@@ -72,11 +69,7 @@ impl<'a> Model for Kernel<'a> {
 impl<'a> Kernel<'a> {
     /// A run before its first choice.
     pub fn start(alloc: Global, input: &'a Input) -> Result<Self, AllocError>
-        requires startable { IsStartable input.now }
-        requires system { CanStart input.now }
-        requires bounded { IsBounded input.now.start }
-        requires ungranted { SetIdsUngranted input.now.policies }
-        requires replies { RepliesUngranted input.now.replies }
+        requires { CanRun input.now }
         ensures input { IfOk result (λ kernel. kernel.input ≡ input.now) }
         ensures choices { IfOk result (λ kernel. kernel.choices ≡ []) }
     {
@@ -113,18 +106,18 @@ impl<'a> Kernel<'a> {
         self.made.as_slice()
     }
 
-    /// Whether a choice is enabled: it would add an entry now.
-    pub fn is_enabled(&self, alloc: Global, choice: Choice) -> Result<bool, AllocError>
-        ensures { IfOk result (λ enabled. enabled ≡ is_some (entry_of self.now.input (state_in self.now) choice)) }
+    /// Whether a choice is enabled: it would add an entry now. It takes no memory.
+    pub fn enabled(&self, choice: Choice) -> bool
+        ensures { result ≡ is_some (entry_of self.now.input (state_in self.now) choice) }
     {
         let machine = self.machine.view();
         match choice {
-            Choice::Thread(tid) => machine.can_move(alloc, tid),
+            Choice::Thread(tid) => machine.can_move(tid),
             Choice::Worker(worker) if 0 < worker && worker <= machine.worker_count() => {
-                Ok(machine.can_serve(worker))
+                machine.can_serve(worker)
             }
-            Choice::Worker(_) => Ok(false),
-            Choice::Operator => machine.can_ask(alloc),
+            Choice::Worker(_) => false,
+            Choice::Operator => machine.can_ask(),
         }
     }
 

@@ -19,7 +19,7 @@ use Rattle.st_law.specs.declared.input.Input.{Input}
 use Rattle.st_law.specs.Inputs.{IsThread}
 use Rattle.st_law.specs.Lawful.{IsRunning, IsPending, IsStored, IsEntered, IsEnded, IsUsed, IsDenied}
 use Rattle.st_law.specs.Machine.{state_after}
-use Rattle.st_law.specs.Schedules.{sets_ids}
+use Rattle.st_calls.specs.Call.{sets_ids}
 use Rattle.st_law.specs.State.{State, thread_count, progress_of_head, snapshot_of_progress, snapshot_in}
 use Rattle.st_law.specs.Threads.{child_of_next}
 use Rattle.st_law.proofs.Copies.{Copies}

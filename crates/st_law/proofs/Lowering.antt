@@ -13,7 +13,7 @@ use Rattle.st_trace.specs.Instructions.{IsCallOf}
 use Rattle.st_trace.specs.declared.start.Instr.{Instr}
 use Rattle.st_trace.specs.declared.start.Instr.TheVariants.{Store, Call, Fork}
 use Rattle.st_law.specs.declared.input.Input.{Input}
-use Rattle.st_law.specs.Schedules.{sets_ids}
+use Rattle.st_calls.specs.Call.{sets_ids}
 use Rattle.st_law.specs.Sessions.{SessionFilter, session_filters, decision}
 use Rattle.st_law.specs.State.{State, thread_count, is_worker, snapshot_in, read_for, decision_in, is_undecided}
 use Rattle.st_law.proofs.Copies.{Copies}

@@ -7,7 +7,8 @@ use Rattle.st_calls.specs.declared.judged.Snapshot.{Snapshot}
 use Rattle.st_model.specs.Tree.{is_number}
 use Rattle.st_trace.specs.declared.start.Instr.{Instr}
 use Rattle.st_law.specs.declared.input.Input.{Input}
-use Rattle.st_law.specs.Schedules.{sets_ids, is_set_id_instruction}
+use Rattle.st_law.specs.Schedules.{is_set_id_instruction}
+use Rattle.st_calls.specs.Call.{sets_ids}
 use Rattle.st_law.specs.Sessions.{least_from}
 use Rattle.st_law.specs.State.{ThreadState, Message, State, thread_count, snapshot_in, decision_in, is_undecided}
 use Rattle.st_law.specs.Threads.{PendingCall}

@@ -7,7 +7,7 @@ use Rattle.st_calls.specs.declared.call.SysCall.{SysCall}
 use Rattle.st_calls.specs.declared.call.SysCall.TheVariants.{Open, Close, Read, Write, Lseek, Dup, Stat, Lstat, Access, Readlink, Unlink, Link, Symlink, Rename, Mkdir, Rmdir, Chdir, Chmod, Chown, Truncate, Fork, Execve, Exit, Kill, GetPid, GetUid, GetEuid, SetUid, SetEuid, SetGid, SetEgid, Socket, Bind, Connect}
 use Rattle.st_base.specs.declared.ids.Ids.{Ids}
 use Rattle.st_model.specs.Descriptors.{Table, file_at}
-use Rattle.st_calls.specs.Call.{has_flag}
+use Rattle.st_calls.specs.Call.{has_flag, sets_ids}
 use Rattle.st_calls.specs.declared.flags.TheConstants.{O_TRUNC}
 use Rattle.st_model.specs.Identity.{ids_after_set, set_refused}
 use Rattle.st_model.specs.declared.object.NewKind.{NewKind}
@@ -22,7 +22,6 @@ use Rattle.st_effects.specs.NameTests.{Object, object_at, on_found, on_object}
 use Rattle.st_effects.specs.Names.{make_outcome, move_outcome}
 use Rattle.st_effects.specs.Processes.{policy_changes, set_ids_outcome, renewals}
 use Rattle.st_effects.specs.System.{System, Request, Outcome, success, unless_error, unless_refused, register, arg_name_at}
-use Rattle.st_law.specs.Schedules.{sets_ids}
 use Rattle.st_trace.specs.declared.entry.CallResult.{CallResult}
 use Rattle.st_trace.specs.declared.entry.Change.{Change}
 use Rattle.st_trace.specs.declared.entry.Change.TheVariants.{Cut, Forked, Execed, SetIds, Dying, Renewed, Policy}

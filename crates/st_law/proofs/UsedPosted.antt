@@ -12,7 +12,7 @@ use Rattle.st_trace.specs.declared.entry.Change.TheVariants.{Execed}
 use Rattle.st_law.specs.declared.input.Input.{Input}
 use Rattle.st_law.specs.Lawful.{IsUsed}
 use Rattle.st_law.specs.Messages.{posted_after_change}
-use Rattle.st_law.specs.Schedules.{sets_ids}
+use Rattle.st_calls.specs.Call.{sets_ids}
 use Rattle.st_law.specs.State.{State, thread_count, held_from, system_of, request_of}
 use Rattle.st_law.proofs.HeldCalls.{few_held}
 use Rattle.st_law.proofs.QuietChanges.{mute_of_quiet, posted_mute}

@@ -1,7 +1,6 @@
 -- The choices that a schedule gives, and the bounds of steps.
-use Rattle.std.specs.Prelude.{ℕ, zero, suc, ◌+◌, ◌*◌, Bool, true, false, List, [], ◌∷◌, ◌++◌, length, sum_by, count_by, Option, Some, None}
-use Rattle.st_calls.specs.declared.call.SysCall.{SysCall}
-use Rattle.st_calls.specs.declared.call.SysCall.TheVariants.{SetUid, SetEuid, SetGid, SetEgid}
+use Rattle.std.specs.Prelude.{ℕ, zero, suc, ◌+◌, ◌*◌, Bool, false, List, [], ◌∷◌, ◌++◌, length, sum_by, count_by, Option, Some, None}
+use Rattle.st_calls.specs.Call.{sets_ids}
 use Rattle.st_trace.specs.declared.entry.Choice.{Choice}
 use Rattle.st_trace.specs.declared.entry.Choice.TheVariants as choice
 use Rattle.st_trace.specs.declared.entry.Entry.{Entry}
@@ -42,14 +41,6 @@ first_enabled i st =
     (choice_or choice.Operator (entry_of i st choice.Operator) None))
 
 -- ---- `rest`
-
--- whether a call sets ids
-abbrev pub sets_ids : SysCall → Bool
-sets_ids SetUid = true
-sets_ids SetEuid = true
-sets_ids SetGid = true
-sets_ids SetEgid = true
-sets_ids call = false
 
 -- whether an instruction is a call that sets ids
 abbrev pub is_set_id_instruction : Instr → Bool

@@ -1,6 +1,7 @@
 pub mod Callers
+pub mod Keys
+pub mod Numbers
 pub mod Parts
-pub mod Places
 pub mod Progress
 pub mod Sealed
 pub mod SlotRows

@@ -4,9 +4,9 @@ use Rattle.std.proofs.lemmas.Bool.{cases_eq}
 use Rattle.st_calls.specs.declared.argument.ArgSpec.{ArgSpec}
 use Rattle.st_calls.specs.declared.argument.PartKind.{PartKind}
 use Rattle.st_calls.specs.declared.argument.PartKind.TheVariants as kind
-use Rattle.st_effects.specs.Progress.{ArgRequest, Ready, progress_of_text, progress_of_walk}
+use Rattle.st_effects.specs.Progress.{ArgRequest, Ready, progress_of_text, progress_of_walk, is_followed}
 use Rattle.st_lookaside.specs.Need.{need_of, need_of_walk, progress_alone, IsInside, IsWord}
-use Rattle.st_lookaside.specs.Part.{is_followed, progress_of_arg, spelled_of, words_in, AreAskedLooks, IsCopyOf, IsPart, IsWalk, IsWalkOf}
+use Rattle.st_lookaside.specs.Part.{progress_of_arg, spelled_of, words_in, AreAskedLooks, IsCopyOf, IsPart, IsWalk, IsWalkOf}
 use Rattle.st_lookaside.specs.declared.need.Need.TheVariants as need
 use Rattle.st_lookaside.specs.declared.part.Part.{Part}
 use Rattle.st_model.specs.Spelling as spelling

@@ -11,11 +11,11 @@ use Rattle.st_calls.specs.declared.argument.ArgSpec.{ArgSpec}
 use Rattle.st_calls.specs.declared.argument.ArgText.{ArgText}
 use Rattle.st_calls.specs.declared.argument.PartKind.{PartKind}
 use Rattle.st_calls.specs.declared.argument.PartKind.TheVariants as kind
-use Rattle.st_effects.specs.Progress.{ArgRequest, Progress, Word, Look, Stuck, Ready, progress_from, progress_of_spelling, progress_of_text, progress_of_walk, with_arg}
+use Rattle.st_effects.specs.Progress.{ArgRequest, Progress, Word, Look, Stuck, Ready, progress_from, progress_of_spelling, progress_of_text, progress_of_walk, with_arg, is_followed}
 use Rattle.st_lookaside.specs.Head.{arg_request}
 use Rattle.st_lookaside.specs.Need.{is_finished, need_of, progress_alone, IsWord}
-use Rattle.st_lookaside.specs.Part.{Filled, filled_of, is_followed, progress_of_arg, spelled_of, words_in, IsPart}
-use Rattle.st_lookaside.specs.Slot.{Slot, next_need, part_at, part_next, slot_progress, progress_of_parts, IsDue, IsLookNext, HasAllArguments, IsSlot, IsWordNext}
+use Rattle.st_lookaside.specs.Part.{Filled, filled_of, progress_of_arg, spelled_of, words_in, IsPart}
+use Rattle.st_lookaside.specs.Slot.{Slot, kept_slot, next_need, part_at, part_next, slot_progress, progress_of_parts, IsDue, IsLookNext, HasAllArguments, IsSlot, IsWordNext}
 use Rattle.st_lookaside.specs.declared.head.Head.{Head}
 use Rattle.st_lookaside.specs.declared.need.Need.{Need}
 use Rattle.st_lookaside.specs.declared.need.Need.TheVariants as need
@@ -282,8 +282,8 @@ finished_all head (part ∷ parts) specs are none =
     ready_next _ (ap is_open (progress_is head (part ∷ parts) specs) ∙ none_open (arg_request head) (part ∷ parts) 0 part
     (λ k lt. sym (kept_open (arg_request head) (part ∷ parts) are part k lt) ∙ none_passes (λ part. not (is_finished part.need)) (part ∷ parts) k part (sym none) lt))
 
-pub all_finished : (head : Head) (parts same : List Part) (now : Slot) → IsSlot head parts → record { head = head; parts = map filled_of parts } ≡ now → same ≡ parts → None ≡ position (λ part. not (is_finished part.need)) same → IsAllThere (slot_progress now)
-all_finished head parts same now slot view copied none =
+pub all_finished : (head : Head) (parts same : List Part) (sealed : Bool) (now : Slot) → IsSlot head parts → kept_slot head parts sealed ≡ now → same ≡ parts → None ≡ position (λ part. not (is_finished part.need)) same → IsAllThere (slot_progress now)
+all_finished head parts same sealed now slot view copied none =
     subst (λ (s : Slot). IsAllThere (slot_progress s)) view
     (finished_all head parts slot.specs slot.parts (none ∙ ap (position (λ (part : Part). not (is_finished part.need))) copied))
 

@@ -1,5 +1,5 @@
 -- The course of one message, computed: what it needs next, the slot after each word, look, renewal and seal, and what each number has.
-use Rattle.std.proofs.Common.{◌≡◌, ◌≤◌, ℕ, List, [], ◌∷◌, ◌++◌, length, map, Some, None, refl, sym, subst, arith, codes, replicate}
+use Rattle.std.proofs.Common.{◌≡◌, ◌≤◌, ℕ, true, false, List, [], ◌∷◌, ◌++◌, length, map, Some, None, refl, sym, subst, arith, codes, replicate}
 use Rattle.std.proofs.lemmas.Option.{none-some}
 use Rattle.st_base.specs.Ids.{identity}
 use Rattle.st_base.specs.declared.errno.Errno.TheVariants.{EFAULT}
@@ -13,7 +13,7 @@ use Rattle.st_names.specs.Name.{Components, components_of, printed_name}
 use Rattle.st_names.specs.declared.seen.SeenText.TheVariants as seen
 use Rattle.st_effects.specs.Progress.{Ready, Stuck}
 use Rattle.st_lookaside.specs.Need.{IsShort}
-use Rattle.st_lookaside.specs.Slot.{Slot, after_look, after_word, new_slot, next_need, slot_progress, renewed, snapshot_with}
+use Rattle.st_lookaside.specs.Slot.{Slot, after_look, after_word, new_slot, next_need, slot_progress, renewed, sealed_slot, snapshot_with}
 use Rattle.st_lookaside.specs.Slots.{slot_at, ChangesSlot, RenewsSlot}
 use Rattle.st_lookaside.specs.declared.head.Head.{Head}
 use Rattle.st_lookaside.specs.declared.slot.Next.TheVariants as next
@@ -72,8 +72,19 @@ outside = refl
 begun_anew : renewed done 9 (identity 7 8) (components_of (codes "/v")) ≡ record {
   head = record head { seq = 9; ids = identity 7 8; cwd = components_of (codes "/v") };
   parts = record { words = []; lookups = [] } ∷ record { words = []; lookups = [] } ∷ [];
+  is_sealed = false;
 }
 begun_anew = refl
+
+-- a seal changes nothing else, and a renewal undoes it
+seal_only : (sealed_slot done).is_sealed ≡ true
+seal_only = refl
+
+same_parts : (sealed_slot done).parts ≡ done.parts
+same_parts = refl
+
+unsealed_anew : renewed (sealed_slot done) 9 (identity 7 8) (components_of (codes "/v")) ≡ renewed done 9 (identity 7 8) (components_of (codes "/v"))
+unsealed_anew = refl
 
 abbrev sealed : Snapshot
 sealed = record {

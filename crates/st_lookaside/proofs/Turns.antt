@@ -1,7 +1,7 @@
 -- How a change of one argument changes a message.
 use Rattle.std.proofs.Common.{◌≡◌, ◌<◌, ◌≤◌, ◌+◌, ℕ, zero, suc, nat_lt, not, Bool, true, false, cond, List, [], ◌∷◌, length, ◌++◌, map, take, drop, get_or, set, append-nil, inl, inr, refl, ap, sym, ◌∙◌, subst, arith, Fits, w32}
 use Rattle.std.specs.Prelude.{All, Some, None, Result, Ok, Err, OnOk, OnErr}
-use Rattle.st_effects.specs.Progress.{Progress, Word, Look, Stuck, Ready, progress}
+use Rattle.st_effects.specs.Progress.{Progress, Word, Look, Stuck, Ready}
 use Rattle.st_names.specs.Name.{Components}
 use Rattle.std.specs.List.{position, position_or_len}
 use Rattle.std.proofs.lemmas.Bool.{cases_lt, lt-ltb}
@@ -18,7 +18,7 @@ use Rattle.st_calls.specs.declared.rule.Rule.TheVariants as rule
 use Rattle.st_lookaside.specs.Head.{arg_request}
 use Rattle.st_lookaside.specs.Need.{is_finished, IsWord}
 use Rattle.st_lookaside.specs.Part.{Filled, filled_of, nothing_filled, IsPart}
-use Rattle.st_lookaside.specs.Slot.{Slot, new_slot, next_need, part_at, part_next, slot_progress, with_part, AreInOrder, IsDue, IsInOrder, IsLookNext, IsSlot, IsWordNext}
+use Rattle.st_lookaside.specs.Slot.{Slot, new_slot, next_need, part_at, part_next, kept_slot, slot_progress, with_part, AreInOrder, IsDue, IsInOrder, IsLookNext, IsSlot, IsWordNext}
 use Rattle.st_lookaside.specs.declared.head.Head.{Head}
 use Rattle.st_lookaside.specs.declared.need.Need.{Need}
 use Rattle.st_lookaside.specs.declared.need.Need.TheVariants as need
@@ -56,11 +56,11 @@ pub filled_at : (parts : List Part) (j : ℕ) (part : Part) → j < length parts
 filled_at parts j part within here = get_or-map filled_of parts j part nothing_filled within ∙ ap filled_of (sym here)
 
 -- the slot of a message with another argument
-pub view_with : (head : Head) (parts : List Part) (now : Slot) (j : ℕ) (after : Part) (filled : Filled) → record { head = head; parts = map filled_of parts } ≡ now → filled_of after ≡ filled →
-    record { head = head; parts = map filled_of (set parts j after) } ≡ with_part now j filled
-view_with head parts now j after filled view is =
-    ap (λ (all : List Filled). record { head = head; parts = all }) (map-set filled_of parts j after)
-    ∙ ap (λ (f : Filled). record { head = head; parts = set (map filled_of parts) j f }) is
+pub view_with : (head : Head) (parts : List Part) (sealed : Bool) (now : Slot) (j : ℕ) (after : Part) (filled : Filled) → kept_slot head parts sealed ≡ now → filled_of after ≡ filled →
+    kept_slot head (set parts j after) sealed ≡ with_part now j filled
+view_with head parts sealed now j after filled view is =
+    ap (λ (all : List Filled). record { head = head; parts = all; is_sealed = sealed }) (map-set filled_of parts j after)
+    ∙ ap (λ (f : Filled). record { head = head; parts = set (map filled_of parts) j f; is_sealed = sealed }) is
     ∙ ap (λ (s : Slot). with_part s j filled) view
 
 pub on_ok : {T E : Type 0} (r : Result T E) (P Q : Type 0) → (P → Q) → OnOk r P → OnOk r Q
@@ -107,9 +107,9 @@ untouched [] are = refl
 untouched (part ∷ parts) are = λ k. are 0 part (omega arith) k ∷ untouched parts (λ i d lt. are (suc i) d (omega arith)) k
 
 -- arguments of which nothing is copied or seen make a message that begins anew
-pub begun_anew : (head : Head) (parts : List Part) → map (λ part. part.spec) parts ≡ args_of head.rule → All (λ part. filled_of part ≡ nothing_filled) parts → record { head = head; parts = map filled_of parts } ≡ new_slot head
+pub begun_anew : (head : Head) (parts : List Part) → map (λ part. part.spec) parts ≡ args_of head.rule → All (λ part. filled_of part ≡ nothing_filled) parts → kept_slot head parts false ≡ new_slot head
 begun_anew head parts specs are =
-    ap (λ (all : List Filled). record { head = head; parts = all }) (untouched parts are ∙ ap (map (λ (spec : ArgSpec). nothing_filled)) specs)
+    ap (λ (all : List Filled). record { head = head; parts = all; is_sealed = false }) (untouched parts are ∙ ap (map (λ (spec : ArgSpec). nothing_filled)) specs)
 
 -- as many new items replace all the old ones
 pub whole_again : (new old : List Part) (n : ℕ) → n ≡ length old → length new ≡ length old → take n (new ++ drop (length new) old) ≡ new
@@ -118,7 +118,7 @@ whole_again new old n is same =
 
 -- ---- the argument that isn't finished
 
-module _ (head : Head) (parts : List Part) (now : Slot) (j : ℕ) (part : Part) (slot : IsSlot head parts) (view : record { head = head; parts = map filled_of parts } ≡ now) (at : IsOpenAt head parts j part) where
+module _ (head : Head) (parts : List Part) (sealed : Bool) (now : Slot) (j : ℕ) (part : Part) (slot : IsSlot head parts) (view : kept_slot head parts sealed ≡ now) (at : IsOpenAt head parts j part) where
   pub turn : IsTurn parts j
   turn = record {
     within = at.within;
@@ -148,19 +148,20 @@ module _ (head : Head) (parts : List Part) (now : Slot) (j : ℕ) (part : Part) 
     | inr past ↦ get_or_past (map filled_of parts) k nothing_filled (let len = length-map parts filled_of in omega (arith, len, past))
   ]
 
-  pub in_order : IsDue (slot_progress now) → IsInOrder now
-  in_order due = record {
+  pub in_order : IsDue (slot_progress now) → now.is_sealed ≡ false → IsInOrder now
+  in_order due unsealed = record {
     unseen = λ is.
         ap (λ (k : ℕ). (part_at now.parts k).lookups) (here_due due) ∙ ap (λ (f : Filled). f.lookups) here_filled
         ∙ unseen (arg_request head) part at.is_part (here_word is);
     following = λ _ k lt. after_here k (subst (λ (n : ℕ). n < k) (here_due due) lt);
+    unsealed = λ _. unsealed;
   }
 
   -- the slot of the message after that argument has changed
   pub here_changed : (change : Filled → Filled) (after : Part) → IsDue (slot_progress now) → filled_of after ≡ change (filled_of part) →
-      record { head = head; parts = map filled_of (set parts j after) } ≡ (let k = part_next (slot_progress now) in with_part now k (change (part_at now.parts k)))
+      kept_slot head (set parts j after) sealed ≡ (let k = part_next (slot_progress now) in with_part now k (change (part_at now.parts k)))
   here_changed change after due is =
-      view_with head parts now j after (change (part_at now.parts j)) view (is ∙ ap change (sym here_filled))
+      view_with head parts sealed now j after (change (part_at now.parts j)) view (is ∙ ap change (sym here_filled))
       ∙ ap (λ (k : ℕ). with_part now k (change (part_at now.parts k))) (sym (here_due due))
 
   -- the name that it looks at
@@ -170,8 +171,8 @@ module _ (head : Head) (parts : List Part) (now : Slot) (j : ℕ) (part : Part) 
       found ∙ ap (λ (k : ℕ). Look k name) (sym (ap part_next found))
 
   -- the slot of the message with that argument unchanged
-  pub here_same : (after : Part) → filled_of after ≡ filled_of part → record { head = head; parts = map filled_of (set parts j after) } ≡ now
-  here_same after is = ap (λ (all : List Filled). record { head = head; parts = all }) (map-set_same filled_of parts j after part (is ∙ ap filled_of at.here)) ∙ view
+  pub here_same : (after : Part) → filled_of after ≡ filled_of part → kept_slot head (set parts j after) sealed ≡ now
+  here_same after is = ap (λ (all : List Filled). record { head = head; parts = all; is_sealed = sealed }) (map-set_same filled_of parts j after part (is ∙ ap filled_of at.here)) ∙ view
 
   -- an argument's index is a small number
   pub few_args : Fits w32 j
@@ -193,14 +194,14 @@ first_is p parts j d within before here =
     ap (λ (n : ℕ). cond (nat_lt n (length parts)) (Some n) None) (first_place p parts j d within before here) ∙ ap (λ (b : Bool). cond b (Some j) None) (lt-ltb j (length parts) within)
 
 -- it decides what is needed next again
-pub next_again : (head : Head) (parts : List Part) (now new : Slot) (j : ℕ) (part after : Part) → IsSlot head parts → record { head = head; parts = map filled_of parts } ≡ now → IsOpenAt head parts j part
-    → IsPart (arg_request head) after → after.spec ≡ part.spec → not (is_finished after.need) ≡ true → record { head = head; parts = map filled_of (set parts j after) } ≡ new → next_at j after.need ≡ next_need (slot_progress new)
-next_again head parts now new j part after slot view at is_part same unfinished new_view =
-    let kept : IsSlot head (set parts j after) = slot_kept head parts j part after slot (turn head parts now j part slot view at) at.here is_part same in
+pub next_again : (head : Head) (parts : List Part) (sealed : Bool) (now new : Slot) (j : ℕ) (part after : Part) → IsSlot head parts → kept_slot head parts sealed ≡ now → IsOpenAt head parts j part
+    → IsPart (arg_request head) after → after.spec ≡ part.spec → not (is_finished after.need) ≡ true → kept_slot head (set parts j after) sealed ≡ new → next_at j after.need ≡ next_need (slot_progress new)
+next_again head parts sealed now new j part after slot view at is_part same unfinished new_view =
+    let kept : IsSlot head (set parts j after) = slot_kept head parts j part after slot (turn head parts sealed now j part slot view at) at.here is_part same in
     let len = length-set parts j after in
     let here : get_or (set parts j after) j after ≡ after = get_or-set_same parts j after after at.within in
     let first : position (λ (p : Part). not (is_finished p.need)) (set parts j after) ≡ Some j =
     first_is (λ p. not (is_finished p.need)) (set parts j after) j after (let within = at.within in omega (arith, len, within))
     (λ k lt. ap (λ (p : Part). not (is_finished p.need)) (get_or-set_other parts j k after after (λ e. let is : k ≡ j = e in omega (arith, is, lt))) ∙ ap (λ (n : Need). not (is_finished n)) (at.before k after lt))
     (ap (λ (p : Part). not (is_finished p.need)) here ∙ unfinished) in
-    here_next head (set parts j after) new j after kept new_view (open_at head (set parts j after) (set parts j after) j after kept refl (sym first) (sym here))
+    here_next head (set parts j after) sealed new j after kept new_view (open_at head (set parts j after) (set parts j after) j after kept refl (sym first) (sym here))

@@ -9,11 +9,11 @@ use Rattle.st_calls.specs.Argument.{args_of}
 use Rattle.st_calls.specs.declared.argument.ArgSpec.{ArgSpec}
 use Rattle.st_calls.specs.declared.argument.PartKind.{PartKind}
 use Rattle.st_calls.specs.declared.argument.PartKind.TheVariants as kind
-use Rattle.st_effects.specs.Progress.{ArgRequest, Progress, Word, Look, Stuck, Ready, progress_from, progress_of_text, with_arg}
+use Rattle.st_effects.specs.Progress.{ArgRequest, Progress, Word, Look, Stuck, Ready, progress_from, progress_of_text, with_arg, is_followed}
 use Rattle.st_lookaside.specs.Head.{arg_request}
 use Rattle.st_lookaside.specs.Need.{need_of, progress_alone}
-use Rattle.st_lookaside.specs.Part.{Filled, filled_of, is_begun, is_followed, nothing_filled, with_lookup, with_word, spelled_of, words_in, AreAskedLooks, IsPart}
-use Rattle.st_lookaside.specs.Slot.{Slot, part_at, part_next, slot_progress, with_part, AreNotBegun, IsDue, IsInOrder, IsLastBegun, IsSlot}
+use Rattle.st_lookaside.specs.Part.{Filled, filled_of, is_begun, nothing_filled, with_lookup, with_word, spelled_of, words_in, AreAskedLooks, IsPart}
+use Rattle.st_lookaside.specs.Slot.{Slot, kept_slot, part_at, part_next, slot_progress, with_part, AreNotBegun, IsDue, IsInOrder, IsLastBegun, IsSlot}
 use Rattle.st_lookaside.specs.declared.head.Head.{Head}
 use Rattle.st_lookaside.specs.declared.need.Need.{Need}
 use Rattle.st_lookaside.specs.declared.need.Need.TheVariants as need
@@ -128,8 +128,12 @@ some_word filled word e = let none = ap (λ (f : Filled). length f.words) e in o
 pub some_look : (filled : Filled) (seen : SeenText) → with_lookup filled seen ≡ nothing_filled → ⊥
 some_look filled seen e = let none = ap (λ (f : Filled). length f.lookups) e in omega (arith, none, length-append filled.lookups (seen ∷ []))
 
-module _ (head : Head) (parts : List Part) (now before : Slot) (filled : Filled) (slot : IsSlot head parts) (view : record { head = head; parts = map filled_of parts } ≡ now)
+module _ (head : Head) (parts : List Part) (sealed : Bool) (now before : Slot) (filled : Filled) (slot : IsSlot head parts) (view : kept_slot head parts sealed ≡ now)
     (order : IsInOrder before) (due : IsDue (slot_progress before)) (some : filled ≡ nothing_filled → ⊥) (is : now ≡ with_part before (part_next (slot_progress before)) filled) where
+  -- nothing was sealed since
+  pub unsealed_now : kept_slot head parts false ≡ now
+  unsealed_now = subst (λ (b : Bool). kept_slot head parts b ≡ now) (ap (λ (s : Slot). s.is_sealed) (view ∙ is) ∙ order.unsealed due) view
+
   kept_now : map filled_of parts ≡ set before.parts (part_next (slot_progress before)) filled
   kept_now = ap (λ (s : Slot). s.parts) (view ∙ is)
 
@@ -179,4 +183,4 @@ module _ (head : Head) (parts : List Part) (now before : Slot) (filled : Filled)
       let was : Filled = part_at before.parts (part_next (slot_progress before)) in
       ap (λ (n : ℕ). with_part now n was) (sym e)
       ∙ ap (λ (s : Slot). with_part s (part_next (slot_progress before)) was) is
-      ∙ ap (λ (l : List Filled). record { head = before.head; parts = l }) (set-set before.parts (part_next (slot_progress before)) filled was ∙ set-get_or before.parts (part_next (slot_progress before)) nothing_filled)
+      ∙ ap (λ (l : List Filled). record before { parts = l }) (set-set before.parts (part_next (slot_progress before)) filled was ∙ set-get_or before.parts (part_next (slot_progress before)) nothing_filled)

@@ -1,9 +1,8 @@
 -- What is copied and seen of an argument, and the invariant of what is kept of it.
 use Rattle.std.specs.Prelude.{◌≡◌, ◌<◌, ℕ, Bool, false, List, [], ◌∷◌, ◌++◌, length, take, slice_index_or, Option, Some, None, nat_lt}
-use Rattle.st_calls.specs.Call.{follows}
 use Rattle.st_calls.specs.declared.argument.ArgSpec.{ArgSpec}
 use Rattle.st_calls.specs.declared.argument.PartKind.TheVariants as kind
-use Rattle.st_effects.specs.Progress.{ArgRequest, Progress}
+use Rattle.st_effects.specs.Progress.{ArgRequest, Progress, is_followed}
 use Rattle.st_lookaside.specs.Need.{need_of, progress_alone, IsInside}
 use Rattle.st_lookaside.specs.declared.need.Need.TheVariants as need
 use Rattle.st_lookaside.specs.declared.part.Part.{Part}
@@ -39,10 +38,6 @@ with_lookup filled seen = record { words = filled.words; lookups = filled.lookup
 -- the register of an argument
 abbrev pub register_of : ArgRequest → ArgSpec → ℕ
 register_of asked spec = slice_index_or asked.regs spec.register 0
-
--- whether its name is followed if it ends in a link
-abbrev pub is_followed : ArgRequest → ArgSpec → Bool
-is_followed asked spec = follows asked.call asked.regs spec.register
 
 -- what its words spell
 abbrev pub spelled_of : ArgRequest → ArgSpec → List ℕ → Spelled

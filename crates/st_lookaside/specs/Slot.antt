@@ -1,5 +1,5 @@
 -- A message under way: what was copied and seen for each of its arguments.
-use Rattle.std.specs.Prelude.{◌≡◌, ◌<◌, ◌≤◌, ◌+◌, ℕ, true, false, List, [], All, map, get_or, Option, IfSome, slice_index_or, slice_set, length}
+use Rattle.std.specs.Prelude.{◌≡◌, ◌<◌, ◌≤◌, ◌+◌, ℕ, Bool, true, false, List, [], All, map, get_or, Option, IfSome, is_some, slice_index_or, slice_set, length}
 use Rattle.st_base.specs.declared.ids.Ids.{Ids}
 use Rattle.st_calls.specs.Argument.{args_of}
 use Rattle.st_calls.specs.declared.argument.ArgText.{ArgText}
@@ -17,14 +17,15 @@ use Rattle.st_model.specs.declared.limits.TheConstants.{SPACE_WORDS}
 use Rattle.st_names.specs.Name.{Components}
 use Rattle.st_names.specs.declared.seen.SeenText.{SeenText}
 
--- a message, and what was copied and seen for each argument of its rule, in their order
+-- a message, what was copied and seen for each argument of its rule, in their order, and whether the message is sealed
 pub record Slot : Type 0 where
   pub head : Head
   pub parts : List Filled
+  pub is_sealed : Bool
 
 -- a message of which nothing is copied or seen
 abbrev pub new_slot : Head → Slot
-new_slot head = record { head = head; parts = map (λ spec. nothing_filled) (args_of head.rule) }
+new_slot head = record { head = head; parts = map (λ spec. nothing_filled) (args_of head.rule); is_sealed = false }
 
 -- what was copied and seen for the argument with an index
 abbrev pub part_at : List Filled → ℕ → Filled
@@ -92,7 +93,7 @@ IsInside next.Ready = Unit {0}
 
 -- the argument with this index has this copied and seen now
 abbrev pub with_part : Slot → ℕ → Filled → Slot
-with_part slot j filled = record { head = slot.head; parts = slice_set slot.parts j filled }
+with_part slot j filled = record slot { parts = slice_set slot.parts j filled }
 
 -- the argument that isn't finished has one more word
 abbrev pub after_word : Slot → ℕ → Slot
@@ -101,6 +102,10 @@ after_word slot word = let j = part_next (slot_progress slot) in with_part slot 
 -- the walk of the argument that isn't finished has one more answer
 abbrev pub after_look : Slot → SeenText → Slot
 after_look slot seen = let j = part_next (slot_progress slot) in with_part slot j (with_lookup (part_at slot.parts j) seen)
+
+-- the message is sealed
+abbrev pub sealed_slot : Slot → Slot
+sealed_slot slot = record slot { is_sealed = true }
 
 -- the message begins anew under this number, with these ids and this directory
 abbrev pub renewed : Slot → ℕ → Ids → Components → Slot
@@ -120,12 +125,17 @@ snapshot_with head args = record {
 }
 
 -- words and answers came in the order of the arguments: nothing is seen of an argument that needs a word, and nothing is copied or seen of
--- later ones
+-- later ones; and a message that needs something isn't sealed
 pub record IsInOrder (slot : Slot) : Type 0 where
   pub unseen : IsWordNext (slot_progress slot) → (part_at slot.parts (part_next (slot_progress slot))).lookups ≡ []
   pub following : IsDue (slot_progress slot) → (k : ℕ) → part_next (slot_progress slot) < k → part_at slot.parts k ≡ nothing_filled
+  pub unsealed : IsDue (slot_progress slot) → slot.is_sealed ≡ false
 
 -- ---- what is kept of it
+
+-- the slot of a message with these arguments, which is sealed or not
+abbrev pub kept_slot : Head → List Part → Bool → Slot
+kept_slot head kept sealed = record { head = head; parts = map filled_of kept; is_sealed = sealed }
 
 -- nothing is copied or seen of the arguments after one that isn't finished
 abbrev pub AreInOrder : List Part → Type 0
@@ -143,10 +153,10 @@ pub record IsSealOf (slot : Slot) (copies : Snapshot) : Type 0 where
   pub args : slot_progress slot ≡ Ready copies.parts
   pub head : copies ≡ snapshot_with slot.head copies.parts
 
--- the same, with the copies that are kept if it was sealed
+-- the invariant of a message and its arguments, with its copies if it is sealed
 pub record IsSlotWith (head : Head) (kept : List Part) (copies : Option Snapshot) : Type 0 where
   pub slot : IsSlot head kept
-  pub sealed : IfSome copies (IsSealOf (record { head = head; parts = map filled_of kept }))
+  pub sealed : IfSome copies (IsSealOf (kept_slot head kept (is_some copies)))
 
 -- no word is copied of the arguments from this index on
 abbrev pub AreNotBegun : List Part → ℕ → Type 0

@@ -1,7 +1,9 @@
--- The slots of messages by their numbers, and how each call on one of them changes them.
-use Rattle.std.specs.Prelude.{◌≡◌, ◌<◌, ◌≤◌, ◌==◌, ℕ, Bool, if◌then◌else◌, List, find, get_or, length, Option, Some, None}
+-- The slots of messages by their numbers, how each call on one of them changes them, and how they are kept.
+use Rattle.std.specs.Prelude.{◌≡◌, ◌<◌, ◌≤◌, ◌==◌, ℕ, Bool, if◌then◌else◌, List, All, filter_map, find, get_or, length, Option, Some, None, option_map}
 use Rattle.std.specs.List.{AllPairs}
+use Rattle.slab.specs.Slab.{Slab, get, slab_len}
 use Rattle.st_lookaside.specs.Slot.{Slot}
+use Rattle.st_lookaside.specs.declared.slots.SlotKey.{SlotKey}
 
 -- whether a slot has this number
 abbrev pub is_slot_of : ℕ → Slot → Bool
@@ -20,19 +22,43 @@ abbrev pub RenewsSlot : List Slot → ℕ → ℕ → Slot → List Slot → Typ
 RenewsSlot old seq fresh slot new =
     (other : ℕ) → slot_at new other ≡ (if other == fresh then Some slot else if other == seq then None else slot_at old other)
 
--- ---- the indices of slots
+-- ---- the keys of slots
+
+-- whether a key is that of the slot of this number
+abbrev pub is_key_of : ℕ → SlotKey → Bool
+is_key_of seq key = key.seq == seq
+
+-- the key of the slot of this number, if it has one
+abbrev pub key_at : List SlotKey → ℕ → Option ℕ
+key_at keys seq = option_map (λ key. key.key) (find (is_key_of seq) keys)
 
 -- the numbers are ascending
-abbrev pub AreAscending : List Slot → Type 0
-AreAscending slots = AllPairs (λ slot later. slot.head.seq < later.head.seq) slots
+abbrev pub AreAscending : List SlotKey → Type 0
+AreAscending keys = AllPairs (λ key later. key.seq < later.seq) keys
 
--- the slot of this number is at this index
-pub record IsSlotAt (slots : List Slot) (seq i : ℕ) : Type 0 where
-  pub within : i < length slots
-  pub here : (d : Slot) → (get_or slots i d).head.seq ≡ seq
+-- the key of this number is at this index
+pub record IsKeyAt (keys : List SlotKey) (seq i : ℕ) : Type 0 where
+  pub within : i < length keys
+  pub here : (d : SlotKey) → (get_or keys i d).seq ≡ seq
 
--- no slot has this number, and it would be inserted at this index
-pub record IsGap (slots : List Slot) (seq i : ℕ) : Type 0 where
-  pub within : i ≤ length slots
-  pub before : (k : ℕ) (d : Slot) → k < i → (get_or slots k d).head.seq < seq
-  pub following : (k : ℕ) (d : Slot) → i ≤ k → k < length slots → seq < (get_or slots k d).head.seq
+-- no key is of this number, and it would be inserted at this index
+pub record IsGap (keys : List SlotKey) (seq i : ℕ) : Type 0 where
+  pub within : i ≤ length keys
+  pub before : (k : ℕ) (d : SlotKey) → k < i → (get_or keys k d).seq < seq
+  pub following : (k : ℕ) (d : SlotKey) → i ≤ k → k < length keys → seq < (get_or keys k d).seq
+
+-- ---- what is kept
+
+-- the slots under these keys, in their order
+abbrev pub slots_of : Slab Slot → List SlotKey → List Slot
+slots_of slab keys = filter_map (λ (key : SlotKey). get slab key.key) keys
+
+-- the slot under this key has its number
+abbrev pub HasSlot : Slab Slot → SlotKey → Type 0
+HasSlot slab key = option_map (λ (slot : Slot). slot.head.seq) (get slab key.key) ≡ Some key.seq
+
+-- each number has its slot under its key, and there are no other slots
+pub record HasSlots (slab : Slab Slot) (keys : List SlotKey) : Type 0 where
+  pub ascending : AreAscending keys
+  pub slots : All (HasSlot slab) keys
+  pub count : slab_len slab ≡ length keys

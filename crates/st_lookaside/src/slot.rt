@@ -1,4 +1,4 @@
-ghost use Rattle.std.specs.Prelude.{◌≡◌, ◌<◌, ℕ, false, not, All, map, get_or, length, position, Option, Some, None, IfSome, IsNone, IfOk, OnOk, OnErr};
+ghost use Rattle.std.specs.Prelude.{◌≡◌, ◌<◌, ℕ, true, false, not, All, map, get_or, length, position, Option, Some, None, IfSome, IsNone, IfOk, OnOk, OnErr};
 ghost use Rattle.st_calls.specs.Argument.{args_of};
 ghost use Rattle.st_lookaside.specs.Head.{arg_request};
 ghost use Rattle.st_lookaside.specs.Need.{is_finished, IsShort};
@@ -43,14 +43,13 @@ pub struct Slot {
 }
 
 impl Model for Slot {
-    ghost use Rattle.std.specs.Prelude.{map};
-    ghost use Rattle.st_lookaside.specs.Part.{filled_of};
+    ghost use Rattle.std.specs.Prelude.{is_some};
     ghost use Rattle.st_lookaside.specs.Slot as slot;
-    ghost use Rattle.st_lookaside.specs.Slot.{IsSlotWith};
+    ghost use Rattle.st_lookaside.specs.Slot.{kept_slot, IsSlotWith};
 
     ghost Value = { slot.Slot };
 
-    ghost view = { λ s. record { head = s.head; parts = map filled_of s.parts.items } };
+    ghost view = { λ s. kept_slot s.head s.parts.items (is_some s.sealed) };
 
     ghost invariant = { λ s. IsSlotWith s.head s.parts.items s.sealed };
 }
@@ -92,7 +91,7 @@ fn restart(parts: &mut [Part], head: &Head)
 
 impl Slot {
     ghost use Rattle.st_lookaside.specs.Slot as slot;
-    ghost use Rattle.st_lookaside.specs.Slot.{after_look, after_word, new_slot, next_need, part_next, slot_progress, renewed, snapshot_with, IsInOrder, IsInside, IsLookNext, HasAllArguments, IsWordNext};
+    ghost use Rattle.st_lookaside.specs.Slot.{after_look, after_word, new_slot, next_need, part_next, slot_progress, renewed, sealed_slot, snapshot_with, IsInOrder, IsInside, IsLookNext, HasAllArguments, IsWordNext};
 
     /// A message of which nothing is copied or seen, with room for every word.
     pub fn new(alloc: Global, head: Head) -> Result<Self, AllocError>
@@ -222,26 +221,32 @@ impl Slot {
         })
     }
 
-    /// The message with the texts of its arguments, as they were copied and looked up. They are made only if it wasn't sealed.
-    pub fn copies(&self, alloc: Global) -> Result<Shared<Snapshot>, AllocError>
-        requires { HasAllArguments (slot_progress self.now) }
-        ensures args { IfOk result (λ snapshot. slot_progress self.now ≡ Ready snapshot.parts) }
-        ensures head { IfOk result (λ snapshot. snapshot ≡ snapshot_with self.now.head snapshot.parts) }
+    /// The message with the texts of its arguments, as they were copied and looked up, which was made when it was sealed.
+    pub fn copies(&self) -> &Shared<Snapshot>
+        requires { self.now.is_sealed ≡ true }
+        ensures args { slot_progress self.now ≡ Ready result.now.parts }
+        ensures head { result.now ≡ snapshot_with self.now.head result.now.parts }
     {
-        match &self.sealed {
-            Some(copies) => copies.share(),
-            None => Shared::new(alloc, self.snapshot(alloc)?),
-        }
+        let Some(copies) = &self.sealed else {
+            unreachable!()
+        };
+        copies
     }
 
-    /// The same, which is kept here until something is undone or the message begins anew, so that it is made only once.
+    /// Makes the message with the texts of its arguments, and keeps it here until something is undone or the message begins anew, so that
+    /// it is made only once. If memory runs out, nothing changes.
     pub fn seal(&mut self, alloc: Global) -> Result<Shared<Snapshot>, AllocError>
         requires { HasAllArguments (slot_progress self.old) }
-        ensures same { self.new ≡ self.old }
+        ensures same { self.new.head ≡ self.old.head }
+        ensures ok { OnOk result (self.new ≡ sealed_slot self.old) }
+        ensures err { OnErr result (self.new ≡ self.old) }
         ensures args { IfOk result (λ snapshot. slot_progress self.old ≡ Ready snapshot.parts) }
         ensures head { IfOk result (λ snapshot. snapshot ≡ snapshot_with self.old.head snapshot.parts) }
     {
-        let copies = self.copies(alloc)?;
+        if let Some(copies) = &self.sealed {
+            return copies.share();
+        }
+        let copies = Shared::new(alloc, self.snapshot(alloc)?)?;
         self.sealed = Some(copies.share()?);
         Ok(copies)
     }

@@ -1,15 +1,16 @@
-ghost use Rattle.std.specs.Prelude.{◌≡◌, ◌<◌, ℕ, [], Some, None, IsSome, IfSome, IfOk, IfErr, OnOk, OnErr, length, slice_index_or, remove};
+ghost use Rattle.std.specs.Prelude.{◌≡◌, ◌<◌, ◌≤◌, ℕ, true, [], Some, None, IsSome, IfSome, IfOk, IfErr, OnOk, OnErr, length, slice_index_or, insert, remove};
 ghost use Rattle.std.specs.VecDeque.{deque_capacity};
 ghost use Rattle.st_effects.specs.Progress.{Look, Ready};
 ghost use Rattle.st_lookaside.specs.Need.{IsShort};
 ghost use Rattle.st_lookaside.specs.Slot as slot;
-ghost use Rattle.st_lookaside.specs.Slot.{after_look, after_word, new_slot, next_need, part_next, slot_progress, renewed, snapshot_with, IsInOrder, IsInside, IsLookNext, HasAllArguments, IsWordNext};
-ghost use Rattle.st_lookaside.specs.Slots.{slot_at, AreAscending, ChangesSlot, IsSlotAt, IsGap, RenewsSlot};
+ghost use Rattle.st_lookaside.specs.Slot.{after_look, after_word, new_slot, next_need, part_next, slot_progress, renewed, sealed_slot, snapshot_with, IsInOrder, IsInside, IsLookNext, HasAllArguments, IsWordNext};
+ghost use Rattle.st_lookaside.specs.Slots.{key_at, slot_at, AreAscending, ChangesSlot, IsKeyAt, IsGap, RenewsSlot};
 ghost use Rattle.st_names.specs.Seen.{seen_text};
 ghost use Rattle.st_names.specs.declared.seen.SeenText.{SeenText};
 
 use crate::head::Head;
 use crate::slot::{Next, Slot};
+use slab::Slab;
 use st_base::{Ids, Seq, Shared};
 use st_calls::Snapshot;
 use st_names::{AbsName, Seen};
@@ -17,79 +18,110 @@ use std::alloc::{AllocError, Global};
 use std::collections::VecDeque;
 use std::marker::Model;
 
+/// The number of a message, and the key of its slot.
+#[derive(Clone, Copy, Debug)]
+struct SlotKey {
+    seq: Seq,
+    key: usize,
+}
+
 /// The messages under way by their numbers, and what is copied and seen for each. A message is found in logarithmic time. A thread has at
-/// most one, so there are few.
+/// most one, so there are few. No slot is moved when another begins, is renewed or ends.
 #[derive(Debug, Drop)]
 pub struct Slots {
-    // In the order of their numbers. The first to begin usually ends first, and then no other slot is moved.
-    slots: VecDeque<Slot>,
+    // In the order of their numbers. The first to begin usually ends first, and then no other is moved.
+    keys: VecDeque<SlotKey>,
+    slab: Slab<Slot>,
 }
 
 impl Model for Slots {
     ghost use Rattle.std.specs.Prelude.{List};
     ghost use Rattle.st_lookaside.specs.Slot as slot;
-    ghost use Rattle.st_lookaside.specs.Slots.{AreAscending};
+    ghost use Rattle.st_lookaside.specs.Slots.{slots_of, HasSlots};
 
     ghost Value = { List slot.Slot };
 
-    ghost view = { λ s. s.slots.items };
+    ghost view = { λ s. slots_of s.slab s.keys.items };
 
-    ghost invariant = { λ s. AreAscending s.slots.items };
+    ghost invariant = { λ s. HasSlots s.slab s.keys.items };
 }
 
-// The index of the slot of this number, if it is the number less that of the first slot. Calls usually end in the order in which they were
+// The index of the key of this number, if it is the number less the first number. Calls usually end in the order in which they were
 // entered, and then it is. If few are under way, it usually is the first.
 #[inline]
-fn guess_of(slots: &VecDeque<Slot>, seq: Seq) -> Option<usize>
-    ensures { IfSome result (IsSlotAt slots.now.items seq) }
+fn guess_of(keys: &VecDeque<SlotKey>, seq: Seq) -> Option<usize>
+    ensures { IfSome result (IsKeyAt keys.now.items seq) }
 {
-    let first = slots.front()?;
-    let place = seq.checked_sub(first.head().seq)? as usize;
+    let first = keys.front()?;
+    let place = seq.checked_sub(first.seq)? as usize;
     if place == 0 {
         return Some(0);
     }
-    let slot = slots.get(place)?;
-    if slot.head().seq == seq {
+    if keys.get(place)?.seq == seq {
         Some(place)
     } else {
         None
     }
 }
 
-// The same for any slot, in logarithmic time.
+// The same for any key, in logarithmic time.
 #[inline(never)]
-fn search_of(slots: &VecDeque<Slot>, seq: Seq) -> Result<usize, usize>
-    requires { AreAscending slots.now.items }
-    ensures found { IfOk result (IsSlotAt slots.now.items seq) }
-    ensures missing { IfErr result (IsGap slots.now.items seq) }
+fn search_of(keys: &VecDeque<SlotKey>, seq: Seq) -> Result<usize, usize>
+    requires { AreAscending keys.now.items }
+    ensures found { IfOk result (IsKeyAt keys.now.items seq) }
+    ensures missing { IfErr result (IsGap keys.now.items seq) }
 {
-    slots.binary_search_by_key(&seq, |slot| slot.head().seq)
+    keys.binary_search_by_key(&seq, |key| key.seq)
 }
 
-// The index of the slot of this number, or the index at which it would be inserted.
+// The index of the key of this number, or the index at which it would be inserted.
 #[inline]
-fn place_of(slots: &VecDeque<Slot>, seq: Seq) -> Result<usize, usize>
-    requires { AreAscending slots.now.items }
-    ensures found { IfOk result (IsSlotAt slots.now.items seq) }
-    ensures missing { IfErr result (IsGap slots.now.items seq) }
+fn place_of(keys: &VecDeque<SlotKey>, seq: Seq) -> Result<usize, usize>
+    requires { AreAscending keys.now.items }
+    ensures found { IfOk result (IsKeyAt keys.now.items seq) }
+    ensures missing { IfErr result (IsGap keys.now.items seq) }
 {
-    match guess_of(slots, seq) {
+    match guess_of(keys, seq) {
         Some(place) => Ok(place),
-        None => search_of(slots, seq),
+        None => search_of(keys, seq),
     }
 }
 
-// Removes the slot at an index, which leaves room for another.
-fn take_out(slots: &mut VecDeque<Slot>, place: usize) -> Slot
-    requires { place < length slots.old.items }
-    ensures items { slots.new.items ≡ remove slots.old.items place }
-    ensures value { result ≡ slice_index_or slots.old.items place result }
-    ensures room { length slots.new.items < deque_capacity slots.new }
+// The key of the slot of a number that has one.
+#[inline]
+fn key_of(keys: &VecDeque<SlotKey>, seq: Seq) -> usize
+    requires ascending { AreAscending keys.now.items }
+    requires some { IsSome (key_at keys.now.items seq) }
+    ensures { key_at keys.now.items seq ≡ Some result }
 {
-    let Some(slot) = slots.remove(place) else {
+    let Ok(place) = place_of(keys, seq) else {
         unreachable!()
     };
-    slot
+    keys[place].key
+}
+
+// Removes the key at an index, which leaves room for another.
+fn take_out(keys: &mut VecDeque<SlotKey>, place: usize) -> usize
+    requires { place < length keys.old.items }
+    ensures items { keys.new.items ≡ remove keys.old.items place }
+    ensures value { (d : SlotKey) → result ≡ (slice_index_or keys.old.items place d).key }
+    ensures room { length keys.new.items < deque_capacity keys.new }
+{
+    let Some(taken) = keys.remove(place) else {
+        unreachable!()
+    };
+    taken.key
+}
+
+// Inserts the key of a number at an index, for which there is room.
+fn put_in(keys: &mut VecDeque<SlotKey>, place: usize, seq: Seq, key: usize)
+    requires place { place ≤ length keys.old.items }
+    requires room { length keys.old.items < deque_capacity keys.old }
+    ensures { keys.new.items ≡ insert keys.old.items place (record { seq = seq; key = key }) }
+{
+    let Ok(()) = keys.insert(place, SlotKey { seq, key }) else {
+        unreachable!()
+    };
 }
 
 impl Slots {
@@ -98,7 +130,8 @@ impl Slots {
         ensures { result ≡ [] }
     {
         Slots {
-            slots: VecDeque::new(alloc),
+            keys: VecDeque::new(alloc),
+            slab: Slab::new(alloc),
         }
     }
 
@@ -109,11 +142,16 @@ impl Slots {
         ensures ok { OnOk result (ChangesSlot self.old head.seq (Some (new_slot head)) self.new) }
         ensures err { OnErr result (self.new ≡ self.old) }
     {
-        let Err(place) = place_of(&self.slots, head.seq) else {
+        let seq = head.seq;
+        let Err(place) = place_of(&self.keys, seq) else {
             unreachable!()
         };
+        self.keys.reserve(1)?;
         let slot = Slot::new(alloc, head)?;
-        self.slots.insert(place, slot)?;
+        let Ok(key) = self.slab.insert(slot) else {
+            return Err(AllocError);
+        };
+        put_in(&mut self.keys, place, seq, key);
         Ok(())
     }
 
@@ -122,10 +160,7 @@ impl Slots {
         requires { IsSome (slot_at self.now seq) }
         ensures { slot_at self.now seq ≡ Some result.now }
     {
-        let Ok(place) = place_of(&self.slots, seq) else {
-            unreachable!()
-        };
-        &self.slots[place]
+        &self.slab[key_of(&self.keys, seq)]
     }
 
     /// What a message needs next.
@@ -145,10 +180,7 @@ impl Slots {
         ensures next { IfSome (slot_at self.old seq) (λ slot. result ≡ next_need (slot_progress (after_word slot word))) }
         ensures order { IfSome (slot_at self.old seq) IsInOrder }
     {
-        let Ok(place) = place_of(&self.slots, seq) else {
-            unreachable!()
-        };
-        let slot = &mut self.slots[place];
+        let slot = &mut self.slab[key_of(&self.keys, seq)];
         slot.fill(word)
     }
 
@@ -159,10 +191,7 @@ impl Slots {
         ensures same { self.new ≡ self.old }
         ensures name { IfOk result (λ name. IfSome (slot_at self.old seq) (λ slot. slot_progress slot ≡ Look (part_next (slot_progress slot)) name)) }
     {
-        let Ok(place) = place_of(&self.slots, seq) else {
-            unreachable!()
-        };
-        let slot = &mut self.slots[place];
+        let slot = &mut self.slab[key_of(&self.keys, seq)];
         slot.next_name(alloc)
     }
 
@@ -176,35 +205,31 @@ impl Slots {
         ensures order { IfSome (slot_at self.old seq) IsInOrder }
         ensures err { OnErr result (self.new ≡ self.old) }
     {
-        let Ok(place) = place_of(&self.slots, seq) else {
-            unreachable!()
-        };
-        let slot = &mut self.slots[place];
+        let slot = &mut self.slab[key_of(&self.keys, seq)];
         slot.take_look(alloc, seen)
     }
 
-    /// A message with the texts of its arguments, as they were copied and looked up. They are made only if it wasn't sealed.
-    pub fn copies(&self, alloc: Global, seq: Seq) -> Result<Shared<Snapshot>, AllocError>
+    /// A sealed message with the texts of its arguments, as they were copied and looked up.
+    pub fn copies(&self, seq: Seq) -> &Shared<Snapshot>
         requires slot { IsSome (slot_at self.now seq) }
-        requires ready { IfSome (slot_at self.now seq) (λ slot. HasAllArguments (slot_progress slot)) }
-        ensures args { IfOk result (λ snapshot. IfSome (slot_at self.now seq) (λ slot. slot_progress slot ≡ Ready snapshot.parts)) }
-        ensures head { IfOk result (λ snapshot. IfSome (slot_at self.now seq) (λ slot. snapshot ≡ snapshot_with slot.head snapshot.parts)) }
+        requires sealed { IfSome (slot_at self.now seq) (λ slot. slot.is_sealed ≡ true) }
+        ensures args { IfSome (slot_at self.now seq) (λ slot. slot_progress slot ≡ Ready result.now.parts) }
+        ensures head { IfSome (slot_at self.now seq) (λ slot. result.now ≡ snapshot_with slot.head result.now.parts) }
     {
-        self.slot(seq).copies(alloc)
+        self.slot(seq).copies()
     }
 
-    /// The same, which is kept until something is undone or the message begins anew, so that it is made only once.
+    /// Makes a message with the texts of its arguments, and keeps it until something is undone or the message begins anew, so that it is
+    /// made only once. If memory runs out, nothing changes.
     pub fn seal(&mut self, alloc: Global, seq: Seq) -> Result<Shared<Snapshot>, AllocError>
         requires slot { IsSome (slot_at self.old seq) }
         requires ready { IfSome (slot_at self.old seq) (λ slot. HasAllArguments (slot_progress slot)) }
-        ensures same { self.new ≡ self.old }
+        ensures ok { OnOk result (IfSome (slot_at self.old seq) (λ slot. ChangesSlot self.old seq (Some (sealed_slot slot)) self.new)) }
+        ensures err { OnErr result (self.new ≡ self.old) }
         ensures args { IfOk result (λ snapshot. IfSome (slot_at self.old seq) (λ slot. slot_progress slot ≡ Ready snapshot.parts)) }
         ensures head { IfOk result (λ snapshot. IfSome (slot_at self.old seq) (λ slot. snapshot ≡ snapshot_with slot.head snapshot.parts)) }
     {
-        let Ok(place) = place_of(&self.slots, seq) else {
-            unreachable!()
-        };
-        let slot = &mut self.slots[place];
+        let slot = &mut self.slab[key_of(&self.keys, seq)];
         slot.seal(alloc)
     }
 
@@ -214,10 +239,7 @@ impl Slots {
         ensures word { (before : slot.Slot) (word : ℕ) → IsInOrder before → IsWordNext (slot_progress before) → slot_at self.old seq ≡ Some (after_word before word) → ChangesSlot self.old seq (Some before) self.new }
         ensures look { (before : slot.Slot) (seen : SeenText) → IsInOrder before → IsLookNext (slot_progress before) → slot_at self.old seq ≡ Some (after_look before seen) → ChangesSlot self.old seq (Some before) self.new }
     {
-        let Ok(place) = place_of(&self.slots, seq) else {
-            unreachable!()
-        };
-        let slot = &mut self.slots[place];
+        let slot = &mut self.slab[key_of(&self.keys, seq)];
         slot.take_back();
     }
 
@@ -229,18 +251,16 @@ impl Slots {
         requires short { IsShort cwd }
         ensures { IfSome (slot_at self.old old) (λ slot. RenewsSlot self.old old new (renewed slot new ids cwd) self.new) }
     {
-        let Ok(place) = place_of(&self.slots, old) else {
+        let Ok(place) = place_of(&self.keys, old) else {
             unreachable!()
         };
-        let mut slot = take_out(&mut self.slots, place);
+        let key = take_out(&mut self.keys, place);
+        let slot = &mut self.slab[key];
         slot.renew(new, ids, cwd);
-        let Err(place) = place_of(&self.slots, new) else {
+        let Err(place) = place_of(&self.keys, new) else {
             unreachable!()
         };
-        // There is room, since one slot was just removed.
-        let Ok(()) = self.slots.insert(place, slot) else {
-            unreachable!()
-        };
+        put_in(&mut self.keys, place, new, key);
     }
 
     /// Ends the slot of a number. It takes no memory.
@@ -248,9 +268,10 @@ impl Slots {
         requires { IsSome (slot_at self.old seq) }
         ensures { ChangesSlot self.old seq None self.new }
     {
-        let Ok(place) = place_of(&self.slots, seq) else {
+        let Ok(place) = place_of(&self.keys, seq) else {
             unreachable!()
         };
-        let _ = take_out(&mut self.slots, place);
+        let key = take_out(&mut self.keys, place);
+        let _ = self.slab.remove(key);
     }
 }

@@ -7,13 +7,11 @@ use Rattle.st_base.specs.Numbered.{item_at_number}
 use Rattle.st_compile.specs.Table.{BinaryAnswers, IsTableOf}
 use Rattle.st_trace.specs.declared.start.ThreadRow as start
 use Rattle.st_law.specs.declared.input.Input.{Input}
-use Rattle.st_law.specs.Inputs.{IsStartable}
 use Rattle.st_law.specs.Machine.{first_state, first_thread}
 use Rattle.st_law.specs.State.{is_live}
 use Rattle.st_law.specs.Threads.{body_of_row}
 use Rattle.st_learn.specs.Operator.{Added, IsAdded}
-use Rattle.st_reached.specs.Grants.{RepliesUngranted, SetIdsUngranted}
-use Rattle.st_reached.specs.Scripts.{IsBounded}
+use Rattle.st_reached.specs.Runnable.{CanRun}
 use Rattle.st_system.specs.System.{IsSystem, Parts}
 use Rattle.st_workers.specs.Refinement.{RepresentsMessages}
 use Rattle.st_workers.specs.UnderWay.{UnderWay}
@@ -35,13 +33,13 @@ module _ (i : Input) (system : Parts) (workers : UnderWay) (threads : List Threa
     by None e = tt
     by (Some row) e = record { left = ap body_of_row e; pending = refl; number = λ q e. absurd (none-some q e); dying = refl; ended = refl }
 
-  pub begun : IsStartable i → IsBounded i.start → SetIdsUngranted i.policies → RepliesUngranted i.replies → IsSystem i (first_state i) system → RepresentsMessages i (first_state i) (is_live (first_state i)) workers → IsTableOf i.policies answers → IsAdded i (first_state i) operator
+  pub begun : CanRun i → IsSystem i (first_state i) system → RepresentsMessages i (first_state i) (is_live (first_state i)) workers → IsTableOf i.policies answers → IsAdded i (first_state i) operator
       → Refines (record { input = i; system = system; workers = workers; threads = threads; answers = answers; operator = operator }) (first_state i)
-  begun startable bounded ungranted replies is_system is_kept is_table is_added = record {
-    reached = reached_first i startable;
-    bounded = bounded;
-    ungranted = ungranted;
-    replies = replies;
+  begun can_run is_system is_kept is_table is_added = record {
+    reached = reached_first i can_run.startable;
+    bounded = can_run.bounded;
+    ungranted = can_run.ungranted;
+    replies = can_run.replies;
     system = is_system;
     workers = is_kept;
     threads = rows;

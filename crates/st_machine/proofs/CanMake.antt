@@ -3,6 +3,7 @@ use native.Mathlib.Omega.{arith}
 use Rattle.std.proofs.Common.{◌≡◌, ◌≤◌, ◌∙◌, ◌==◌, suc, ℕ, ◌+◌, not, Bool, true, Option, Some, None, refl, ap, sym, subst}
 use Rattle.std.specs.Prelude.{is_some}
 use Rattle.st_base.specs.Numbered.{item_at_number}
+use Rattle.st_calls.specs.Call.{sets_ids}
 use Rattle.st_calls.specs.declared.call.SysCall.{SysCall}
 use Rattle.st_calls.specs.declared.call.SysCall.TheVariants.{Fork, Execve, SetUid, SetEuid, SetGid, SetEgid}
 use Rattle.st_effects.specs.System as effects
@@ -10,7 +11,6 @@ use Rattle.st_law.specs.declared.input.Input.{Input}
 use Rattle.st_law.specs.Lawful.{IsUsed}
 use Rattle.st_law.specs.Machine.{state_of_run}
 use Rattle.st_law.specs.Processes.{process_count}
-use Rattle.st_law.specs.Schedules as schedules
 use Rattle.st_law.specs.Schedules.{instruction_count}
 use Rattle.st_law.specs.State.{State, child_of_pending}
 use Rattle.st_model.specs.Processes.{pid_of, process_at}
@@ -73,7 +73,7 @@ module _ (m : Running) (st : State) (is : Refines m st) (t pid : ℕ) (ready : R
       ap (λ (n : ℕ). (st.threads n).owner) child ∙ none
 
   -- a call that sets ids is made under its process's own ids
-  own_ids : schedules.sets_ids ready.call ≡ true → ready.ids ≡ (process_at m.system.processes pid).ids
+  own_ids : sets_ids ready.call ≡ true → ready.ids ≡ (process_at m.system.processes pid).ids
   own_ids sets =
       let setting : SetsOwnIds m.input st = in_run (SetsOwnIds m.input) (sets_own_ids m.input is.reached.startable is.ungranted is.replies is.reached.choices) in
       let outcome = now m st is t pid ready next process row row_is in
@@ -95,10 +95,10 @@ module _ (m : Running) (st : State) (is : Refines m st) (t pid : ℕ) (ready : R
         let spaces = few_memories in
         let spaces_are = is.system.next_space in
         omega (arith, spaces, spaces_are)
-    by SetUid e x = own_ids (ap schedules.sets_ids e)
-    by SetEuid e x = own_ids (ap schedules.sets_ids e)
-    by SetGid e x = own_ids (ap schedules.sets_ids e)
-    by SetEgid e x = own_ids (ap schedules.sets_ids e)
+    by SetUid e x = own_ids (ap sets_ids e)
+    by SetEuid e x = own_ids (ap sets_ids e)
+    by SetGid e x = own_ids (ap sets_ids e)
+    by SetEgid e x = own_ids (ap sets_ids e)
     by _ e x = x
 
 -- the same by a view of the machine, where it is known whether the thread that the call starts has started

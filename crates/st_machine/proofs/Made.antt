@@ -8,13 +8,13 @@ use Rattle.st_law.specs.Messages.{Head}
 use Rattle.st_law.specs.State.{State, ThreadState}
 use Rattle.st_law.proofs.QuietChanges.{fold_same, mute_of, AreMute, IsNoRenewal}
 use Rattle.st_law.proofs.Shapes.{AreQuiet, Each, IsQuiet}
-use Rattle.st_model.specs.Processes.{Processes, StartedThread, thread_at}
+use Rattle.st_model.specs.Processes.{Processes, StartedThread, thread_at, owner_of}
 use Rattle.st_reached.specs.Reached.{is_head_of, life_after_change, life_after_changes}
 use Rattle.st_reached.proofs.Life.{eqb-sym}
 use Rattle.st_system.specs.System.{IsThreadState}
 use Rattle.st_trace.specs.declared.entry.Change.{Change}
 use Rattle.st_trace.specs.declared.entry.Change.TheVariants.{Dying, Execed, Forked, Renewed}
-use Rattle.st_threads.specs.Ending.{ends_with, is_ended_by, is_head_among, life_but, owner_of}
+use Rattle.st_threads.specs.Ending.{ends_with, is_ended_by, is_head_among, life_but}
 
 -- ---- changes that neither renew a number nor start a thread
 

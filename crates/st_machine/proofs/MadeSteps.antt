@@ -6,8 +6,9 @@ use Rattle.std.proofs.lemmas.Option.{none-some, same_Some}
 use Rattle.std.specs.Option.{option_map}
 use Rattle.std.specs.Prelude.{IfSome}
 use Rattle.st_base.specs.Numbered.{item_at_number}
+use Rattle.st_calls.specs.Call.{sets_ids}
 use Rattle.st_calls.specs.declared.call.SysCall.{SysCall}
-use Rattle.st_calls.specs.declared.call.SysCall.TheVariants.{Fork, SetUid, SetEuid, SetGid, SetEgid}
+use Rattle.st_calls.specs.declared.call.SysCall.TheVariants.{Fork}
 use Rattle.st_effects.specs.Changes.{dying_after, process_after}
 use Rattle.st_effects.specs.Effect.{effect}
 use Rattle.st_effects.specs.System as effects
@@ -16,7 +17,6 @@ use Rattle.st_law.specs.Inputs as inputs
 use Rattle.st_law.specs.Lawful.{IsUnheld, IsPending, IsUsed}
 use Rattle.st_law.specs.Machine.{entry_of, state_after, thread_after}
 use Rattle.st_law.specs.Messages.{Head}
-use Rattle.st_law.specs.Schedules as schedules
 use Rattle.st_law.specs.State.{State, child_of_pending, is_live, is_live_by, request_of, system_of}
 use Rattle.st_law.specs.Threads.{PendingCall}
 use Rattle.st_law.proofs.Invariant as invariant
@@ -25,13 +25,13 @@ use Rattle.st_law.proofs.QuietChanges.{AreMute, mute_of, head_mute, posted_mute,
 use Rattle.st_law.proofs.Shapes.{Each, Shape, quiet, forked, execed, renewed}
 use Rattle.st_law.proofs.UsedShapes.{used_shape}
 use Rattle.st_messages.specs.Messages as calls
-use Rattle.st_model.specs.Processes.{pid_of}
+use Rattle.st_model.specs.Processes.{pid_of, owner_of}
 use Rattle.st_model.specs.Tree.{is_number}
 use Rattle.st_reached.specs.Reached.{life_after_changes}
 use Rattle.st_reached.proofs.LifeByEntry.{life_is}
 use Rattle.st_reached.proofs.Reached.{Reached, lawful_entry}
 use Rattle.st_request.specs.declared.outcome.Outcome.{Outcome}
-use Rattle.st_system.specs.Steps.{HasChild, IsCallMade, IsMade, renewals_of, sets_ids, with_renewals}
+use Rattle.st_system.specs.Steps.{HasChild, IsCallMade, IsMade, renewals_of, with_renewals}
 use Rattle.st_system.specs.System.{IsSystem, Parts}
 use Rattle.st_trace.specs.declared.entry.Change.{Change}
 use Rattle.st_trace.specs.declared.entry.Change.TheVariants.{Forked}
@@ -45,7 +45,7 @@ use Rattle.st_workers.specs.UnderWay.{UnderWay}
 use Rattle.st_workers.proofs.Closing.{closing_is_not_kept}
 use Rattle.st_workers.proofs.Ended.{lives_as}
 use Rattle.st_workers.proofs.Turns.{item_put, number_within}
-use Rattle.st_threads.specs.Ending.{AreLiveNumbersHeld, EndsCall, HasNumber, HaveCalls, HaveEnded, is_ended_by, is_head_among, life_but, life_without_number, owner_of, row_dying_if}
+use Rattle.st_threads.specs.Ending.{AreLiveNumbersHeld, EndsCall, HasNumber, HaveCalls, HaveEnded, is_ended_by, is_head_among, life_but, life_without_number, row_dying_if}
 use Rattle.st_decide.specs.Machine.{Refines, IsNextStep, IsStep, Running}
 use Rattle.st_decide.specs.Making.{child_of_row, request_with}
 use Rattle.st_threads.specs.Thread.{ThreadRow, IsRow, IsRowOf, number_by_way, number_held, number_pending}
@@ -58,14 +58,6 @@ use Rattle.st_machine.proofs.Made.{IsCalm, calm_when_execed, calm_when_quiet, dy
 use Rattle.st_decide.proofs.NextSteps.{owner_is, row_of}
 use Rattle.st_decide.proofs.Reached.{reached_of}
 use Rattle.st_threads.proofs.Rows.{held_number, none_closed, none_dying}
-
--- both definitions agree on whether a call sets ids
-same_sets : (call : SysCall) → sets_ids call ≡ schedules.sets_ids call
-same_sets SetUid = refl
-same_sets SetEuid = refl
-same_sets SetGid = refl
-same_sets SetEgid = refl
-same_sets _ = refl
 
 none_unheld : (n : ℕ) (way : Way) → IsUnheld way → None ≡ number_by_way n way
 none_unheld n Fast x = refl
@@ -148,7 +140,7 @@ module _ (m : Running) (st : State) (is : Refines m st) (t pid : ℕ) (ready : R
   pub calls_closed : (between : UnderWay) → EndsCall ready.seq m.workers between → HaveCalls closed between
   calls_closed between ends = record { input = m.input; state = st; alive = life_without_number (is_live st) ready.seq; kept = ends m.input st (is_live st) is.workers; held = are_closed }
 
-  module _ (sets_none : schedules.sets_ids ready.call ≡ false) (outcome : Outcome) (parts : Parts) (done : IsCallMade ready.call (request_with m t pid ready) outcome m.system parts) where
+  module _ (sets_none : sets_ids ready.call ≡ false) (outcome : Outcome) (parts : Parts) (done : IsCallMade ready.call (request_with m t pid ready) outcome m.system parts) where
     abbrev input : Input
     input = m.input
 
@@ -162,7 +154,7 @@ module _ (m : Running) (st : State) (is : Refines m st) (t pid : ℕ) (ready : R
     is_made = done input st is.system (request_is m st is t pid ready process row row_is) (has_child m st is t pid ready process row row_is ready.seq ready.call ready.regs now used) ready.seq
 
     unrenewed : with_renewals input st ready.call (request_with m t pid ready) outcome.result outcome.changes ≡ outcome.changes
-    unrenewed = ap (λ (b : Bool). cond b (outcome.changes ++ renewals_of input st (request_with m t pid ready) outcome.result) outcome.changes) (same_sets ready.call ∙ sets_none)
+    unrenewed = ap (λ (b : Bool). cond b (outcome.changes ++ renewals_of input st (request_with m t pid ready) outcome.result) outcome.changes) sets_none
 
     entry_is : entry_of input st (choice.Thread t) ≡ Some entry
     entry_is =
@@ -313,7 +305,7 @@ module _ (m : Running) (st : State) (is : Refines m st) (t pid : ℕ) (ready : R
     made_entry = entry_is
 
 -- a call is made, in each state that the machine represents
-pub making : (m : Running) (t pid : ℕ) (ready : ReadyCall) → IsNextStep m t (steps.Make ready) → pid_of m.system.processes t ≡ Some pid → (row : ThreadRow) → item_at_number m.threads t ≡ Some row → schedules.sets_ids ready.call ≡ false
+pub making : (m : Running) (t pid : ℕ) (ready : ReadyCall) → IsNextStep m t (steps.Make ready) → pid_of m.system.processes t ≡ Some pid → (row : ThreadRow) → item_at_number m.threads t ≡ Some row → sets_ids ready.call ≡ false
     → (outcome : Outcome) (parts : Parts) → IsCallMade ready.call (request_with m t pid ready) outcome m.system parts → (between left : UnderWay) (new : List ThreadRow) → EndsCall ready.seq m.workers between
     → HaveEnded (is_ended_by parts.processes t pid outcome.changes) (set m.threads (t - 1) (record row { pending = None })) between new left
     → IsStep m (choice.Thread t) (Some (Used t ready.seq ready.call ready.regs ready.args ready.ids outcome.result outcome.changes)) (with_parts m parts left new)

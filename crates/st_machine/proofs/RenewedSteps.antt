@@ -10,6 +10,7 @@ use Rattle.st_base.specs.Errno.{first_error}
 use Rattle.st_base.specs.Numbered.{item_at_number}
 use Rattle.st_base.specs.declared.errno.Errno.{Errno}
 use Rattle.st_base.specs.declared.ids.Ids.{Ids}
+use Rattle.st_calls.specs.Call.{sets_ids}
 use Rattle.st_calls.specs.declared.call.SysCall.{SysCall}
 use Rattle.st_calls.specs.declared.call.SysCall.TheVariants.{SetUid, SetEuid, SetGid, SetEgid}
 use Rattle.st_effects.specs.Changes.{dying_after_change, next_process_after_change, owner_after_change, process_after, process_after_change, seq_after}
@@ -25,13 +26,13 @@ use Rattle.st_law.specs.Schedules as schedules
 use Rattle.st_law.specs.State.{Message, State, ThreadState, held_from, is_live, request_of, system_of, thread_count}
 use Rattle.st_model.specs.Identity.{ids_after_set, set_refused}
 use Rattle.st_model.specs.Process.{Process}
-use Rattle.st_model.specs.Processes.{IsPid, next_pid, pid_of, process_at}
+use Rattle.st_model.specs.Processes.{IsPid, next_pid, pid_of, process_at, owner_of}
 use Rattle.st_reached.specs.Reached.{life_after_changes, most_numbers}
 use Rattle.st_reached.proofs.LifeByEntry.{life_is}
 use Rattle.st_reached.proofs.NumbersDrawn.{few_drawn}
 use Rattle.st_reached.proofs.Reached.{lawful_entry}
 use Rattle.st_request.specs.declared.outcome.Outcome.{Outcome}
-use Rattle.st_system.specs.Steps.{IsCallMade, IsMade, renewals_of, sets_ids, with_renewals}
+use Rattle.st_system.specs.Steps.{IsCallMade, IsMade, renewals_of, with_renewals}
 use Rattle.st_system.specs.System.{IsSystem, Parts}
 use Rattle.st_trace.specs.declared.entry.Change.{Change}
 use Rattle.st_trace.specs.declared.entry.Change.TheVariants.{SetIds}
@@ -41,7 +42,7 @@ use Rattle.st_trace.specs.declared.entry.Entry.TheVariants.{Used}
 use Rattle.st_workers.specs.Refinement.{RepresentsMachineMessages, RepresentsMessages}
 use Rattle.st_workers.specs.UnderWay.{UnderWay}
 use Rattle.st_workers.proofs.Closing.{closing_is_not_kept}
-use Rattle.st_threads.specs.Ending.{EndsCall, life_without_number, owner_of}
+use Rattle.st_threads.specs.Ending.{EndsCall, life_without_number}
 use Rattle.st_decide.specs.Machine.{Refines, IsNextStep, IsStep, Running}
 use Rattle.st_decide.specs.Making.{request_with}
 use Rattle.st_threads.specs.Renewing.{CanRenew, HaveRenewed, AreLiveAndDistinct, RenewsAll, numbers_from, renewals_from, rows_renewed}
@@ -59,14 +60,14 @@ use Rattle.st_threads.proofs.Rows.{none_closed}
 
 -- ---- the effect of a call that sets ids
 
-effect_sets : (call : SysCall) → schedules.sets_ids call ≡ true → (system : effects.System) (request : effects.Request) → effect system call request ≡ set_ids_outcome call system request
+effect_sets : (call : SysCall) → sets_ids call ≡ true → (system : effects.System) (request : effects.Request) → effect system call request ≡ set_ids_outcome call system request
 effect_sets SetUid sets system request = refl
 effect_sets SetEuid sets system request = refl
 effect_sets SetGid sets system request = refl
 effect_sets SetEgid sets system request = refl
 effect_sets _ sets system request = absurd (true≢false (sym sets))
 
-module _ (call : SysCall) (sets : schedules.sets_ids call ≡ true) (system : effects.System) (request : effects.Request) where
+module _ (call : SysCall) (sets : sets_ids call ≡ true) (system : effects.System) (request : effects.Request) where
   abbrev reason : Option Errno
   reason = set_refused call request.ids (slice_index_or request.regs 0 0)
 
@@ -317,7 +318,7 @@ room_for_all m st is =
     let count = is.count in
     omega (arith, drawn, fewer, few, threads, next, count)
 
-module _ (m : Running) (t pid : ℕ) (ready : ReadyCall) (next : IsNextStep m t (steps.Make ready)) (process : pid_of m.system.processes t ≡ Some pid) (row : ThreadRow) (row_is : item_at_number m.threads t ≡ Some row) (sets : schedules.sets_ids ready.call ≡ true)
+module _ (m : Running) (t pid : ℕ) (ready : ReadyCall) (next : IsNextStep m t (steps.Make ready)) (process : pid_of m.system.processes t ≡ Some pid) (row : ThreadRow) (row_is : item_at_number m.threads t ≡ Some row) (sets : sets_ids ready.call ≡ true)
     (outcome : Outcome) (parts : Parts) (done_is : IsCallMade ready.call (request_with m t pid ready) outcome m.system parts) (between : UnderWay) (closes : EndsCall ready.seq m.workers between) where
   abbrev shut : List ThreadRow
   shut = set m.threads (t - 1) (record row { pending = None })

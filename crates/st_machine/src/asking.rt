@@ -17,10 +17,11 @@ impl<'a> Machine<'a> {
         ensures place { OnErr result (added.new ≡ added.old) }
         ensures input { self.new.input ≡ self.old.input }
     {
-        let Some(copies) = self.view().least_question(alloc)? else {
+        let Some(copies) = self.view().least_question() else {
             leave_none(added);
             return Ok(());
         };
+        let copies = copies.share()?;
         leave(
             added,
             self.operator.answer(alloc, self.input, copies.get())?,

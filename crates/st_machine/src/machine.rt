@@ -1,5 +1,4 @@
 ghost use Rattle.std.specs.Prelude.{◌≡◌, IfOk, map};
-ghost use Rattle.st_law.specs.Inputs.{IsStartable};
 ghost use Rattle.st_law.specs.Machine.{first_state};
 ghost use Rattle.st_law.specs.State.{State, is_live};
 ghost use Rattle.st_compile.specs.Table.{IsTableOf};
@@ -7,9 +6,7 @@ ghost use Rattle.st_learn.specs.Operator.{IsAdded};
 ghost use Rattle.st_workers.specs.Refinement.{RepresentsMessages};
 ghost use Rattle.st_decide.specs.Machine.{Refines};
 ghost use Rattle.st_threads.specs.Thread.{first_row};
-ghost use Rattle.st_reached.specs.Grants.{RepliesUngranted, SetIdsUngranted};
-ghost use Rattle.st_reached.specs.Scripts.{IsBounded};
-ghost use Rattle.st_system.specs.Start.{CanStart};
+ghost use Rattle.st_reached.specs.Runnable.{CanRun};
 
 use st_compile::FastTable;
 use st_decide::View;
@@ -110,11 +107,7 @@ fn parts_of<'a>(alloc: Global, input: &'a Input) -> Result<Parts<'a>, AllocError
 impl<'a> Machine<'a> {
     /// The machine that a run of an input starts with.
     pub fn start(alloc: Global, input: &'a Input) -> Result<Self, AllocError>
-        requires startable { IsStartable input.now }
-        requires system { CanStart input.now }
-        requires bounded { IsBounded input.now.start }
-        requires ungranted { SetIdsUngranted input.now.policies }
-        requires replies { RepliesUngranted input.now.replies }
+        requires { CanRun input.now }
         ensures input { IfOk result (λ machine. machine.input ≡ input.now) }
         ensures first { IfOk result (λ machine. Refines machine (first_state input.now)) }
     {

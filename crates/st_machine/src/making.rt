@@ -1,12 +1,11 @@
 // Makes calls, and ends the threads and held calls that their changes end.
 ghost use Rattle.std.specs.Prelude.{◌≡◌, true, false, Some, IfOk, OnOk, OnErr};
-ghost use Rattle.st_law.specs.Schedules.{sets_ids};
 ghost use Rattle.st_machine.specs.Making.{MakesCall};
 ghost use Rattle.st_decide.specs.Machine.{IsNextStep, IsStep, SameState};
 ghost use Rattle.st_decide.specs.Making.{request_with};
 ghost use Rattle.st_decide.specs.NextSteps.{IsFit};
 ghost use Rattle.st_decide.specs.declared.step.Step.TheVariants as steps;
-ghost use Rattle.st_calls.specs.Call.{follows};
+ghost use Rattle.st_calls.specs.Call.{follows, sets_ids};
 ghost use Rattle.st_exec_fs.specs.Open.{IsNoLink};
 ghost use Rattle.st_model.specs.Processes.{pid_of, IsPid};
 ghost use Rattle.st_system.specs.Fit.{first_name};
@@ -16,22 +15,11 @@ ghost use Rattle.st_trace.specs.declared.entry.Choice.TheVariants.{Thread};
 use crate::machine::Machine;
 use crate::placing::leave;
 use st_base::{Pid, Tid};
-use st_calls::SysCall;
 use st_decide::ReadyCall;
 use st_request::Outcome;
 use st_threads::{end_by_all, end_call};
 use st_trace::Entry;
 use std::alloc::{AllocError, Global};
-
-// Whether a call sets ids.
-fn sets_ids(call: SysCall) -> bool
-    ensures { result ≡ sets_ids call }
-{
-    matches!(
-        call,
-        SysCall::SetUid | SysCall::SetEuid | SysCall::SetGid | SysCall::SetEgid
-    )
-}
 
 impl<'a> Machine<'a> {
     // Makes a thread's call that sets no ids. If memory runs out, the abstract state is unchanged.
@@ -86,7 +74,7 @@ impl<'a> Machine<'a> {
     {
         // A thread that has started has a process, and the thread that a fork starts has none.
         let _has_started = self.system.has_started(self.view().child_of(tid));
-        if sets_ids(ready.call) {
+        if ready.call.sets_ids() {
             self.make_and_renew(alloc, tid, pid, ready)
         } else {
             self.make(alloc, tid, pid, ready)

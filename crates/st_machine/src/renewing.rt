@@ -1,11 +1,10 @@
 // Gives held calls new numbers after a call that sets the ids of their process.
 ghost use Rattle.std.specs.Prelude.{◌≡◌, ◌≢◌, ◌<◌, ◌+◌, ◌-◌, ◌^◌, true, [], ◌∷◌, ◌++◌, length, replicate, slice_index_or, Some, None, IsSome, IfSome, IfOk, OnErr};
-ghost use Rattle.st_law.specs.Schedules.{sets_ids};
 ghost use Rattle.st_machine.specs.Making.{MakesCall};
 ghost use Rattle.st_decide.specs.Machine.{IsNextStep, SameState};
 ghost use Rattle.st_decide.specs.Making.{request_with};
 ghost use Rattle.st_decide.specs.declared.step.Step.TheVariants as steps;
-ghost use Rattle.st_calls.specs.Call.{follows};
+ghost use Rattle.st_calls.specs.Call.{follows, sets_ids};
 ghost use Rattle.st_exec_fs.specs.Open.{IsNoLink};
 ghost use Rattle.st_model.specs.Identity.{ids_after_set, set_refused};
 ghost use Rattle.st_model.specs.Processes.{pid_of, process_at, IsPid};

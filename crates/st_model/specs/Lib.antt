@@ -1,3 +1,4 @@
+pub mod Adding
 pub mod DescriptorCalls
 pub mod Descriptors
 pub mod Identity

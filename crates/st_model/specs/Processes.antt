@@ -1,6 +1,6 @@
 -- The rows of processes and threads, and how calls change them.
 use Rattle.st_base.specs.Numbered.{item_at_number_or, with_item_at_number}
-use Rattle.std.specs.Prelude.{ℕ, zero, suc, ◌<◌, ◌==◌, ◌&&◌, ◌||◌, not, nat_lt, if◌then◌else◌, Bool, true, false, List, [], ◌∷◌, ◌++◌, length, slice_index_or, slice_set, Option, Some, None}
+use Rattle.std.specs.Prelude.{ℕ, zero, suc, ◌<◌, ◌==◌, ◌&&◌, ◌||◌, not, nat_lt, if◌then◌else◌, Bool, true, false, List, [], ◌∷◌, ◌++◌, length, slice_index_or, slice_set, Option, Some, None, unwrap_or}
 use Rattle.std.specs.Option.{option_map}
 use Rattle.std.specs.Ordering.{nat_cmp}
 use Rattle.std.specs.List.{list_any}
@@ -45,6 +45,10 @@ thread_at processes tid = lookup (is_at (nat_cmp tid)) processes.threads
 -- the process of a thread; none if the thread hasn't started
 abbrev pub pid_of : Processes → ℕ → Option ℕ
 pid_of processes tid = option_map (λ thread. thread.pid) (thread_at processes tid)
+
+-- the process of a thread; 0 before it starts
+abbrev pub owner_of : Processes → ℕ → ℕ
+owner_of processes tid = unwrap_or (pid_of processes tid) 0
 
 -- whether there is a thread and it hasn't ended
 abbrev pub has_not_ended : Option StartedThread → Bool

@@ -1,4 +1,7 @@
+ghost use Rattle.std.specs.Prelude.{◌≡◌, IfOk};
+
 use st_base::Text;
+use std::alloc::{AllocError, Global};
 
 /// The kind of an object of the file tree.
 #[derive(Clone, Copy, Debug, PartialEq, Eq)]
@@ -17,6 +20,20 @@ pub struct NewNode {
     pub mode: u32,
 }
 
+impl NewNode {
+    /// A copy with its own content.
+    pub fn copy(&self, alloc: Global) -> Result<Self, AllocError>
+        ensures { IfOk result (λ copied. copied ≡ self.now) }
+    {
+        Ok(NewNode {
+            kind: self.kind.copy(alloc)?,
+            uid: self.uid,
+            gid: self.gid,
+            mode: self.mode,
+        })
+    }
+}
+
 /// The kind of an object to be made, with its content.
 #[derive(Debug, Drop)]
 pub enum NewKind {
@@ -25,4 +42,17 @@ pub enum NewKind {
     File(Text),
     /// A link, with its target.
     Link(Text),
+}
+
+impl NewKind {
+    /// A copy with its own content.
+    pub fn copy(&self, alloc: Global) -> Result<Self, AllocError>
+        ensures { IfOk result (λ copied. copied ≡ self.now) }
+    {
+        Ok(match self {
+            NewKind::Dir => NewKind::Dir,
+            NewKind::File(content) => NewKind::File(content.copy(alloc)?),
+            NewKind::Link(target) => NewKind::Link(target.copy(alloc)?),
+        })
+    }
 }

@@ -4,16 +4,6 @@ use Rattle.std.specs.declared.result.Result.{Result}
 use Rattle.std.specs.declared.result.Result.TheVariants.{Ok, Err}
 use Rattle.st_base.specs.declared.errno.Errno.{Errno}
 use Rattle.st_base.specs.declared.ids.Ids.{Ids}
-use Rattle.st_calls.specs.declared.call.SysCall.{SysCall}
-use Rattle.st_calls.specs.declared.call.SysCall.TheVariants.{SetUid, SetEuid, SetGid, SetEgid}
-
--- the calls that set ids
-abbrev pub SetsIds : SysCall → Type 0
-SetsIds SetUid = Unit {0}
-SetsIds SetEuid = Unit {0}
-SetsIds SetGid = Unit {0}
-SetsIds SetEgid = Unit {0}
-SetsIds _ = ⊥
 
 -- a call that is refused with an error, or returns ids
 abbrev pub set_ids_result : Option Errno → Ids → Result Ids Errno

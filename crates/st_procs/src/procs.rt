@@ -1,7 +1,8 @@
 ghost use Rattle.std.specs.Prelude.{◌≡◌, suc, ◌^◌, ◌-◌, ◌<◌, ◌↔◌, Some, None, true, false, [], not, IsTrue, IfSome, IfOk, OnOk, OnErr};
+ghost use Rattle.st_calls.specs.Call.{sets_ids};
 ghost use Rattle.st_model.specs.Identity.{ids_after_set, set_refused};
 ghost use Rattle.st_model.specs.Processes.{IsPid, processes_after_begin, processes_after_exec, processes_after_fork, is_process_live, is_running, next_pid, pid_of, process_at, processes_after_start, processes_after_end, with_cwd, with_ids};
-ghost use Rattle.st_procs.specs.Calls.{SetsIds, set_ids_result};
+ghost use Rattle.st_procs.specs.Calls.{set_ids_result};
 ghost use Rattle.st_procs.specs.Laws.{AreOrdered, HasEnded, IsLast, ThreadEnds, ThreadStarts};
 ghost use Rattle.st_procs.specs.Rows.{process_of};
 
@@ -192,7 +193,7 @@ impl Procs {
     /// isn't an id, otherwise EPERM if the process may not set it; after either error nothing has changed.
     pub fn set_ids(&mut self, pid: Pid, call: SysCall, value: u64) -> Result<Ids, Errno>
         requires process { IsPid self.old pid }
-        requires call { SetsIds call }
+        requires call { sets_ids call ≡ true }
         ensures answer { result ≡ set_ids_result (set_refused call (process_at self.old pid).ids value) (ids_after_set call (process_at self.old pid).ids value) }
         ensures ok { IfOk result (λ ids. self.new ≡ with_ids self.old pid ids) }
         ensures pids { next_pid self.new ≡ next_pid self.old }

@@ -27,7 +27,8 @@ use Rattle.st_law.specs.Inputs.{IsStartable, IsThread}
 use Rattle.st_law.specs.Lawful.{IsEntered, IsLawful, IsLawfulBack, IsPending, IsUsed}
 use Rattle.st_law.specs.Machine.{first_state, history, state_after, state_of_run}
 use Rattle.st_law.specs.Messages.{posted_after, posted_after_change}
-use Rattle.st_law.specs.Schedules.{is_set_id_instruction, sets_ids}
+use Rattle.st_law.specs.Schedules.{is_set_id_instruction}
+use Rattle.st_calls.specs.Call.{sets_ids}
 use Rattle.st_law.specs.State.{State, ThreadState, thread_count}
 use Rattle.st_law.specs.Threads.{History, PendingCall, body_of, body_of_row, child_of_next}
 use Rattle.st_law.proofs.Invariant.{Invariant}

@@ -7,7 +7,7 @@ use Rattle.std.specs.List.{All, filter}
 use Rattle.std.specs.Str.{bytes_eq}
 use Rattle.st_base.specs.Numbered.{item_at_number}
 use Rattle.st_base.specs.declared.ids.Ids.{Ids}
-use Rattle.st_calls.specs.Call.{rule_of}
+use Rattle.st_calls.specs.Call.{rule_of, sets_ids}
 use Rattle.st_calls.specs.Rules.{same_rule}
 use Rattle.st_calls.specs.declared.argument.ArgText.{ArgText}
 use Rattle.st_calls.specs.declared.call.SysCall.{SysCall}
@@ -39,7 +39,6 @@ use Rattle.st_law.specs.Inputs.{IsStartable}
 use Rattle.st_law.specs.Lawful.{IsLawful, IsLawfulBack, IsUsed, IsUsedHeld}
 use Rattle.st_law.specs.Machine.{history, state_after, state_of_run}
 use Rattle.st_law.specs.Messages.{Head}
-use Rattle.st_law.specs.Schedules.{sets_ids}
 use Rattle.st_law.specs.Sessions.{SessionFilter, is_kept_for, is_reply_for, learnt_by, replied_by, session_filters, verdict_or}
 use Rattle.st_law.specs.State.{State, decision_in, process_in, progress_in, read_for, snapshot_in, snapshot_of_progress, snapshot_with}
 use Rattle.st_law.specs.Threads.{History}

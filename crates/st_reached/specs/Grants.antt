@@ -8,7 +8,7 @@ use Rattle.st_filter.specs.declared.filter.FilterName.{FilterName}
 use Rattle.st_filter.specs.declared.filter.FilterName.TheVariants as name
 use Rattle.st_filter.specs.declared.set.BinaryPolicy.{BinaryPolicy}
 use Rattle.st_filter.specs.declared.set.Reply.{Reply}
-use Rattle.st_law.specs.Schedules.{sets_ids}
+use Rattle.st_calls.specs.Call.{sets_ids}
 
 -- whether a rule judges calls that set ids
 abbrev pub sets_ids_by : Rule → Bool

@@ -1,4 +1,5 @@
 pub mod Grants
 pub mod Reached
+pub mod Runnable
 pub mod Scripts
 pub mod Waiting

@@ -16,7 +16,8 @@ use Rattle.st_trace.specs.declared.entry.Way.TheVariants.{Held}
 use Rattle.st_law.specs.declared.input.Input.{Input}
 use Rattle.st_law.specs.Lawful.{IsUsed}
 use Rattle.st_law.specs.Messages.{Head}
-use Rattle.st_law.specs.Schedules.{instruction_count, set_id_count, sets_ids}
+use Rattle.st_law.specs.Schedules.{instruction_count, set_id_count}
+use Rattle.st_calls.specs.Call.{sets_ids}
 use Rattle.st_law.specs.State.{State, is_live, process_in}
 use Rattle.st_law.specs.Threads.{PendingCall}
 

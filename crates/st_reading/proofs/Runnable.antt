@@ -11,18 +11,25 @@ use Rattle.st_law.specs.declared.input.Mode.TheVariants.{Learn}
 use Rattle.st_law.specs.declared.input.Options.{Options}
 use Rattle.st_learn.specs.Learnt.{NoneAsks}
 use Rattle.st_reached.specs.Grants.{RepliesUngranted, SetIdsUngranted}
+use Rattle.st_reached.specs.Runnable.{CanRun}
 use Rattle.st_script_faults.specs.Environment.{learns}
-use Rattle.st_script.proofs.Bounded.{script_is_bounded}
 use Rattle.st_script.proofs.ReadTexts.{read_has}
 use Rattle.st_script.proofs.Startable.{script_can_start}
 use Rattle.st_script.proofs.Ungranted.{read_ungranted}
 use Rattle.st_script.specs.Reading.{script_in}
+use Rattle.st_script.specs.Startable.{input_with}
 use Rattle.st_script.specs.declared.reading.ReadScript.{ReadScript}
 use Rattle.st_command.specs.Words.{Word}
 use Rattle.st_command.specs.Command.{StepWords, CheckWords, check_options}
+use Rattle.st_command.specs.Reading.{IsWithinLimits}
+use Rattle.st_command.specs.declared.command.Command.{Command}
+use Rattle.st_command.specs.declared.command.Command.TheVariants.{Step, Check}
+use Rattle.st_reading.specs.Ends.{AskedTo, as_meaning}
 use Rattle.st_reading.specs.Bare.{bare_env}
-use Rattle.st_reading.specs.Meaning.{Contents, Meaning, Runs, Prints, SaysScript, MeansStep, MeansCanon, MeansCheck}
+use Rattle.st_reading.specs.Meaning.{Contents, Meaning, Means, Runs, Prints, SaysScript, MeansStep, MeansCanon, MeansCheck, last_file}
 use Rattle.st_reading.specs.Runnable.{IsRunnable}
+use Rattle.st_reading.specs.declared.reading.Reading.{Reading}
+use Rattle.st_reading.specs.declared.reading.Reading.TheVariants as reading_is
 use Rattle.st_reading.specs.declared.refusal.Which.TheVariants as which
 use Rattle.st_reading.proofs.ReadFiles.{AreKept, IsRead, IsStepRead, each_kept, fetched, input_or, policies_read, script_read, step_read}
 use Rattle.st_reading.proofs.Unasked.{read_asks_nothing}
@@ -65,14 +72,23 @@ RepliesAreUngranted = (text : List ℕ) (options : Options) (script : ReadScript
 pub runnable : RepliesAreUngranted → (contents : Contents) (step : StepWords) (input : Input) (schedule : ReadSchedule) → MeansStep contents step (Runs input schedule) → IsRunnable step input
 runnable replies contents step input schedule meant =
     let x = clean_step contents step (Runs input schedule) tt meant in
+    let input_is : input ≡ input_with x.policies step.options x.script = ap (input_or input) x.outcome_is in
+    let can_start = script_can_start x.script_text step.options x.script x.script_is in
+    let ungranted_replies = replies x.script_text step.options x.script x.script_is in
     record {
       script = x.script;
       policies = x.policies;
-      input_is = ap (input_or input) x.outcome_is;
-      can_start = script_can_start x.script_text step.options x.script x.script_is;
-      bounded = script_is_bounded x.script_text step.options x.script x.script_is;
+      input_is = input_is;
+      can_start = can_start;
       ungranted = x.kept.ungranted;
-      replies = replies x.script_text step.options x.script x.script_is;
+      replies = ungranted_replies;
+      can_run = λ some few. subst CanRun (sym input_is) (record {
+        startable = can_start.startable x.policies step.options some few;
+        system = can_start.system x.policies step.options;
+        bounded = can_start.bounded;
+        ungranted = x.kept.ungranted;
+        replies = ungranted_replies;
+      });
       unasked = λ learning. x.kept.unasked (script_learns x.script_text step.options x.script x.script_is learning);
     }
 
@@ -98,3 +114,24 @@ check_runs_nothing contents check (Some name) input schedule meant =
     let x = fetched contents run tt name which.Script (λ text. SaysScript (script_in text (check_options check)) (λ script. MeansCanon contents check.policy script.env run) run) meant in
     let s = script_read contents run tt (script_in x.text (check_options check)) (λ script. MeansCanon contents check.policy script.env run) x.says in
     canon_runs_nothing contents check.policy s.0.env run tt s.2
+
+-- ---- what is read can be run
+
+-- the law that what `step` means to run can be run
+abbrev pub AllRunnable : Type 0
+AllRunnable = (contents : Contents) (step : StepWords) (i : Input) (schedule : ReadSchedule) → Means contents (Step step) (Runs i schedule) → IsRunnable step i
+
+-- a run that a command means can be run
+pub can_run : AllRunnable → (contents : Contents) (c : Command) (i : Input) (schedule : ReadSchedule) → IsWithinLimits c → Means contents c (Runs i schedule) → CanRun i
+can_run runnable contents (Step step) i schedule limits meant = (runnable contents step i schedule meant).can_run limits.1 limits.2
+can_run runnable contents (Check check) i schedule limits meant = absurd (check_runs_nothing contents check check.script i schedule meant)
+
+-- ---- commands that were read
+
+-- a command was read to be run
+module _ (contents : Contents) (c : Command) (old new : List Word) (read : Reading) (meant : Means contents c (as_meaning read) × AskedTo c (last_file c) old new) (i : Input) (schedule : ReadSchedule) (is : read ≡ reading_is.Run i schedule) where
+  pub run_meant : Means contents c (Runs i schedule)
+  run_meant = subst (λ (other : Reading). Means contents c (as_meaning other)) is meant.0
+
+  pub ready : AllRunnable → IsWithinLimits c → CanRun i
+  ready runnable limits = can_run runnable contents c i schedule limits run_meant

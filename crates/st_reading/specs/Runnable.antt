@@ -1,23 +1,23 @@
 -- What holds of each input that `step` means to run.
-use Rattle.std.specs.Prelude.{◌≡◌, List}
+use Rattle.std.specs.Prelude.{◌≡◌, ◌≤◌, List}
 use Rattle.st_filter.specs.declared.set.BinaryPolicy.{BinaryPolicy}
 use Rattle.st_law.specs.declared.input.Input.{Input}
 use Rattle.st_law.specs.declared.input.Mode.TheVariants.{Learn}
 use Rattle.st_learn.specs.Learnt.{NoneAsks}
 use Rattle.st_reached.specs.Grants.{RepliesUngranted, SetIdsUngranted}
-use Rattle.st_reached.specs.Scripts.{IsBounded}
+use Rattle.st_reached.specs.Runnable.{CanRun}
 use Rattle.st_script.specs.Startable.{IsRunnableScript, input_with}
 use Rattle.st_script.specs.declared.reading.ReadScript.{ReadScript}
 use Rattle.st_command.specs.Command.{StepWords}
 
--- an input consists of a script that a run can start with and that isn't too long, of policies and replies that grant no ids for setting
--- ids, and of the options of the words; if the run learns, no filter asks
+-- an input consists of a script that a run can start with, of policies and replies that grant no ids for setting ids, and of the options of
+-- the words; with one to eight workers it can be run; if the run learns, no filter asks
 pub record IsRunnable (step : StepWords) (input : Input) : Type 0 where
   pub script : ReadScript
   pub policies : List BinaryPolicy
   pub input_is : input ≡ input_with policies step.options script
   pub can_start : IsRunnableScript script
-  pub bounded : IsBounded script.start
   pub ungranted : SetIdsUngranted policies
   pub replies : RepliesUngranted script.replies
+  pub can_run : 1 ≤ step.options.workers → step.options.workers ≤ 8 → CanRun input
   pub unasked : step.options.mode ≡ Learn → NoneAsks policies

@@ -93,4 +93,4 @@ plays_again runnable again contents step i schedule limits meant choices e name 
   played_to = again i (startable_by (runnable contents step i schedule meant)) schedule choices e;
 } where
   startable_by : IsRunnable step i → IsStartable i
-  startable_by r = subst IsStartable (sym r.input_is) (r.can_start.startable r.policies step.options limits.1 limits.2)
+  startable_by r = (r.can_run limits.1 limits.2).startable

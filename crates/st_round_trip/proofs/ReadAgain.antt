@@ -157,4 +157,4 @@ module _ (runnable : AreRunnable) (exactly : AreExactlyWritable) (plain : Script
         (run_read_again script.env i start texts learning here choices few, run_read_again (enforcing script.env) i start texts learning (enforced_writable script.env i.policies here) choices few)
       where
         startable_by : IsRunnable step i → IsStartable i
-        startable_by r = subst IsStartable (sym r.input_is) (r.can_start.startable r.policies step.options limits.1 limits.2)
+        startable_by r = (r.can_run limits.1 limits.2).startable

@@ -1,10 +1,7 @@
 //! A run that is made again up to a line of its schedule that can't be played, for why it can't.
 
 ghost use Rattle.st_command.specs.Reading.{IsWithinLimits};
-ghost use Rattle.st_law.specs.Inputs.{IsStartable};
-ghost use Rattle.st_reached.specs.Grants.{RepliesUngranted, SetIdsUngranted};
-ghost use Rattle.st_reached.specs.Scripts.{IsBounded};
-ghost use Rattle.st_system.specs.Start.{CanStart};
+ghost use Rattle.st_reached.specs.Runnable.{CanRun};
 
 use crate::blocked::append_blocked;
 use crate::threads::Threads;
@@ -150,11 +147,7 @@ fn reason_in(
     schedule: &ReadSchedule,
     number: u32,
 ) -> Result<Option<Text>, Refusal>
-    requires startable { IsStartable input.now }
-    requires system { CanStart input.now }
-    requires bounded { IsBounded input.now.start }
-    requires ungranted { SetIdsUngranted input.now.policies }
-    requires replies { RepliesUngranted input.now.replies }
+    requires { CanRun input.now }
 {
     let mut kernel = Kernel::start(alloc, input)?;
     reason_of_line(alloc, &mut kernel, schedule, number)

@@ -26,7 +26,7 @@ use Rattle.st_script.proofs.StartedOnce.{starts_once}
 abbrev pub IsBoundedScript : ReadScript → Type 0
 IsBoundedScript script = IsBounded script.start
 
-bounded : (whole : WholeScript) (lines : List ScriptLine) → whole.is_cut ≡ false → whole.threads ≡ threads_after [] lines → whole.started ≡ started_after [] lines → first_fault whole no_names lines ≡ None → AreSaid lines → ArePlaced false lines → IsBounded (start_of lines)
+pub bounded : (whole : WholeScript) (lines : List ScriptLine) → whole.is_cut ≡ false → whole.threads ≡ threads_after [] lines → whole.started ≡ started_after [] lines → first_fault whole no_names lines ≡ None → AreSaid lines → ArePlaced false lines → IsBounded (start_of lines)
 bounded whole lines uncut threads_are started_are none said placed =
     let ok = none_has whole no_names lines none in
     let ps = processes_after [] lines in

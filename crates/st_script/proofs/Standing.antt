@@ -29,7 +29,7 @@ use Rattle.st_statements.specs.declared.statement.ScriptLine.{ScriptLine}
 use Rattle.st_statements.specs.declared.statement.Statement.TheVariants as says
 use Rattle.st_trace.specs.declared.start.TreeRow.{TreeRow}
 use Rattle.st_tree.proofs.Reasons.{parent-last_part}
-use Rattle.st_tree.specs.Refusals.{add_refused, is_missing, is_no_directory}
+use Rattle.st_model.specs.Adding.{add_refused, is_missing, is_no_directory}
 use Rattle.st_script.proofs.Said.{AreSaid}
 use Rattle.st_script.specs.Reading.{object_name, object_said}
 use Rattle.st_script.proofs.Counted.{NoFault, AtEnd, After, added, not_false, or_left, or_right}

@@ -1,4 +1,4 @@
--- A run can start with what lines without a fault say.
+-- A run can start with what lines without a fault say: it is startable, its system can be built, and it is bounded.
 use Rattle.std.proofs.Common.{◌≡◌, ℕ, zero, suc, ◌≤◌, true, false, ◌||◌, nat_lt, List, [], ◌∷◌, length, map, slice_get, Option, Some, None, Ok, refl, sym, ap, ◌∙◌, arith}
 use Rattle.std.proofs.lemmas.Bool.{ltb-false}
 use Rattle.std.proofs.lemmas.List.Elements.{All-from_recursion}
@@ -7,6 +7,8 @@ use Rattle.std.specs.Prelude.{unwrap_or}
 use Rattle.st_base.specs.Numbered.{item_at_number}
 use Rattle.st_filter.specs.declared.set.BinaryPolicy.{BinaryPolicy}
 use Rattle.st_law.specs.Inputs.{HasProcess, IsInstruction, IsStartable}
+use Rattle.st_law.specs.Processes.{process_count}
+use Rattle.st_law.specs.State.{thread_count}
 use Rattle.st_law.specs.Threads.{owner_of_row}
 use Rattle.st_law.specs.declared.input.Input.{Input}
 use Rattle.st_law.specs.declared.input.Options.{Options}
@@ -15,7 +17,7 @@ use Rattle.st_names.specs.declared.limits.TheConstants.{LONGEST_NAME}
 use Rattle.st_lex.specs.Rows.{rows}
 use Rattle.st_lex.specs.Tokens.{lexed_text}
 use Rattle.st_base.proofs.Each.{each-append}
-use Rattle.st_script_faults.specs.Faults.{WholeScript, first_fault, threads_after}
+use Rattle.st_script_faults.specs.Faults.{WholeScript, first_fault, started_after, threads_after}
 use Rattle.st_script_faults.specs.Names.{Name, Names, is_name_among, no_names, with_says}
 use Rattle.st_statements.specs.Lines.{tokens_before_fault_line}
 use Rattle.st_statements.specs.Parts.{is_long}
@@ -27,9 +29,10 @@ use Rattle.st_script.specs.Bounds.{IsWithinBounds}
 use Rattle.st_script.specs.Reading.{body_in, process_said, processes_after, script_in, script_with, store_of, stores, threads_in}
 use Rattle.st_script.specs.Startable.{IsRunnableScript, input_with}
 use Rattle.st_script.specs.declared.reading.ReadScript.{ReadScript}
+use Rattle.st_script.proofs.Bounded.{bounded}
 use Rattle.st_script.proofs.Counted.{NoFault, AtEnd, After, known_by, none_has, numbered_within, or_left, or_right, threads_within, within_bounds}
 use Rattle.st_script.proofs.ReadTexts.{read_has, whole_in}
-use Rattle.st_script.proofs.Said.{AreSaid, lines_said}
+use Rattle.st_script.proofs.Said.{ArePlaced, AreSaid, lines_placed, lines_said}
 use Rattle.st_script.proofs.Slashes.{normal_slashed, printed_short}
 use Rattle.st_script.proofs.Standing.{objects_stand}
 
@@ -105,17 +108,28 @@ startable whole lines uncut threads_are ok said bounds policies options some few
       targets = All-from_recursion _ _ bounds.targets;
     }
 
-can_start : (whole : WholeScript) (lines : List ScriptLine) → whole.is_cut ≡ false → whole.threads ≡ threads_after [] lines → first_fault whole no_names lines ≡ None → AreSaid lines → IsRunnableScript (script_with whole.env lines)
-can_start whole lines uncut threads_are none said =
+can_start : (whole : WholeScript) (lines : List ScriptLine) → whole.is_cut ≡ false → whole.threads ≡ threads_after [] lines → whole.started ≡ started_after [] lines → first_fault whole no_names lines ≡ None → AreSaid lines → ArePlaced false lines → IsRunnableScript (script_with whole.env lines)
+can_start whole lines uncut threads_are started_are none said placed =
     let ok = none_has whole no_names lines none in
     let bounds = within_bounds whole whole.env lines (script_with whole.env lines) none refl in
     record {
       startable = startable whole lines uncut threads_are ok said bounds;
-      tree = objects_stand whole lines ok said;
-      owners = owners_within _ _ bounds.processes;
-      directories = All-from_recursion _ _ (directories_short whole no_names lines ok said);
+      system = λ policies options.
+          let i = input_with policies options (script_with whole.env lines) in
+          let processes : process_count i ≤ 64 = bounds.few_processes in
+          let threads : thread_count i ≤ 64 = bounds.few_threads in
+          record {
+            tree = objects_stand whole lines ok said;
+            few_processes = omega (arith, processes);
+            few_threads = omega (arith, threads);
+            owners = owners_within _ _ bounds.processes;
+            short = All-from_recursion _ _ (directories_short whole no_names lines ok said);
+          };
+      bounded = bounded whole lines uncut threads_are started_are none said placed;
     }
 
 -- a run can start with a script that is read
 pub script_can_start : (text : List ℕ) (options : Options) (script : ReadScript) → script_in text options ≡ Ok script → IsRunnableScript script
-script_can_start text options = read_has IsRunnableScript text options (λ uncut none. can_start (whole_in text options) (lines_in text) uncut refl none (lines_said text false (rows (tokens_before_fault_line (lexed_text text)))))
+script_can_start text options = read_has IsRunnableScript text options (λ uncut none.
+    let lines_rows = rows (tokens_before_fault_line (lexed_text text)) in
+    can_start (whole_in text options) (lines_in text) uncut refl refl none (lines_said text false lines_rows) (lines_placed text false lines_rows))

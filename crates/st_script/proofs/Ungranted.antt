@@ -2,8 +2,6 @@
 use Rattle.std.proofs.Common.{◌≡◌, ◌++◌, ◌∙◌, ℕ, Bool, true, false, List, [], ◌∷◌, Option, None, refl, sym, subst}
 use Rattle.std.proofs.lemmas.List.Elements.{All-append, All-from_recursion}
 use Rattle.std.specs.List.{All, AllByRecursion}
-use Rattle.st_calls.specs.declared.call.SysCall.{SysCall}
-use Rattle.st_calls.specs.declared.call.SysCall.TheVariants as calls
 use Rattle.st_calls.specs.declared.rule.Rule.TheVariants as rules
 use Rattle.st_filter.specs.Formula.{FilterValue}
 use Rattle.st_filter.specs.Policies.{with_filter}
@@ -13,25 +11,17 @@ use Rattle.st_filter.specs.declared.filter.FilterName.{FilterName}
 use Rattle.st_filter.specs.declared.filter.FilterName.TheVariants as name
 use Rattle.st_filter.specs.declared.filter.Grant.{Grant}
 use Rattle.st_filter.specs.declared.set.BinaryPolicy.{BinaryPolicy}
-use Rattle.st_law.specs.Schedules.{sets_ids as call_sets_ids}
 use Rattle.st_base.proofs.Each.{each-append, each-parts}
 use Rattle.st_grammar.specs.Grammar.{AreRows, NoRow, Blank, Header, FilterRow, IsFilter, IsTail, Plain, Logs, Grants, GrantsAndLogs, LogsAndGrants, MayGrant, Reads}
 use Rattle.st_grammar.specs.Symbol.{Symbol}
-use Rattle.st_grammar.specs.Words.{is_set_id_call, names_set_id_call}
+use Rattle.st_grammar.specs.Words.{names_set_id_call}
 use Rattle.st_grammar.specs.declared.env.Env.{Env}
 use Rattle.st_reached.specs.Grants.{IsUngrantedForSetting, SetIdsUngranted, is_for_setting}
 
 -- ---- filters
 
-call_sets : (call : SysCall) → call_sets_ids call ≡ true → is_set_id_call call ≡ true
-call_sets calls.SetUid is = is
-call_sets calls.SetEuid is = is
-call_sets calls.SetGid is = is
-call_sets calls.SetEgid is = is
-call_sets call is = is
-
 sets : (n : FilterName) → is_for_setting n ≡ true → names_set_id_call n ≡ true
-sets (name.Rule (rules.Call call)) is = call_sets call is
+sets (name.Rule (rules.Call call)) is = is
 sets (name.Rule rules.FsRead) is = is
 sets (name.Rule rules.FsWrite) is = is
 sets (name.Other other) is = is

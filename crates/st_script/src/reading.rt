@@ -21,7 +21,7 @@ use st_script_faults::environment::process_of;
 use st_script_faults::faults::{Whole, first_fault, whole_of};
 use st_statements::lines::looked_at;
 use st_statements::{ScriptLine, ScriptProcess, Statement, lines_of_tokens};
-use st_trace::{GroupRow, NewKind, NewNode, ProcessRow, Start, ThreadRow, TreeRow, UserRow};
+use st_trace::{GroupRow, ProcessRow, Start, ThreadRow, TreeRow, UserRow};
 use std::alloc::{AllocError, Global};
 
 /// A script that was read.
@@ -85,27 +85,6 @@ fn groups_in(alloc: Global, lines: &[ScriptLine]) -> Result<Sequence<GroupRow>, 
     Ok(groups)
 }
 
-fn copied_kind(alloc: Global, kind: &NewKind) -> Result<NewKind, AllocError>
-    ensures { IfOk result (λ copied. copied ≡ kind.now) }
-{
-    Ok(match kind {
-        NewKind::Dir => NewKind::Dir,
-        NewKind::File(content) => NewKind::File(content.copy(alloc)?),
-        NewKind::Link(target) => NewKind::Link(target.copy(alloc)?),
-    })
-}
-
-fn copied_node(alloc: Global, node: &NewNode) -> Result<NewNode, AllocError>
-    ensures { IfOk result (λ copied. copied ≡ node.now) }
-{
-    Ok(NewNode {
-        kind: copied_kind(alloc, &node.kind)?,
-        uid: node.uid,
-        gid: node.gid,
-        mode: node.mode,
-    })
-}
-
 // The name that a path spells, or the root's if the path is empty.
 fn name_of_path(alloc: Global, path: &Text) -> Result<AbsName, AllocError>
     ensures { IfOk result (λ name. name ≡ object_name path.now) }
@@ -119,7 +98,7 @@ fn object_said(alloc: Global, says: &Option<Statement>) -> Result<Option<TreeRow
     match says {
         Some(Statement::Object { path, new }) => Ok(Some(TreeRow {
             name: name_of_path(alloc, path)?,
-            new: copied_node(alloc, new)?,
+            new: new.copy(alloc)?,
         })),
         _ => Ok(None),
     }

@@ -17,7 +17,8 @@ use Rattle.st_trace.specs.declared.entry.Change.{Change}
 use Rattle.st_trace.specs.declared.entry.Change.TheVariants.{Renewed, SetIds}
 use Rattle.st_law.specs.declared.input.Input.{Input}
 use Rattle.st_law.specs.State.{State, held_from, system_of, thread_count}
-use Rattle.st_system.specs.Steps.{AppendsRenewals, renewals_of, sets_ids, unheld_system, with_renewals}
+use Rattle.st_system.specs.Steps.{AppendsRenewals, renewals_of, unheld_system, with_renewals}
+use Rattle.st_calls.specs.Call.{sets_ids}
 use Rattle.st_system.proofs.Alike.{alike}
 
 -- ---- a list of renewals

@@ -17,7 +17,8 @@ use Rattle.st_law.specs.Processes.{first_process, process_count, process_of_row,
 use Rattle.st_law.specs.State.{thread_count}
 use Rattle.st_law.specs.Threads.{first_owner, owner_of_row}
 use Rattle.st_law.proofs.Laws.{all_at}
-use Rattle.st_system.specs.Start.{first_thread_of, AreFirst, CanStart, HaveStarted}
+use Rattle.st_system.specs.Start.{first_thread_of, AreFirst, HaveStarted}
+use Rattle.st_law.specs.Inputs.{CanStart}
 use Rattle.st_system.specs.System.{HasOwner, IsAmong, IsSystem, IsThreadState, IsValidSystem, Parts}
 use Rattle.st_system.proofs.Short.{IsShort}
 

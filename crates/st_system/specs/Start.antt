@@ -1,35 +1,18 @@
 -- The system that a run starts with: its parts, as the rows of a script build them one after the other.
-use Rattle.std.specs.Prelude.{◌≡◌, ◌≤◌, ◌<◌, ◌^◌, ℕ, suc, true, false, if◌then◌else◌, ◌==◌, ◌&&◌, nat_le, take, slice_get, List, [], length, Option, Some, None}
-use Rattle.std.specs.List.{All, fold, range_with_len}
+use Rattle.std.specs.Prelude.{◌≡◌, ◌≤◌, ℕ, suc, true, false, if◌then◌else◌, ◌==◌, ◌&&◌, nat_le, [], Option, Some, None}
+use Rattle.std.specs.List.{fold, range_with_len}
 use Rattle.st_memory.specs.Memory.{Memories, byte_in, is_space_live, next_space}
-use Rattle.st_names.specs.Name.{printed_name}
-use Rattle.st_names.specs.declared.limits.TheConstants.{LONGEST_NAME}
 use Rattle.st_model.specs.DescriptorCalls.{table_after_start}
 use Rattle.st_model.specs.Descriptors.{Table, has_table}
 use Rattle.st_model.specs.Process.{Process}
 use Rattle.st_model.specs.Processes.{Processes, StartedThread, next_pid, process_at, thread_at}
-use Rattle.st_model.specs.Tree.{Tree, root_only}
+use Rattle.st_model.specs.Tree.{Tree}
 use Rattle.st_procs.specs.Laws.{AreOrdered}
 use Rattle.st_request.specs.Ready.{AreValidOpenFiles}
-use Rattle.st_tree.specs.Refusals.{add_refused}
 use Rattle.st_trace.specs.declared.start.ProcessRow.{ProcessRow}
-use Rattle.st_trace.specs.declared.start.TreeRow.{TreeRow}
 use Rattle.st_law.specs.declared.input.Input.{Input}
-use Rattle.st_law.specs.Processes.{first_ids, first_process, no_descriptors, process_count, tree_with_row}
-use Rattle.st_law.specs.State.{thread_count}
+use Rattle.st_law.specs.Processes.{first_ids, first_process, no_descriptors}
 use Rattle.st_law.specs.Threads.{first_owner}
-
--- each row can be put into the tree of the rows before it, and isn't refused
-abbrev pub CanStand : List TreeRow → Type 0
-CanStand rows = (k : ℕ) (row : TreeRow) → slice_get rows k ≡ Some row → add_refused (fold tree_with_row root_only (take k rows)) row.name ≡ None
-
--- an input whose run can start
-pub record CanStart (i : Input) : Type 0 where
-  pub tree : CanStand i.start.tree
-  pub few_processes : process_count i < 2 ^ 31
-  pub few_threads : thread_count i < 2 ^ 31
-  pub owners : (t : ℕ) → first_owner i t ≤ process_count i
-  pub short : All (λ row. length (printed_name row.cwd) ≤ LONGEST_NAME) i.start.processes
 
 -- a process of a row, with a memory of this number
 abbrev pub process_at_start : Option (ℕ × ℕ) → ℕ → ProcessRow → Process

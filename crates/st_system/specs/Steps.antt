@@ -1,5 +1,6 @@
 -- How steps change the system, compared with how their entries change the state of the law's machine.
-use Rattle.std.specs.Prelude.{◌≡◌, ◌<◌, ◌^◌, ◌-◌, ℕ, suc, Bool, true, false, if◌then◌else◌, List, [], ◌++◌, Option, None}
+use Rattle.std.specs.Prelude.{◌≡◌, ◌<◌, ◌^◌, ◌-◌, ℕ, suc, if◌then◌else◌, List, [], ◌++◌, Option, None}
+use Rattle.st_calls.specs.Call.{sets_ids}
 use Rattle.st_calls.specs.declared.call.SysCall.{SysCall}
 use Rattle.st_calls.specs.declared.call.SysCall.TheVariants.{Fork, Execve, Exit, Kill, GetPid, GetUid, GetEuid, SetUid, SetEuid, SetGid, SetEgid, Socket, Bind, Connect}
 use Rattle.st_memory.specs.Memory.{next_space}
@@ -70,14 +71,6 @@ IsOnProcesses _ = ⊥
 -- the system that a call finds, without the held calls
 abbrev pub unheld_system : Input → State → effects.System
 unheld_system i st = record (system_of i st) { held = [] }
-
--- whether a call sets ids
-abbrev pub sets_ids : SysCall → Bool
-sets_ids SetUid = true
-sets_ids SetEuid = true
-sets_ids SetGid = true
-sets_ids SetEgid = true
-sets_ids _ = false
 
 -- the renewals of the process's held calls, if it has set its ids
 abbrev pub renewals_of : Input → State → Request → CallResult → List Change

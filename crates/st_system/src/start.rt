@@ -7,48 +7,30 @@ ghost use Rattle.st_model.specs.DescriptorCalls.{table_after_start};
 ghost use Rattle.st_model.specs.Descriptors.{has_table};
 ghost use Rattle.st_model.specs.Processes.{next_pid, pid_of, processes_after_start, thread_at};
 ghost use Rattle.st_model.specs.Tree.{root_only};
-ghost use Rattle.st_tree.specs.Refusals.{add_refused};
+ghost use Rattle.st_model.specs.Adding.{add_refused};
 ghost use Rattle.st_law.specs.Processes.{first_ids, process_count, tree_with_row};
 ghost use Rattle.st_law.specs.State.{thread_count};
 ghost use Rattle.st_law.specs.Threads.{first_owner};
 ghost use Rattle.st_procs.specs.Laws.{AreOrdered};
-ghost use Rattle.st_system.specs.Start.{first_thread_of, AreFirst, CanStand, HaveStarted};
+ghost use Rattle.st_system.specs.Start.{first_thread_of, AreFirst, HaveStarted};
+ghost use Rattle.st_law.specs.Inputs.{CanStand};
 
 use st_base::{Ids, Pid, Shared, Tid};
 use st_fds::Fds;
 use st_law::Input;
 use st_memory::Spaces;
-use st_model::{NewKind, NewNode};
 use st_procs::{ProcRow, Procs};
 use st_request::unrefused;
 use st_trace::{ProcessRow, ThreadRow, TreeRow};
 use st_tree::Tree;
 use std::alloc::{AllocError, Global};
 
-// A copy of an object that is to be made.
-fn copy_of(alloc: Global, new: &NewNode) -> Result<NewNode, AllocError>
-    ensures { IfOk result (λ copy. copy ≡ new.now) }
-{
-    let kind = match &new.kind {
-        NewKind::Dir => NewKind::Dir,
-        NewKind::File(content) => NewKind::File(content.copy(alloc)?),
-        NewKind::Link(target) => NewKind::Link(target.copy(alloc)?),
-    };
-    Ok(NewNode {
-        kind,
-        uid: new.uid,
-        gid: new.gid,
-        mode: new.mode,
-    })
-}
-
 // Puts the object of a row into a tree.
 fn put_row(tree: &mut Tree, alloc: Global, row: &TreeRow) -> Result<(), AllocError>
     requires { add_refused tree.old row.now.name ≡ None }
     ensures { OnOk result (tree.new ≡ tree_with_row tree.old row.now) }
 {
-    let new = copy_of(alloc, &row.new)?;
-    unrefused(tree.add(alloc, &row.name, new))?;
+    unrefused(tree.add(alloc, &row.name, row.new.copy(alloc)?))?;
     Ok(())
 }
 

@@ -14,7 +14,7 @@ ghost use Rattle.st_trace.specs.declared.entry.Entry.TheVariants.{Ended, Stored}
 ghost use Rattle.st_law.specs.declared.input.Input.{Input};
 ghost use Rattle.st_law.specs.Machine.{first_state, state_after};
 ghost use Rattle.st_law.specs.State.{State, is_live_process};
-ghost use Rattle.st_system.specs.Start.{CanStart};
+ghost use Rattle.st_law.specs.Inputs.{CanStart};
 ghost use Rattle.st_system.specs.System.{IsSystem};
 
 use crate::start::{begin_threads, processes_of, tree_of};

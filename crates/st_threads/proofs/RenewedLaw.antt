@@ -14,7 +14,7 @@ use Rattle.st_law.specs.Messages.{Head, head_after_change, posted_after_change, 
 use Rattle.st_law.specs.State.{Message, State, ThreadState, held_by_pending, held_by_way, held_from}
 use Rattle.st_law.specs.Threads.{PendingCall}
 use Rattle.st_model.specs.Process.{Process}
-use Rattle.st_model.specs.Processes.{Processes}
+use Rattle.st_model.specs.Processes.{Processes, owner_of}
 use Rattle.st_reached.specs.Reached.{life_after_change, life_after_changes}
 use Rattle.st_trace.specs.declared.entry.Change.{Change}
 use Rattle.st_trace.specs.declared.entry.Change.TheVariants.{Renewed}
@@ -22,7 +22,6 @@ use Rattle.st_trace.specs.declared.entry.Way.{Way}
 use Rattle.st_trace.specs.declared.entry.Way.TheVariants.{Fast, Barred, Held, Untraced}
 use Rattle.st_workers.specs.Refinement.{RepresentsMachineMessages, messages_renewed}
 use Rattle.st_workers.specs.UnderWay.{UnderWay}
-use Rattle.st_threads.specs.Ending.{owner_of}
 use Rattle.st_threads.specs.Renewing.{AreOthers, AreLiveAndDistinct, RenewsAll, next_after, number_renewed, numbers_from, renewals_from, row_renewed, rows_renewed, with_number}
 use Rattle.st_threads.specs.Thread.{ThreadRow, IsRow, IsRowOf, number_by_way, number_held, number_pending}
 use Rattle.st_threads.proofs.Rows.{either_none, holds}

@@ -1,7 +1,7 @@
 -- How the held calls of threads end: a thread's own when it is made or denied, and those of threads that are dying.
-use Rattle.std.specs.Prelude.{◌≡◌, ℕ, Bool, true, false, ◌&&◌, ◌||◌, ◌==◌, not, if◌then◌else◌, List, [], ◌∷◌, length, Option, Some, None, unwrap_or, option_map}
+use Rattle.std.specs.Prelude.{◌≡◌, ℕ, Bool, true, false, ◌&&◌, ◌||◌, ◌==◌, not, if◌then◌else◌, List, [], ◌∷◌, length, Option, Some, None, option_map}
 use Rattle.st_base.specs.Numbered.{item_at_number}
-use Rattle.st_model.specs.Processes.{Processes, pid_of}
+use Rattle.st_model.specs.Processes.{Processes, owner_of}
 use Rattle.st_model.specs.Tree.{is_number}
 use Rattle.st_trace.specs.declared.entry.Change.{Change}
 use Rattle.st_trace.specs.declared.entry.Change.TheVariants.{Dying, Execed}
@@ -55,10 +55,6 @@ EndsCall seq old new = (i : Input) (st : State) (alive : ℕ → Bool) → Repre
 abbrev pub row_dying_if : Bool → ThreadRow → ThreadRow
 row_dying_if true row = record row { dying = true }
 row_dying_if false row = row
-
--- the process of a thread, 0 before it starts
-abbrev pub owner_of : Processes → ℕ → ℕ
-owner_of processes t = unwrap_or (pid_of processes t) 0
 
 -- whether a thread ends with a process; one thread is spared
 abbrev pub ends_with : Processes → ℕ → ℕ → ℕ → Bool

@@ -1,14 +1,13 @@
 -- How the held calls of a process get new numbers after a call that sets ids.
 use Rattle.std.specs.Prelude.{◌≡◌, ◌≢◌, ℕ, suc, Bool, true, not, ◌&&◌, ◌==◌, if◌then◌else◌, List, [], ◌∷◌, Option, Some, None}
 use Rattle.st_model.specs.Process.{Process}
-use Rattle.st_model.specs.Processes.{Processes, process_at}
+use Rattle.st_model.specs.Processes.{Processes, process_at, owner_of}
 use Rattle.st_trace.specs.declared.entry.Change.{Change}
 use Rattle.st_trace.specs.declared.entry.Change.TheVariants.{Renewed}
 use Rattle.st_law.specs.declared.input.Input.{Input}
 use Rattle.st_law.specs.State.{Message, State}
 use Rattle.st_workers.specs.Refinement.{messages_renewed, RepresentsMachineMessages, RepresentsMessages, RenewsLife}
 use Rattle.st_workers.specs.UnderWay.{UnderWay}
-use Rattle.st_threads.specs.Ending.{owner_of}
 use Rattle.st_threads.specs.Thread.{ThreadRow, number_held}
 
 -- ---- which calls are renewed

@@ -1,6 +1,6 @@
 // Ends held calls with their threads.
 ghost use Rattle.std.specs.Prelude.{◌≡◌, ◌<◌, ◌^◌, true, length, IfSome};
-ghost use Rattle.st_threads.specs.Ending.{EndsCall, HaveCalls, HaveEnded, ends_with, is_end_of, is_ended_by, owner_of, row_dying_if};
+ghost use Rattle.st_threads.specs.Ending.{EndsCall, HaveCalls, HaveEnded, ends_with, is_end_of, is_ended_by, row_dying_if};
 ghost use Rattle.st_threads.specs.Thread.{number_held};
 ghost use Rattle.st_messages.specs.Messages.{is_live_number};
 

@@ -22,7 +22,7 @@ use Rattle.st_trace.specs.declared.entry.Change.{Change}
 use Rattle.st_trace.specs.declared.entry.Choice.{Choice}
 use Rattle.st_trace.specs.declared.entry.Entry.TheVariants.{Used}
 use Rattle.st_top.specs.Learning.{PermitsWhatWasMade, policies_after}
-use Rattle.st_top.proofs.Preparing.{AllRunnable, can_run}
+use Rattle.st_reading.proofs.Runnable.{AllRunnable, can_run}
 
 -- if no filter that was read asks, the calls that a lawful history has made are permitted by what it has learnt
 abbrev pub LearntPermits : Type 0

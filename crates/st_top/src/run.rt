@@ -2,9 +2,7 @@
 ghost use Rattle.std.specs.Prelude.{◌≡◌, []};
 ghost use Rattle.st_command.specs.declared.given.Print.TheVariants as print;
 ghost use Rattle.st_law.specs.Inputs.{IsStartable};
-ghost use Rattle.st_reached.specs.Grants.{RepliesUngranted, SetIdsUngranted};
-ghost use Rattle.st_reached.specs.Scripts.{IsBounded};
-ghost use Rattle.st_system.specs.Start.{CanStart};
+ghost use Rattle.st_reached.specs.Runnable.{CanRun};
 ghost use Rattle.st_top.specs.Ends.{RunShown};
 
 use crate::status::Status;
@@ -89,11 +87,7 @@ pub fn text_of_run(
     input: &Input,
     schedule: &ReadSchedule,
 ) -> Result<Text, Status>
-    requires startable { IsStartable input.now }
-    requires system { CanStart input.now }
-    requires bounded { IsBounded input.now.start }
-    requires ungranted { SetIdsUngranted input.now.policies }
-    requires replies { RepliesUngranted input.now.replies }
+    requires { CanRun input.now }
     ensures { RunShown print input.now schedule.now result }
 {
     let mut kernel = Kernel::start(alloc, input)?;

@@ -19,7 +19,8 @@ use Rattle.st_tree.specs.Objects.{content_of_body, dirs_of, is_dir_of, is_dir_at
 use Rattle.st_base.specs.Numbered.{item_at_number}
 use Rattle.st_tree.specs.Paths.{Entries, dir_entry, object_from}
 use Rattle.st_tree.specs.Reached.{and_then_from, directory_reached, errno_of_gap, object_or_gap, gap_or_entry, IsFree, IsTaken}
-use Rattle.st_tree.specs.Refusals.{has_entries, is_not_dir, is_missing, is_no_directory, no_directory, no_object, place_refused, replace_refused}
+use Rattle.st_tree.specs.Refusals.{has_entries, is_not_dir, no_object, replace_refused}
+use Rattle.st_model.specs.Adding.{is_missing, is_no_directory, no_directory, place_refused}
 use Rattle.st_tree.specs.declared.object.Body.{Body}
 use Rattle.st_tree.specs.declared.object.Body.TheVariants.{Dir, File, Link}
 use Rattle.st_tree.specs.declared.object.Object.{Object}

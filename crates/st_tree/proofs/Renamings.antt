@@ -14,7 +14,8 @@ use Rattle.st_model.proofs.Objects.{is_same_name-Decides}
 use Rattle.st_tree.specs.Objects.{dirs_of, tree_of, IsNumber, IsValidTree}
 use Rattle.st_tree.specs.Paths.{dir_entry}
 use Rattle.st_tree.specs.Reached.{directory_reached, errno_of_gap, IsTaken, IsRenamePlan, Replaces}
-use Rattle.st_tree.specs.Refusals.{is_same_object, no_directory, no_object, rename_refused, replace_refused}
+use Rattle.st_tree.specs.Refusals.{is_same_object, no_object, rename_refused, replace_refused}
+use Rattle.st_model.specs.Adding.{no_directory}
 use Rattle.st_tree.specs.declared.object.Object.{Object}
 use Rattle.st_tree.specs.declared.places.Gap.{Gap}
 use Rattle.st_tree.specs.declared.places.RenamePlan.{RenamePlan}

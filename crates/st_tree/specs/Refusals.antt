@@ -1,14 +1,15 @@
--- Why each change of a tree is refused, by the first condition that is true, and the tree after a rename.
-use Rattle.std.specs.Prelude.{◌≡◌, ℕ, ◌+◌, ◌≤◌, Bool, true, false, ◌&&◌, ◌||◌, not, if◌then◌else◌, nat_lt, nat_le, List, [], ◌∷◌, length, Option, Some, None, is_some}
+-- Why each change of a tree but a new object is refused, by the first condition that is true, and the tree after a rename.
+use Rattle.std.specs.Prelude.{◌≡◌, ℕ, ◌+◌, ◌≤◌, Bool, true, false, ◌&&◌, ◌||◌, not, if◌then◌else◌, nat_lt, List, [], ◌∷◌, length, Option, Some, None}
 use Rattle.st_base.specs.Errno.{first_error, error_if}
 use Rattle.st_base.specs.declared.errno.Errno.{Errno}
-use Rattle.st_base.specs.declared.errno.Errno.TheVariants.{EPERM, ENOENT, EEXIST, ENOTDIR, EISDIR, EINVAL, ENOSPC, ENOTEMPTY}
-use Rattle.st_names.specs.Name.{Components, is_root, parent}
+use Rattle.st_base.specs.declared.errno.Errno.TheVariants.{EPERM, ENOENT, ENOTDIR, EISDIR, EINVAL, ENOSPC, ENOTEMPTY}
+use Rattle.st_names.specs.Name.{Components, is_root}
+use Rattle.st_model.specs.Adding.{is_missing, no_directory, place_refused}
 use Rattle.st_model.specs.Tree.{Tree, entry_count, is_proper_prefix, is_directory, is_number, look, node_with_number, object_of, remove_name, rename}
 use Rattle.st_model.specs.declared.object.Kind.TheVariants as object_kind
 use Rattle.st_names.specs.declared.seen.SeenText.{SeenText}
 use Rattle.st_names.specs.declared.seen.SeenText.TheVariants.{Missing, NotDir, Dir, File, Link}
-use Rattle.st_model.specs.declared.limits.TheConstants.{LONGEST_FILE, MOST_OBJECTS}
+use Rattle.st_model.specs.declared.limits.TheConstants.{LONGEST_FILE}
 
 -- some object has this number
 abbrev pub IsObjectNumber : Tree → ℕ → Type 0
@@ -17,14 +18,6 @@ IsObjectNumber tree number = (1 ≤ number) × (number ≤ length tree.objects)
 -- some object has this number, and it is a file
 abbrev pub IsFile : Tree → ℕ → Type 0
 IsFile tree number = IsObjectNumber tree number × ((node_with_number tree number).kind ≡ object_kind.File)
-
--- whether a look finds that the name or a proper prefix is missing
-abbrev pub is_missing : SeenText → Bool
-is_missing Missing = true
-is_missing NotDir = false
-is_missing Dir = false
-is_missing File = false
-is_missing (Link target) = false
 
 -- whether a look finds that a proper prefix is no directory
 abbrev pub is_not_dir : SeenText → Bool
@@ -38,37 +31,11 @@ is_not_dir (Link target) = false
 abbrev pub is_absent : SeenText → Bool
 is_absent seen = is_missing seen || is_not_dir seen
 
--- whether a look finds that the name or a proper prefix is no directory
-abbrev pub is_no_directory : SeenText → Bool
-is_no_directory Missing = false
-is_no_directory NotDir = true
-is_no_directory Dir = false
-is_no_directory File = true
-is_no_directory (Link target) = true
-
--- why the parent of a name isn't a directory
-abbrev pub no_directory : Tree → Components → Option Errno
-no_directory tree name = first_error (
-    error_if (is_missing (look tree (parent name))) ENOENT ∷
-    error_if (is_no_directory (look tree (parent name))) ENOTDIR ∷ [])
-
 -- why no object has this name
 abbrev pub no_object : Tree → Components → Option Errno
 no_object tree name = first_error (
     error_if (is_missing (look tree name)) ENOENT ∷
     error_if (is_not_dir (look tree name)) ENOTDIR ∷ [])
-
--- why a name can't be added
-abbrev pub place_refused : Tree → Components → Option Errno
-place_refused tree name = first_error (
-    no_directory tree name ∷
-    error_if (is_some (object_of tree name)) EEXIST ∷ [])
-
--- why no new object can be made under a name
-abbrev pub add_refused : Tree → Components → Option Errno
-add_refused tree name = first_error (
-    place_refused tree name ∷
-    error_if (nat_le MOST_OBJECTS (length tree.objects)) ENOSPC ∷ [])
 
 -- why an object can't have this name too
 abbrev pub link_refused : Tree → ℕ → Components → Option Errno

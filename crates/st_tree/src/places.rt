@@ -5,7 +5,8 @@ ghost use Rattle.st_names.specs.Name.{last_part, parent};
 ghost use Rattle.st_tree.specs.Objects.{dirs_of, is_dir_of, object_node, tree_of, IsNumber, IsValidTree};
 ghost use Rattle.st_tree.specs.Paths.{dir_entry, with_entry, without_entry};
 ghost use Rattle.st_tree.specs.Reached.{directory_reached, errno_of_gap, object_or_gap, gap_or_entry, IsEmpty, IsFree, IsRenaming, IsTaken, IsRenamePlan};
-ghost use Rattle.st_tree.specs.Refusals.{add_refused, link_refused, no_object, place_refused, remove_refused, rename_refused, replace_refused};
+ghost use Rattle.st_tree.specs.Refusals.{link_refused, no_object, remove_refused, rename_refused, replace_refused};
+ghost use Rattle.st_model.specs.Adding.{add_refused, place_refused};
 ghost use Rattle.st_model.specs.Tree.{is_proper_prefix};
 
 use crate::object::Object;

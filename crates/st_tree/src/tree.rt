@@ -5,7 +5,8 @@ ghost use Rattle.st_model.specs.Tree.{add_object, cut_object, entry_count, is_di
 ghost use Rattle.st_model.specs.Permission.{allowed};
 ghost use Rattle.st_model.specs.declared.limits.TheConstants.{MOST_OBJECTS};
 ghost use Rattle.st_tree.specs.Answers.{KeepsKinds, Refuses};
-ghost use Rattle.st_tree.specs.Refusals.{add_refused, cut_refused, is_absent, link_refused, remove_refused, rename_refused, tree_after_rename, write_too_long, IsFile, IsObjectNumber};
+ghost use Rattle.st_tree.specs.Refusals.{cut_refused, is_absent, link_refused, remove_refused, rename_refused, tree_after_rename, write_too_long, IsFile, IsObjectNumber};
+ghost use Rattle.st_model.specs.Adding.{add_refused};
 
 use crate::object::{Node, Object};
 use crate::places::{self, Gap};

@@ -117,6 +117,7 @@ module _ (old new : UnderWay) (w : ℕ) (s : Snapshot) (v : Verdict) (delivered 
           slot_is = ap (λ (l : List Slot). slot_at l s.seq) slots ∙ was.slot_is;
           is_state = (answered_come (messages s.seq) came, sealed_ready s.seq (messages s.seq).head (progress_of_message (messages s.seq)) s at.1);
           is_slot = record { head = was.is_slot.head; count = was.is_slot.count; words = was.is_slot.words; lookups = was.is_slot.lookups };
+          is_sealed = was.is_sealed;
         };
         dead = λ none. absurd (true≢false (sym live ∙ none));
       }

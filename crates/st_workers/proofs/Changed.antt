@@ -68,6 +68,7 @@ module _ (messages after : ℕ → Message) (turns turned : ℕ → Option ℕ) 
           slot_is = changes.slot q ne ∙ was.slot_is;
           is_state = state_still q was.state ne live was.is_state;
           is_slot = was.is_slot;
+          is_sealed = was.is_sealed;
         }),
       )
 
@@ -165,6 +166,7 @@ unchanged messages turns alive posted old new same agrees = record {
         slot_is = same.slot q ∙ was.slot_is;
         is_state = was.is_state;
         is_slot = was.is_slot;
+        is_sealed = was.is_sealed;
       };
   dead = λ q is.
       let was : IsDead q old = agrees.dead q is in

@@ -1,22 +1,23 @@
 -- The messages and workers agree with the law's machine after a worker has claimed a number.
-use Rattle.std.proofs.Common.{◌≡◌, ◌≢◌, ◌-◌, ℕ, ◌==◌, ◌||◌, Bool, true, false, cond, List, set, Option, Some, None, refl, ap, sym, ◌∙◌, subst}
+use Rattle.std.proofs.Common.{◌≡◌, ◌≢◌, ◌-◌, ℕ, ◌==◌, ◌||◌, Bool, true, false, cond, set, Option, Some, None, refl, ap, sym, ◌∙◌, subst}
 use Rattle.std.proofs.lemmas.Bool.{eq-eqb, ne_eqb, true≢false}
 use Rattle.std.proofs.lemmas.Option.{none-some, same_Some}
 use Rattle.st_calls.specs.declared.judged.Verdict.{Verdict}
 use Rattle.st_lookaside.specs.Slot.{Slot}
-use Rattle.st_lookaside.specs.Slots.{slot_at}
+use Rattle.st_lookaside.specs.Slots.{slot_at, ChangesSlot}
 use Rattle.st_messages.specs.declared.message.MsgState.{MsgState}
 use Rattle.st_messages.specs.declared.message.MsgState.TheVariants.{Waiting, Claimed, Answered}
 use Rattle.st_messages.specs.Messages.{HeldCalls, message_state, thread_of_number, with_state}
 use Rattle.st_messages.proofs.Whole.{states_moved, threads_moved, waiting_live}
 use Rattle.st_trace.specs.declared.entry.Entry.TheVariants as entry
 use Rattle.st_law.specs.State.{Message, is_ready, progress_of_message}
-use Rattle.st_workers.specs.Filling.{IsTurnFor}
+use Rattle.st_workers.specs.Filling.{sealed_if_ready, IsTurnFor}
 use Rattle.st_workers.specs.Refinement.{at_work, AgreesWithMachine, RepresentsAfterEntry, HasMessageFlags, IsLive, IsSlotOf, IsState, AreValidWorkers}
 use Rattle.st_workers.specs.UnderWay.{Found, UnderWay, found_in, turn_of_worker}
 use Rattle.st_workers.specs.declared.turn.Turn.{Turn}
 use Rattle.st_workers.specs.declared.turn.Turn.TheVariants.{Idle}
-use Rattle.st_workers.proofs.Copies.{slot_number}
+use Rattle.st_workers.proofs.Copies.{sealed_then, slot_number, slot_sealed}
+use Rattle.st_workers.proofs.Filled.{changed_to}
 use Rattle.st_workers.proofs.Steps.{all_turned, all_worked, count_kept, message_worked, stepped, turn_is, verdicts_kept, waiting_unturned, IsStep}
 use Rattle.st_workers.proofs.Turns.{number_within}
 
@@ -36,7 +37,7 @@ live_by_state messages turns alive posted found agrees q state is true e = e
 live_by_state messages turns alive posted found agrees q state is false e = absurd (none-some state (sym (agrees.dead q e).state ∙ is))
 
 module _ (old new : UnderWay) (w p : ℕ) (slot : Slot) (t : Turn) (idle : turn_of_worker old w ≡ Some Idle) (waits : message_state old.calls p ≡ Some Waiting) (there : slot_at old.slots p ≡ Some slot)
-    (calls : new.calls ≡ with_state old.calls p (Claimed w)) (slots : new.slots ≡ old.slots) (put : new.turns ≡ set old.turns (w - 1) t) (turn : IsTurnFor p slot t) where
+    (calls : new.calls ≡ with_state old.calls p (Claimed w)) (slots : ChangesSlot old.slots p (Some (sealed_if_ready slot)) new.slots) (put : new.turns ≡ set old.turns (w - 1) t) (turn : IsTurnFor p slot t) where
   states_now : (q : ℕ) → q ≢ p → message_state new.calls q ≡ message_state old.calls q
   states_now q ne = ap (λ (c : HeldCalls). message_state c q) calls ∙ states_moved old.calls p (Claimed w) (waiting_live old.calls p waits) q ∙ ap (λ (b : Bool). cond b (Some (Claimed w)) (message_state old.calls q)) (ne_eqb q p ne)
 
@@ -81,7 +82,7 @@ module _ (old new : UnderWay) (w p : ℕ) (slot : Slot) (t : Turn) (idle : turn_
       others = λ q ne. claimed_other q (messages q) ne;
       states = states_now;
       threads = threads_now;
-      slots = λ q ne. ap (λ (l : List Slot). slot_at l q) slots;
+      slots = λ q ne. slots q ∙ ap (λ (b : Bool). cond b (Some (sealed_if_ready slot)) (slot_at old.slots q)) (ne_eqb q p ne);
       only = λ v ne is. waiting_unturned (messages p) come (agrees.turned v p is);
       stay = λ v ne other. ap (λ (b : Bool). cond b (Some p) (turns v)) (ne_eqb w v (λ x. ne (sym x)));
       was = λ q is live. absurd (idle_at_none messages alive (turns w) q (agrees.workers w Idle idle) is live);
@@ -92,12 +93,13 @@ module _ (old new : UnderWay) (w p : ℕ) (slot : Slot) (t : Turn) (idle : turn_
       live = λ is. record {
         state = Claimed w;
         tid = was.tid;
-        slot = slot;
+        slot = sealed_if_ready slot;
         state_is = state_now;
         thread_is = threads_now p ∙ was.thread_is;
-        slot_is = ap (λ (l : List Slot). slot_at l p) slots ∙ there;
+        slot_is = changed_to old.slots new.slots p (Some (sealed_if_ready slot)) slots;
         is_state = (claimed_come (messages p) come, turned_w);
-        is_slot = is_slot;
+        is_slot = slot_sealed (all_worked (entry.Claimed w p) messages p) was.tid slot is_slot;
+        is_sealed = λ claimed ready. sealed_then (all_worked (entry.Claimed w p) messages p) was.tid slot is_slot ready;
       };
       dead = λ e. absurd (true≢false (sym live_p ∙ e));
     }

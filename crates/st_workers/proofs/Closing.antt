@@ -45,6 +45,7 @@ module _ (closed : ℕ → Bool) (messages : ℕ → Message) (turns : ℕ → O
           slot_is = was.slot_is;
           is_state = state_closed (closed q) turns q (messages q) was.state was.is_state;
           is_slot = record { head = was.is_slot.head; count = was.is_slot.count; words = was.is_slot.words; lookups = was.is_slot.lookups };
+          is_sealed = was.is_sealed;
         };
     dead = agrees.dead;
     given = agrees.given;

@@ -1,5 +1,5 @@
 -- The slot of a message and its record in the law's machine: their progress, and how one more word or look changes them.
-use Rattle.std.proofs.Common.{◌≡◌, ◌<◌, ℕ, ◌+◌, ◌==◌, Bool, true, false, cond, List, [], ◌∷◌, ◌++◌, length, set, Option, Some, inl, inr, refl, ap, sym, ◌∙◌, subst, arith}
+use Rattle.std.proofs.Common.{◌≡◌, ◌<◌, ℕ, ◌+◌, ◌==◌, ◌||◌, Bool, true, false, cond, List, [], ◌∷◌, ◌++◌, length, set, Option, Some, inl, inr, refl, ap, sym, ◌∙◌, subst, arith}
 use Rattle.std.specs.Prelude.{if◌then◌else◌, slice_index_or}
 use Rattle.std.proofs.lemmas.Bool.{cases_eq, eq-eqb, eqb-true, ne_eqb}
 use Rattle.std.proofs.lemmas.List.{get_or-set_other, get_or-set_same, length-set}
@@ -18,8 +18,9 @@ use Rattle.st_lookaside.proofs.Progress.{front_is, in_front}
 use Rattle.st_model.specs.Spelling.{Spelled, spell}
 use Rattle.st_names.specs.declared.seen.SeenText.{SeenText}
 use Rattle.st_law.specs.Messages.{Head}
-use Rattle.st_law.specs.State.{Message, progress_of_head, progress_of_message, snapshot_of_message, snapshot_of_progress}
+use Rattle.st_law.specs.State.{Message, is_ready, progress_of_head, progress_of_message, snapshot_of_message, snapshot_of_progress}
 use Rattle.st_law.specs.State as law
+use Rattle.st_workers.specs.Filling.{sealed_if_ready}
 use Rattle.st_workers.specs.Refinement.{head_of, IsSlotOf}
 
 -- ---- the slot of a number
@@ -41,6 +42,14 @@ module _ (message : Message) (tid : ℕ) (slot : Slot) (is : IsSlotOf message ti
   same_progress =
       ap (λ (o : Option Head). progress_of_head o message.words message.lookups) is.head
       ∙ (λ k. progress (arg_request slot.head) (λ j. is.words j k) (λ j. is.lookups j k))
+
+  -- the slot of a worker's message is sealed if the message is complete
+  pub sealed_then : is_ready (progress_of_message message) ≡ true → (sealed_if_ready slot).is_sealed ≡ true
+  sealed_then ready = ap (λ (b : Bool). b || slot.is_sealed) (sym (ap is_ready same_progress) ∙ ready)
+
+  -- and it is the slot of the message still
+  pub slot_sealed : IsSlotOf message tid (sealed_if_ready slot)
+  slot_sealed = record { head = is.head; count = is.count; words = is.words; lookups = is.lookups }
 
   -- the sealed copies of a slot are the snapshot of its message
   pub same_snapshot : (q : ℕ) (args : List ArgText) → slot.head.seq ≡ q → slot_progress slot ≡ Ready args → snapshot_of_message q message ≡ Some (snapshot_with slot.head args)

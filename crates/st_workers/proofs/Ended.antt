@@ -133,6 +133,7 @@ module _ (old new : UnderWay) (w p : ℕ) (errno : Errno) (working : turn_of_wor
         slot_is = ap (λ (l : List Slot). slot_at l p) slots ∙ fault_was.slot_is;
         is_state = fault_come (messages p) (agrees.turned w p fault_at.0);
         is_slot = record { head = fault_was.is_slot.head; count = fault_was.is_slot.count; words = fault_was.is_slot.words; lookups = fault_was.is_slot.lookups };
+        is_sealed = fault_was.is_sealed;
       };
       dead = λ none. absurd (true≢false (sym fault_at.1 ∙ none));
     }

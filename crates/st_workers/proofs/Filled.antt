@@ -1,12 +1,17 @@
 -- The slot of a number after a word or a look, and after that is undone.
-use Rattle.std.proofs.Common.{◌≡◌, ℕ, Bool, cond, List, Option, Some, None, inl, inr, refl, ap, sym, ◌∙◌, subst, IsSome, IfSome}
+use Rattle.std.proofs.Common.{◌≡◌, ◌||◌, ℕ, Bool, true, false, cond, List, Option, Some, None, inl, inr, refl, ap, sym, ◌∙◌, subst, IsSome, IfSome}
 use Rattle.std.proofs.lemmas.Bool.{cases_eq, eq-eqb, ne_eqb}
 use Rattle.std.proofs.lemmas.Option.{none-some, same_Some}
-use Rattle.st_lookaside.specs.Slot.{Slot, next_need, slot_progress, IsInOrder, HasAllArguments}
+use Rattle.st_effects.specs.Progress.{Progress, Word, Look, Stuck, Ready as Whole}
+use Rattle.st_lookaside.specs.Slot.{Slot, next_need, sealed_slot, slot_progress, IsInOrder, HasAllArguments}
 use Rattle.st_lookaside.specs.Slots.{slot_at, ChangesSlot}
+use Rattle.st_lookaside.specs.declared.slot.Next.{Next}
 use Rattle.st_lookaside.specs.declared.slot.Next.TheVariants as next
 use Rattle.st_lookaside.proofs.Callers.{ready_asked}
-use Rattle.st_workers.specs.Filling.{AreSame}
+use Rattle.st_law.specs.State.{is_ready}
+use Rattle.st_workers.specs.Filling.{sealed_if_ready, AreSame, IsTurnFor}
+use Rattle.st_workers.specs.declared.turn.Turn.{Turn}
+use Rattle.st_workers.specs.declared.turn.Turn.TheVariants.{Working}
 
 -- ---- the slot of the number
 
@@ -42,6 +47,68 @@ ready_then old mid seq after there changes asks =
     let changed : ChangesSlot old seq (Some (after slot.0)) mid = known (slot_at old seq) (λ s. ChangesSlot old seq (Some (after s)) mid) slot.0 slot.1 changes in
     tells (slot_at mid seq) (λ s. HasAllArguments (slot_progress s)) (after slot.0) (changed_to old mid seq (Some (after slot.0)) changed)
     (ready_asked (slot_progress (after slot.0)) (known (slot_at old seq) (λ s. next.Ready ≡ next_need (slot_progress (after s))) slot.0 slot.1 asks))
+
+-- ---- a seal
+
+all_there : (p : Progress) → HasAllArguments p → is_ready p ≡ true
+all_there (Word part place) is = absurd is
+all_there (Look part name) is = absurd is
+all_there (Stuck errno) is = absurd is
+all_there (Whole args) is = refl
+
+not_there : (p : Progress) → (next.Ready ≡ next_need p → ⊥) → is_ready p ≡ false
+not_there (Word part place) ne = refl
+not_there (Look part name) ne = refl
+not_there (Stuck errno) ne = refl
+not_there (Whole args) ne = absurd (ne refl)
+
+-- a complete slot is sealed as it is expected
+pub seal_ready : (slot : Slot) → HasAllArguments (slot_progress slot) → sealed_slot slot ≡ sealed_if_ready slot
+seal_ready slot is = ap (λ (b : Bool). record slot { is_sealed = b || slot.is_sealed }) (sym (all_there (slot_progress slot) is))
+
+-- any other is left as it is
+pub leave_unready : (slot : Slot) → (next.Ready ≡ next_need (slot_progress slot) → ⊥) → slot ≡ sealed_if_ready slot
+leave_unready slot ne = ap (λ (b : Bool). record slot { is_sealed = b || slot.is_sealed }) (sym (not_there (slot_progress slot) ne))
+
+-- a change after which the slot is complete, and a seal
+pub sealed_change : (old mid new : List Slot) (seq : ℕ) (after : Slot → Slot) → IsSome (slot_at old seq) → IfSome (slot_at old seq) (λ slot. ChangesSlot old seq (Some (after slot)) mid)
+    → IfSome (slot_at mid seq) (λ slot. HasAllArguments (slot_progress slot)) → IfSome (slot_at mid seq) (λ slot. ChangesSlot mid seq (Some (sealed_slot slot)) new)
+    → IfSome (slot_at old seq) (λ slot. ChangesSlot old seq (Some (sealed_if_ready (after slot))) new)
+sealed_change old mid new seq after there changes ready seals =
+    let slot = the_slot (slot_at old seq) there in
+    let changed : ChangesSlot old seq (Some (after slot.0)) mid = known (slot_at old seq) (λ s. ChangesSlot old seq (Some (after s)) mid) slot.0 slot.1 changes in
+    let here : slot_at mid seq ≡ Some (after slot.0) = changed_to old mid seq (Some (after slot.0)) changed in
+    tells (slot_at old seq) (λ s. ChangesSlot old seq (Some (sealed_if_ready (after s))) new) slot.0 slot.1
+    (subst (λ (s : Slot). ChangesSlot old seq (Some s) new) (seal_ready (after slot.0) (known (slot_at mid seq) (λ s. HasAllArguments (slot_progress s)) (after slot.0) here ready))
+    (last_change old mid new seq (Some (after slot.0)) (Some (sealed_slot (after slot.0))) changed (known (slot_at mid seq) (λ s. ChangesSlot mid seq (Some (sealed_slot s)) new) (after slot.0) here seals)))
+
+-- a change after which the slot isn't complete
+pub unsealed_change : (old new : List Slot) (seq : ℕ) (after : Slot → Slot) → IsSome (slot_at old seq) → IfSome (slot_at old seq) (λ slot. ChangesSlot old seq (Some (after slot)) new)
+    → IfSome (slot_at old seq) (λ slot. next.Ready ≡ next_need (slot_progress (after slot)) → ⊥) → IfSome (slot_at old seq) (λ slot. ChangesSlot old seq (Some (sealed_if_ready (after slot))) new)
+unsealed_change old new seq after there changes ne =
+    let slot = the_slot (slot_at old seq) there in
+    tells (slot_at old seq) (λ s. ChangesSlot old seq (Some (sealed_if_ready (after s))) new) slot.0 slot.1
+    (subst (λ (s : Slot). ChangesSlot old seq (Some s) new) (leave_unready (after slot.0) (known (slot_at old seq) (λ s. next.Ready ≡ next_need (slot_progress (after s)) → ⊥) slot.0 slot.1 ne))
+    (known (slot_at old seq) (λ s. ChangesSlot old seq (Some (after s)) new) slot.0 slot.1 changes))
+
+-- a slot that asks for something isn't complete
+pub not_asked : (o : Option Slot) (asked : Next) (after : Slot → Slot) → IfSome o (λ slot. asked ≡ next_need (slot_progress (after slot))) → (asked ≡ next.Ready → ⊥) → IfSome o (λ slot. next.Ready ≡ next_need (slot_progress (after slot)) → ⊥)
+not_asked None asked after asks ne = tt
+not_asked (Some slot) asked after asks ne = λ ready. ne (asks ∙ sym ready)
+
+-- so its worker goes on
+pub goes_on : (o : Option Slot) (seq : ℕ) (turn : Turn) (asked : Next) (after : Slot → Slot) → turn ≡ Working seq → IfSome o (λ slot. asked ≡ next_need (slot_progress (after slot))) → (asked ≡ next.Ready → ⊥) → IfSome o (λ slot. IsTurnFor seq (after slot) turn)
+goes_on None seq turn asked after works asks ne = tt
+goes_on (Some slot) seq turn asked after works asks ne = subst (IsTurnFor seq (after slot)) (sym works) (refl, not_there (slot_progress (after slot)) (λ ready. ne (asks ∙ sym ready)))
+
+-- slots of which none changes
+pub no_change : (slots : List Slot) (seq : ℕ) → IsSome (slot_at slots seq) → IfSome (slot_at slots seq) (λ slot. ChangesSlot slots seq (Some slot) slots)
+no_change slots seq there =
+    let slot = the_slot (slot_at slots seq) there in
+    tells (slot_at slots seq) (λ s. ChangesSlot slots seq (Some s) slots) slot.0 slot.1 (λ other. elim (cases_eq other seq) [
+      | inl e ↦ ap (slot_at slots) e ∙ slot.1 ∙ sym (ap (λ (c : Bool). cond c (Some slot.0) (slot_at slots other)) (eq-eqb other seq e))
+      | inr ne ↦ sym (ap (λ (c : Bool). cond c (Some slot.0) (slot_at slots other)) (ne_eqb other seq ne))
+    ])
 
 -- ---- a change is undone
 

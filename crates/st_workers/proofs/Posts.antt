@@ -107,6 +107,7 @@ module _ (old new : Found) (p tid : ℕ) (head : kept.Head) (is_posted : IsPoste
         slot_is = is_posted.slot;
         is_state = untouched_now.come;
         is_slot = new_slot_of (with_head (head_of tid head) p messages p) tid head head_now untouched_now;
+        is_sealed = λ claimed ready. absurd (true≢false (sym claimed ∙ untouched_now.come.claimed));
       },
     );
     dead = λ e. absurd (true≢false (sym (lives p ∙ ap (λ (b : Bool). cond b true (alive p)) (eq-eqb p p refl)) ∙ e));

@@ -1,7 +1,8 @@
 -- The sealed copies of an answered message are those of the law's machine.
-use Rattle.std.proofs.Common.{◌≡◌, ◌∙◌, ℕ, true, IfOk, IfSome, Option, Result, Ok, Err, Some, None, refl, ap, sym, subst}
+use Rattle.std.proofs.Common.{◌≡◌, ◌∙◌, ℕ, true, IfSome, IsSome, is_some, Option, Some, None, refl, ap, sym, subst}
 use Rattle.std.proofs.lemmas.Option.{same_Some}
 use Rattle.st_calls.specs.declared.judged.Snapshot.{Snapshot}
+use Rattle.st_calls.specs.declared.judged.Verdict.{Verdict}
 use Rattle.st_effects.specs.Progress.{Ready as Whole}
 use Rattle.st_lookaside.specs.Slot.{slot_progress, snapshot_with, Slot}
 use Rattle.st_lookaside.specs.Slots.{slot_at}
@@ -10,23 +11,39 @@ use Rattle.st_messages.specs.declared.message.MsgState.TheVariants.{Waiting, Cla
 use Rattle.st_messages.specs.Messages.{message_state}
 use Rattle.st_law.specs.State.{is_live, snapshot_in, State}
 use Rattle.st_law.specs.declared.input.Input.{Input}
-use Rattle.st_workers.specs.Refinement.{HasAnswer, RepresentsMessages, IsLive, IsSlotOf, AreValidWorkers}
+use Rattle.st_workers.specs.Refinement.{HasAnswer, RepresentsMessages, IsLive, IsSlotOf, IsState, AreValidWorkers}
 use Rattle.st_workers.specs.UnderWay.{found_in, UnderWay}
 use Rattle.st_workers.proofs.Claims.{live_by_state}
 use Rattle.st_workers.proofs.Copies.{same_snapshot, slot_number}
-use Rattle.st_workers.proofs.Filled.{known}
+use Rattle.st_workers.proofs.Filled.{known, tells}
 use Rattle.st_workers.proofs.Tasks.{state_slot}
 
-pub both_ok : {A E : Type 0} (r : Result A E) (P Q R : A → Type 0) → ((x : A) → P x → Q x → R x) → IfOk r P → IfOk r Q → IfOk r R
-both_ok (Ok x) P Q R f p q = f x p q
-both_ok (Err e) P Q R f p q = p
-
-answered_state : (o : Option MsgState) → HasAnswer o → (state : MsgState) × (o ≡ Some state)
-answered_state (Some (Answered v)) is = (Answered v, refl)
+answered_state : (o : Option MsgState) → HasAnswer o → (v : Verdict) × (o ≡ Some (Answered v))
+answered_state (Some (Answered v)) is = (v, refl)
 answered_state (Some Waiting) is = absurd is
 answered_state (Some (Claimed w)) is = absurd is
 answered_state (Some (Faulted errno)) is = absurd is
 answered_state None is = absurd is
+
+-- the slot of an answered message is sealed
+module _ (kept : UnderWay) (seq : ℕ) (whole : AreValidWorkers kept) (answered : HasAnswer (message_state kept.calls seq)) where
+  its_answer : (v : Verdict) × (message_state kept.calls seq ≡ Some (Answered v))
+  its_answer = answered_state (message_state kept.calls seq) answered
+
+  lives : whole.alive seq ≡ true
+  lives = live_by_state whole.messages whole.turns whole.alive whole.posted (found_in kept) whole.agrees seq (Answered its_answer.0) its_answer.1 (whole.alive seq) refl
+
+  was : IsLive whole.turns seq (whole.messages seq) (found_in kept)
+  was = whole.agrees.live seq lives
+
+  come : IsState whole.turns seq (whole.messages seq) (Answered its_answer.0)
+  come = subst (IsState whole.turns seq (whole.messages seq)) (same_Some was.state (Answered its_answer.0) (sym was.state_is ∙ its_answer.1)) was.is_state
+
+  pub answered_slot : IsSome (slot_at kept.slots seq)
+  answered_slot = ap is_some was.slot_is
+
+  pub answered_sealed : IfSome (slot_at kept.slots seq) (λ slot. slot.is_sealed ≡ true)
+  answered_sealed = tells (slot_at kept.slots seq) (λ slot. slot.is_sealed ≡ true) was.slot was.slot_is (was.is_sealed come.0.claimed come.1)
 
 module _ (kept : UnderWay) (seq : ℕ) (s : Snapshot) (args : IfSome (slot_at kept.slots seq) (λ slot. slot_progress slot ≡ Whole s.parts)) (head : IfSome (slot_at kept.slots seq) (λ slot. s ≡ snapshot_with slot.head s.parts)) where
   sealed_by : (slot : Slot) → slot_at kept.slots seq ≡ Some slot → (i : Input) (st : State) → RepresentsMessages i st (is_live st) kept → is_live st seq ≡ true → snapshot_in st seq ≡ Some s
@@ -39,6 +56,6 @@ module _ (kept : UnderWay) (seq : ℕ) (s : Snapshot) (args : IfSome (slot_at ke
 
   pub sealed_is : AreValidWorkers kept → HasAnswer (message_state kept.calls seq) → (i : Input) (st : State) → RepresentsMessages i st (is_live st) kept → snapshot_in st seq ≡ Some s
   sealed_is whole answered i st is =
-      let state = answered_state (message_state kept.calls seq) answered in
-      let slot = state_slot kept whole seq state.0 state.1 in
-      sealed_by slot.0 slot.1 i st is (live_by_state st.messages st.turns (is_live st) st.posted (found_in kept) is.agrees seq state.0 state.1 (is_live st seq) refl)
+      let answer = answered_state (message_state kept.calls seq) answered in
+      let slot = state_slot kept whole seq (Answered answer.0) answer.1 in
+      sealed_by slot.0 slot.1 i st is (live_by_state st.messages st.turns (is_live st) st.posted (found_in kept) is.agrees seq (Answered answer.0) answer.1 (is_live st seq) refl)

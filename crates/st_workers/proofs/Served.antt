@@ -17,12 +17,12 @@ use Rattle.st_trace.specs.declared.entry.Entry.TheVariants as entry
 use Rattle.st_law.specs.declared.input.Input.{Input}
 use Rattle.st_law.specs.Messages.{turn_after}
 use Rattle.st_law.specs.State.{Message}
-use Rattle.st_workers.specs.Filling.{IsTurnFor}
+use Rattle.st_workers.specs.Filling.{sealed_if_ready, IsTurnFor}
 use Rattle.st_workers.specs.Refinement.{AgreesWithMachine, RepresentsMachineMessages, HasMessageFlags, IsLive, IsSlotOf, IsTurn, AreValidWorkers}
 use Rattle.st_workers.specs.UnderWay.{found_in, turn_of_worker, UnderWay}
 use Rattle.st_workers.specs.declared.turn.Turn.{Turn}
 use Rattle.st_workers.specs.declared.turn.Turn.TheVariants.{Working}
-use Rattle.st_workers.proofs.Copies.{asked_inside, look_kept, slot_number, word_kept, IsBelow}
+use Rattle.st_workers.proofs.Copies.{asked_inside, look_kept, sealed_then, slot_number, slot_sealed, word_kept, IsBelow}
 use Rattle.st_workers.proofs.Filled.{changed_to}
 use Rattle.st_workers.proofs.Steps.{all_turned, all_worked, count_kept, message_worked, stepped, turn_is, turned_state, verdicts_kept, IsStep}
 use Rattle.st_workers.proofs.Turns.{number_within}
@@ -36,7 +36,7 @@ pub record Fills (e : Entry) (p : ℕ) (slot filled : Slot) : Type 0 where
   pub turn : (v : ℕ) (o : Option ℕ) → turn_after e v o ≡ o
 
 module _ (e : Entry) (old new : UnderWay) (w p : ℕ) (slot filled : Slot) (t : Turn) (working : turn_of_worker old w ≡ Some (Working p)) (there : slot_at old.slots p ≡ Some slot)
-    (calls : new.calls ≡ old.calls) (slots : ChangesSlot old.slots p (Some filled) new.slots) (put : new.turns ≡ set old.turns (w - 1) t) (turn : IsTurnFor p filled t) (fills : Fills e p slot filled) where
+    (calls : new.calls ≡ old.calls) (slots : ChangesSlot old.slots p (Some (sealed_if_ready filled)) new.slots) (put : new.turns ≡ set old.turns (w - 1) t) (turn : IsTurnFor p filled t) (fills : Fills e p slot filled) where
   states_now : (q : ℕ) → message_state new.calls q ≡ message_state old.calls q
   states_now q = ap (λ (c : HeldCalls). message_state c q) calls
 
@@ -68,7 +68,7 @@ module _ (e : Entry) (old new : UnderWay) (w p : ℕ) (slot filled : Slot) (t : 
       others = λ q ne. fills.other q (messages q) ne;
       states = λ q ne. states_now q;
       threads = λ q. ap (λ (c : HeldCalls). thread_of_number c q) calls;
-      slots = λ q ne. slots q ∙ ap (λ (b : Bool). cond b (Some filled) (slot_at old.slots q)) (ne_eqb q p ne);
+      slots = λ q ne. slots q ∙ ap (λ (b : Bool). cond b (Some (sealed_if_ready filled)) (slot_at old.slots q)) (ne_eqb q p ne);
       only = λ v ne is. ne (agrees.apart v w p is at.0);
       stay = λ v ne other. fills.turn v (turns v);
       was = λ q is live. same_Some q p (sym is ∙ at.0);
@@ -79,12 +79,13 @@ module _ (e : Entry) (old new : UnderWay) (w p : ℕ) (slot filled : Slot) (t : 
       live = λ is. record {
         state = Claimed claimed.0;
         tid = was.tid;
-        slot = filled;
+        slot = sealed_if_ready filled;
         state_is = state_claimed;
         thread_is = ap (λ (c : HeldCalls). thread_of_number c p) calls ∙ was.thread_is;
-        slot_is = changed_to old.slots new.slots p (Some filled) slots;
+        slot_is = changed_to old.slots new.slots p (Some (sealed_if_ready filled)) slots;
         is_state = (fills.come (messages p) came, fills.turn claimed.0 (turns claimed.0) ∙ claimed.2);
-        is_slot = is_slot;
+        is_slot = slot_sealed (all_worked e messages p) was.tid filled is_slot;
+        is_sealed = λ claimed ready. sealed_then (all_worked e messages p) was.tid filled is_slot ready;
       };
       dead = λ none. absurd (true≢false (sym at.1 ∙ none));
     }

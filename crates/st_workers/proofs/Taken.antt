@@ -7,7 +7,7 @@ use Rattle.st_lookaside.specs.Slots.{slot_at, ChangesSlot}
 use Rattle.st_names.specs.Name.{Components}
 use Rattle.st_names.specs.declared.seen.SeenText.{SeenText}
 use Rattle.st_trace.specs.declared.entry.Entry.TheVariants as entry
-use Rattle.st_workers.specs.Filling.{IsTurnFor}
+use Rattle.st_workers.specs.Filling.{sealed_if_ready, IsTurnFor}
 use Rattle.st_workers.specs.Refinement.{RepresentsAfterEntry, AreValidWorkers}
 use Rattle.st_workers.specs.Tasks.{task_of, IsCopy, IsLook}
 use Rattle.st_workers.specs.UnderWay.{turn_of_worker, UnderWay}
@@ -39,10 +39,10 @@ module _ (old new : UnderWay) (w seq : ℕ) (t : Turn) (working : turn_of_worker
   slot : (slot : Slot) × (slot_at old.slots seq ≡ Some slot)
   slot = working_slot old whole w seq working
 
-  module _ (word : ℕ) (slots : IfSome (slot_at old.slots seq) (λ slot. ChangesSlot old.slots seq (Some (after_word slot word)) new.slots))
+  module _ (word : ℕ) (slots : IfSome (slot_at old.slots seq) (λ slot. ChangesSlot old.slots seq (Some (sealed_if_ready (after_word slot word))) new.slots))
       (turn : IfSome (slot_at old.slots seq) (λ slot. IsTurnFor seq (after_word slot word) t)) where
-    slots_word : ChangesSlot old.slots seq (Some (after_word slot.0 word)) new.slots
-    slots_word = known (slot_at old.slots seq) (λ s. ChangesSlot old.slots seq (Some (after_word s word)) new.slots) slot.0 slot.1 slots
+    slots_word : ChangesSlot old.slots seq (Some (sealed_if_ready (after_word slot.0 word))) new.slots
+    slots_word = known (slot_at old.slots seq) (λ s. ChangesSlot old.slots seq (Some (sealed_if_ready (after_word s word))) new.slots) slot.0 slot.1 slots
 
     turn_word : IsTurnFor seq (after_word slot.0 word) t
     turn_word = known (slot_at old.slots seq) (λ s. IsTurnFor seq (after_word s word) t) slot.0 slot.1 turn
@@ -59,10 +59,10 @@ module _ (old new : UnderWay) (w seq : ℕ) (t : Turn) (working : turn_of_worker
         served_kept (entry.Copied seq part place word) old new w seq slot.0 (after_word slot.0 word) t working slot.1 calls slots_word put turn_word (fills_word seq part place word slot.0 asked.1) i st.messages st.turns alive st.posted is in
         subst (λ (n : ℕ). RepresentsAfterEntry old (entry.Copied n part place word) new) asked.0 follows
 
-  module _ (seen : SeenText) (slots : IfSome (slot_at old.slots seq) (λ slot. ChangesSlot old.slots seq (Some (after_look slot seen)) new.slots))
+  module _ (seen : SeenText) (slots : IfSome (slot_at old.slots seq) (λ slot. ChangesSlot old.slots seq (Some (sealed_if_ready (after_look slot seen))) new.slots))
       (turn : IfSome (slot_at old.slots seq) (λ slot. IsTurnFor seq (after_look slot seen) t)) where
-    slots_look : ChangesSlot old.slots seq (Some (after_look slot.0 seen)) new.slots
-    slots_look = known (slot_at old.slots seq) (λ s. ChangesSlot old.slots seq (Some (after_look s seen)) new.slots) slot.0 slot.1 slots
+    slots_look : ChangesSlot old.slots seq (Some (sealed_if_ready (after_look slot.0 seen))) new.slots
+    slots_look = known (slot_at old.slots seq) (λ s. ChangesSlot old.slots seq (Some (sealed_if_ready (after_look s seen))) new.slots) slot.0 slot.1 slots
 
     turn_look : IsTurnFor seq (after_look slot.0 seen) t
     turn_look = known (slot_at old.slots seq) (λ s. IsTurnFor seq (after_look s seen) t) slot.0 slot.1 turn

@@ -1,5 +1,5 @@
 -- The turn of a worker, by the slot of its number.
-use Rattle.std.specs.Prelude.{◌≡◌, ℕ, false, List}
+use Rattle.std.specs.Prelude.{◌≡◌, ◌||◌, ℕ, false, List}
 use Rattle.st_effects.specs.Progress.{Ready as Whole}
 use Rattle.st_lookaside.specs.Slot.{Slot, slot_progress, snapshot_with}
 use Rattle.st_lookaside.specs.Slots.{slot_at}
@@ -12,6 +12,10 @@ abbrev pub IsTurnFor : ℕ → Slot → Turn → Type 0
 IsTurnFor seq slot Idle = ⊥
 IsTurnFor seq slot (Working q) = (q ≡ seq) × (is_ready (slot_progress slot) ≡ false)
 IsTurnFor seq slot (Ready s) = (slot_progress slot ≡ Whole s.parts) × (s ≡ snapshot_with slot.head s.parts)
+
+-- the slot of a message that a worker is at, which is sealed if it is complete
+abbrev pub sealed_if_ready : Slot → Slot
+sealed_if_ready slot = record slot { is_sealed = is_ready (slot_progress slot) || slot.is_sealed }
 
 -- each number's slot is unchanged
 abbrev pub AreSame : List Slot → List Slot → Type 0

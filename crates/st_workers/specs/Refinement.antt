@@ -62,6 +62,10 @@ pub record IsSlotOf (message : Message) (tid : ℕ) (slot : Slot) : Type 0 where
   pub words : (j : ℕ) → message.words j ≡ (part_at slot.parts j).words
   pub lookups : (j : ℕ) → message.lookups j ≡ (part_at slot.parts j).lookups
 
+-- the slot of a message that was claimed and is complete is sealed
+abbrev pub IsSealedOnceReady : Message → Slot → Type 0
+IsSealedOnceReady message slot = message.claimed ≡ true → is_ready (progress_of_message message) ≡ true → slot.is_sealed ≡ true
+
 -- a live number has a state, a thread and a slot, which represent its message
 pub record IsLive (turns : ℕ → Option ℕ) (q : ℕ) (message : Message) (found : Found) : Type 0 where
   pub state : MsgState
@@ -72,6 +76,7 @@ pub record IsLive (turns : ℕ → Option ℕ) (q : ℕ) (message : Message) (fo
   pub slot_is : found.slot q ≡ Some slot
   pub is_state : IsState turns q message state
   pub is_slot : IsSlotOf message tid slot
+  pub is_sealed : IsSealedOnceReady message slot
 
 -- a number that isn't live has none of them
 pub record IsDead (q : ℕ) (found : Found) : Type 0 where

@@ -1,12 +1,12 @@
 // Takes one more word or look for a message, and updates the turn of its worker.
 ghost use Rattle.std.specs.Prelude.{◌≡◌, ℕ, true, Some, IsSome, IfSome, IfOk, OnOk, OnErr};
 ghost use Rattle.st_effects.specs.Progress.{Progress};
-ghost use Rattle.st_lookaside.specs.Slot.{after_look, after_word, next_need, slot_progress, IsInOrder, IsInside, IsLookNext, HasAllArguments, IsWordNext, Slot};
+ghost use Rattle.st_lookaside.specs.Slot.{after_look, after_word, next_need, sealed_slot, slot_progress, IsInOrder, IsInside, IsLookNext, HasAllArguments, IsWordNext, Slot};
 ghost use Rattle.st_lookaside.specs.Slots.{slot_at, ChangesSlot};
 ghost use Rattle.st_messages.specs.Messages.{is_live_number, HeldCalls};
 ghost use Rattle.st_names.specs.Seen.{seen_text};
 ghost use Rattle.st_names.specs.declared.seen.SeenText.{SeenText};
-ghost use Rattle.st_workers.specs.Filling.{AreSame, IsTurnFor};
+ghost use Rattle.st_workers.specs.Filling.{sealed_if_ready, AreSame, IsTurnFor};
 ghost use Rattle.st_workers.specs.Tasks.{task_at, CanServe};
 ghost use Rattle.st_workers.specs.declared.turn.Turn.TheVariants.{Ready, Working};
 
@@ -36,11 +36,12 @@ pub fn task_at(seq: Seq, pid: Pid, next: Next) -> Task
     }
 }
 
-/// The turn of the worker of a message. If the message is complete, it is sealed.
+/// The turn of the worker of a message. If the message is complete, it is sealed. If memory runs out, nothing changes.
 #[inline]
 pub fn turn_for(slots: &mut Slots, alloc: Global, seq: Seq) -> Result<Turn, AllocError>
     requires { IsSome (slot_at slots.old seq) }
-    ensures same { slots.new ≡ slots.old }
+    ensures slot { OnOk result (IfSome (slot_at slots.old seq) (λ slot. ChangesSlot slots.old seq (Some (sealed_if_ready slot)) slots.new)) }
+    ensures err { OnErr result (slots.new ≡ slots.old) }
     ensures turn { IfOk result (λ turn. IfSome (slot_at slots.old seq) (λ slot. IsTurnFor seq slot turn)) }
 {
     if let Next::Ready = slots.next(seq) {
@@ -53,7 +54,7 @@ pub fn turn_for(slots: &mut Slots, alloc: Global, seq: Seq) -> Result<Turn, Allo
 fn seal_last(slots: &mut Slots, alloc: Global, seq: Seq) -> Result<Shared<Snapshot>, AllocError>
     requires slot { IsSome (slot_at slots.old seq) }
     requires ready { IfSome (slot_at slots.old seq) (λ slot. HasAllArguments (slot_progress slot)) }
-    ensures same { OnOk result (slots.new ≡ slots.old) }
+    ensures slot { OnOk result (IfSome (slot_at slots.old seq) (λ slot. ChangesSlot slots.old seq (Some (sealed_slot slot)) slots.new)) }
     ensures turn { IfOk result (λ copies. IfSome (slot_at slots.old seq) (λ slot. IsTurnFor seq slot (Ready copies))) }
     ensures word { OnErr result ((before : Slot) (word : ℕ) → IsInOrder before → IsWordNext (slot_progress before) → slot_at slots.old seq ≡ Some (after_word before word) → ChangesSlot slots.old seq (Some before) slots.new) }
     ensures look { OnErr result ((before : Slot) (seen : SeenText) → IsInOrder before → IsLookNext (slot_progress before) → slot_at slots.old seq ≡ Some (after_look before seen) → ChangesSlot slots.old seq (Some before) slots.new) }
@@ -79,7 +80,7 @@ pub fn take_word(
     requires slot { IsSome (slot_at slots.old seq) }
     requires next { IfSome (slot_at slots.old seq) (λ slot. IsWordNext (slot_progress slot)) }
     requires turn { turn.old ≡ Working seq }
-    ensures slot { OnOk result (IfSome (slot_at slots.old seq) (λ slot. ChangesSlot slots.old seq (Some (after_word slot word)) slots.new)) }
+    ensures slot { OnOk result (IfSome (slot_at slots.old seq) (λ slot. ChangesSlot slots.old seq (Some (sealed_if_ready (after_word slot word))) slots.new)) }
     ensures turn { OnOk result (IfSome (slot_at slots.old seq) (λ slot. IsTurnFor seq (after_word slot word) turn.new)) }
     ensures err { OnErr result (AreSame slots.old slots.new) }
     ensures stays { OnErr result (turn.new ≡ turn.old) }
@@ -102,7 +103,7 @@ pub fn take_look(
     requires slot { IsSome (slot_at slots.old seq) }
     requires next { IfSome (slot_at slots.old seq) (λ slot. IsLookNext (slot_progress slot)) }
     requires turn { turn.old ≡ Working seq }
-    ensures slot { OnOk result (IfSome (slot_at slots.old seq) (λ slot. ChangesSlot slots.old seq (Some (after_look slot (seen_text seen.entry))) slots.new)) }
+    ensures slot { OnOk result (IfSome (slot_at slots.old seq) (λ slot. ChangesSlot slots.old seq (Some (sealed_if_ready (after_look slot (seen_text seen.entry)))) slots.new)) }
     ensures turn { OnOk result (IfSome (slot_at slots.old seq) (λ slot. IsTurnFor seq (after_look slot (seen_text seen.entry)) turn.new)) }
     ensures err { OnErr result (AreSame slots.old slots.new) }
     ensures stays { OnErr result (turn.new ≡ turn.old) }

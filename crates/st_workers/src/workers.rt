@@ -305,11 +305,11 @@ impl Workers {
     }
 
     /// The copies of an answered message.
-    pub fn snapshot(&self, alloc: Global, seq: Seq) -> Result<Shared<Snapshot>, AllocError>
+    pub fn snapshot(&self, seq: Seq) -> &Shared<Snapshot>
         requires { HasAnswer (message_state self.now.calls seq) }
-        ensures { IfOk result (λ copies. (i : Input) (st : State) → RepresentsMessages i st (is_live_in st) self.now → snapshot_in st seq ≡ Some copies) }
+        ensures { (i : Input) (st : State) → RepresentsMessages i st (is_live_in st) self.now → snapshot_in st seq ≡ Some result.now }
     {
-        self.slots.copies(alloc, seq)
+        self.slots.copies(seq)
     }
 
     /// Ends a live number, because its call is made or denied, or its thread is dying. A worker at this number becomes idle, unless it is

@@ -1,11 +1,11 @@
 use Rattle.std.proofs.Common.{◌≡◌, ℕ, List, sym, subst, rules, slice_index_or}
 use Rattle.st_memory.specs.Memory.{byte_in}
 use Rattle.st_model.specs.Spelling.{Text, Fault}
-use Rattle.st_effects.specs.Progress.{ArgRequest, text_arg}
+use Rattle.st_effects.specs.Progress.{ArgRequest, text_arg, is_followed}
 use Rattle.st_law.specs.Arguments.{Surroundings}
 use Rattle.st_model.specs.Walk.{Name, resolve}
 use Rattle.st_names.specs.Name.{Components, printed_name}
-use Rattle.st_arguments.specs.Parts.{is_followed, surroundings, IsArgument, IsSpelledBy}
+use Rattle.st_arguments.specs.Parts.{surroundings, IsArgument, IsSpelledBy}
 use Rattle.st_arguments.proofs.InOrder.{fault_in_memory, fault_of_name, name_argument, text_argument}
 use Rattle.st_arguments.proofs.part.argument.Goals as goal
 use Rattle.st_arguments.proofs.part.argument.Goals.{in-Name+in_ok-text-in-Name, in_default}

@@ -1,12 +1,12 @@
-use Rattle.std.proofs.Common.{rules}
+use Rattle.std.proofs.Common.{◌≡◌, rules, true}
+use Rattle.st_calls.specs.Call.{sets_ids}
 use Rattle.st_calls.specs.declared.call.SysCall.TheVariants.{Exit, Kill, Socket, Bind, Connect}
 use Rattle.st_exec_sys.proofs.Executed.{ended_if_ok, ids_outcome, ids_set, moved, moved_if_ok, ready_with_ids, ready_with_table}
 use Rattle.st_exec_sys.proofs.execution.execute_sys.Goals as goal
 use Rattle.st_exec_sys.proofs.execution.execute_sys.Goals.{After-set_ids}
-use Rattle.st_procs.specs.Calls.{SetsIds}
 
-sets_ids : (c : After-set_ids) → SetsIds c.args.call
-sets_ids c = search rules
+sets : (c : After-set_ids) → sets_ids c.args.call ≡ true
+sets c = search rules
 
 pub returns-in-Exit-clause-executed : goal.returns-in-Exit-clause-executed
 returns-in-Exit-clause-executed c = ended_if_ok c.args.request.now c.args.fds.now c.args.procs.now c.args.spaces.now c.args.call Exit c.exit.result c.in-Exit.is c.exit.ensures.outcome c.exit.ensures.changes
@@ -15,7 +15,7 @@ pub returns-in-Kill-clause-executed : goal.returns-in-Kill-clause-executed
 returns-in-Kill-clause-executed c = ended_if_ok c.args.request.now c.args.fds.now c.args.procs.now c.args.spaces.now c.args.call Kill c.kill.result c.in-Kill.is c.kill.ensures.outcome c.kill.ensures.changes
 
 pub returns-in-SetUid-clause-executed : goal.returns-in-SetUid-clause-executed
-returns-in-SetUid-clause-executed c = ids_set c.args.request.now c.args.fds.now c.args.procs.now c.args.spaces.now c.args.call c.set_ids.result c.set_ids.new.procs (ids_outcome c.args.request.now c.args.fds.now c.args.procs.now c.args.spaces.now c.args.call c.set_ids.result (sets_ids c) c.set_ids.ensures.outcome) c.set_ids.ensures.processes c.set_ids.ensures.changes
+returns-in-SetUid-clause-executed c = ids_set c.args.request.now c.args.fds.now c.args.procs.now c.args.spaces.now c.args.call c.set_ids.result c.set_ids.new.procs (ids_outcome c.args.request.now c.args.fds.now c.args.procs.now c.args.spaces.now c.args.call c.set_ids.result (sets c) c.set_ids.ensures.outcome) c.set_ids.ensures.processes c.set_ids.ensures.changes
 
 pub returns-in-SetUid-clause-ready : goal.returns-in-SetUid-clause-ready
 returns-in-SetUid-clause-ready c = ready_with_ids c.args.request.now c.args.fds.now c.args.procs.now c.args.spaces.now c.set_ids.result c.set_ids.new.procs c.set_ids.ensures.processes c.set_ids.ensures.changes c.set_ids.ensures.err

@@ -4,33 +4,14 @@ use Rattle.st_reading.specs.Ends.{as_meaning}
 use Rattle.st_reading.specs.Meaning.{Means}
 use Rattle.st_reading.specs.declared.reading.Reading.{Reading}
 use Rattle.st_top.specs.Ends.{RunShown}
-use Rattle.st_top.proofs.Preparing.{printed_ready, ready, run_meant, shown_ready}
+use Rattle.st_reading.proofs.Runnable.{ready, run_meant}
+use Rattle.st_top.proofs.Preparing.{printed_ready, shown_ready}
 use Rattle.st_top.proofs.plain.prepare.Goals as goal
 
-pub text_of_run-requires-clause-startable : goal.text_of_run-requires-clause-startable
-text_of_run-requires-clause-startable g c =
-    (ready (g.F.Files.contents c.args.files.now) c.args.command.now (g.F.Files.asked c.args.files.now) (g.F.Files.asked c.read_command.new.files) c.in_ok-input.field-0 c.in_ok-input.ensures.ends c.in-Run.input c.in-Run.schedule c.in-Run.is
-    c.what_is_meant_to_run_can_run.ensures c.requires.limits).startable
-
-pub text_of_run-requires-clause-system : goal.text_of_run-requires-clause-system
-text_of_run-requires-clause-system g c =
-    (ready (g.F.Files.contents c.args.files.now) c.args.command.now (g.F.Files.asked c.args.files.now) (g.F.Files.asked c.read_command.new.files) c.in_ok-input.field-0 c.in_ok-input.ensures.ends c.in-Run.input c.in-Run.schedule c.in-Run.is
-    c.what_is_meant_to_run_can_run.ensures c.requires.limits).system
-
-pub text_of_run-requires-clause-bounded : goal.text_of_run-requires-clause-bounded
-text_of_run-requires-clause-bounded g c =
-    (ready (g.F.Files.contents c.args.files.now) c.args.command.now (g.F.Files.asked c.args.files.now) (g.F.Files.asked c.read_command.new.files) c.in_ok-input.field-0 c.in_ok-input.ensures.ends c.in-Run.input c.in-Run.schedule c.in-Run.is
-    c.what_is_meant_to_run_can_run.ensures c.requires.limits).bounded
-
-pub text_of_run-requires-clause-ungranted : goal.text_of_run-requires-clause-ungranted
-text_of_run-requires-clause-ungranted g c =
-    (ready (g.F.Files.contents c.args.files.now) c.args.command.now (g.F.Files.asked c.args.files.now) (g.F.Files.asked c.read_command.new.files) c.in_ok-input.field-0 c.in_ok-input.ensures.ends c.in-Run.input c.in-Run.schedule c.in-Run.is
-    c.what_is_meant_to_run_can_run.ensures c.requires.limits).ungranted
-
-pub text_of_run-requires-clause-replies : goal.text_of_run-requires-clause-replies
-text_of_run-requires-clause-replies g c =
-    (ready (g.F.Files.contents c.args.files.now) c.args.command.now (g.F.Files.asked c.args.files.now) (g.F.Files.asked c.read_command.new.files) c.in_ok-input.field-0 c.in_ok-input.ensures.ends c.in-Run.input c.in-Run.schedule c.in-Run.is
-    c.what_is_meant_to_run_can_run.ensures c.requires.limits).replies
+pub text_of_run-requires : goal.text_of_run-requires
+text_of_run-requires g c =
+    ready (g.F.Files.contents c.args.files.now) c.args.command.now (g.F.Files.asked c.args.files.now) (g.F.Files.asked c.read_command.new.files) c.in_ok-input.field-0 c.in_ok-input.ensures.ends c.in-Run.input c.in-Run.schedule c.in-Run.is
+    c.what_is_meant_to_run_can_run.ensures c.requires.limits
 
 pub returns-in-Run-clause-prepares : goal.returns-in-Run-clause-prepares
 returns-in-Run-clause-prepares g c =

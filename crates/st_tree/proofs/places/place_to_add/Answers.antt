@@ -2,7 +2,7 @@ use Rattle.std.proofs.Common.{◌≤◌, ◌<◌, arith, length}
 use Rattle.std.proofs.lemmas.Bool.{le-leb, lt-leb}
 use Rattle.st_base.specs.declared.errno.Errno.TheVariants.{ENOSPC}
 use Rattle.st_tree.specs.Objects.{tree_of}
-use Rattle.st_tree.specs.Refusals.{place_refused}
+use Rattle.st_model.specs.Adding.{place_refused}
 use Rattle.st_tree.proofs.Reasons.{last-met, last-unmet}
 use Rattle.st_tree.proofs.Trees.{count_made}
 use Rattle.st_tree.proofs.places.place_to_add.Goals as goal

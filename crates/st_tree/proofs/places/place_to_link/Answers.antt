@@ -1,7 +1,7 @@
 use Rattle.std.proofs.Common.{◌∙◌, sym}
 use Rattle.st_base.specs.declared.errno.Errno.TheVariants.{EPERM}
 use Rattle.st_tree.specs.Objects.{tree_of}
-use Rattle.st_tree.specs.Refusals.{place_refused}
+use Rattle.st_model.specs.Adding.{place_refused}
 use Rattle.st_tree.proofs.Reasons.{dir_made, last-met, last-unmet}
 use Rattle.st_tree.proofs.places.place_to_link.Goals as goal
 

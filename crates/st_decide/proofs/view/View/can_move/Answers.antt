@@ -1,4 +1,4 @@
-use Rattle.std.proofs.Common.{◌≡◌, ◌∙◌, Bool, true, ap, sym, subst}
+use Rattle.std.proofs.Common.{◌≡◌, ◌∙◌, true, ap, sym, subst}
 use Rattle.std.specs.Prelude.{is_some}
 use Rattle.st_base.specs.Numbered.{item_at_number}
 use Rattle.st_law.specs.Machine.{thread_entry}
@@ -6,7 +6,6 @@ use Rattle.st_law.specs.State.{State}
 use Rattle.st_decide.specs.Machine.{Refines, Running}
 use Rattle.st_decide.specs.Questions.{CanBeMadeOrDenied}
 use Rattle.st_decide.proofs.Enabling.{free_moves, held_moves}
-use Rattle.st_decide.proofs.NextSteps.{if_ok}
 use Rattle.st_decide.proofs.view.View.can_move.Goals as goal
 
 pub returns-in-None : goal.returns-in-None
@@ -21,7 +20,6 @@ pub returns-in-Some-number_held : goal.returns-in-Some-number_held
 returns-in-Some-number_held c =
     let m : Running = record { input = c.self.inside.input.now; system = c.self.inside.system.now; workers = c.self.inside.workers.now; threads = c.self.inside.threads.now; answers = c.self.inside.answers.now; operator = c.self.inside.operator.now } in
     let row_is = ap (λ (k : Running). item_at_number k.threads c.args.tid) c.self.view_is ∙ c.in-Some.ensures.some in
-    if_ok (λ (over : Bool). (st : State) → Refines c.args.self.now st → CanBeMadeOrDenied c.args.self.now.input st c.in-Some-number_held.seq over) (λ (can : Bool). (st : State) → Refines c.args.self.now st → can ≡ is_some (thread_entry c.args.self.now.input st c.args.tid)) c.is_over.result (λ over is_over.
-    subst (λ (k : Running). (st : State) → Refines k st → over ≡ is_some (thread_entry k.input st c.args.tid)) c.self.view_is
+    subst (λ (k : Running). (st : State) → Refines k st → c.is_over.result ≡ is_some (thread_entry k.input st c.args.tid)) c.self.view_is
     (λ st is. held_moves m st is c.args.tid c.in-Some.thread.now row_is (sym c.has_ended.ensures ∙ c.if-has_ended.false) c.in-Some-pid_of.field-0 (sym c.pid_of.ensures.pid ∙ c.in-Some-pid_of.is) c.in-Some-pid_of.ensures.there.0
-    c.in-Some-number_held.seq (sym c.number_held.ensures ∙ c.in-Some-number_held.is) over (subst (λ (k : Running). (state : State) → Refines k state → CanBeMadeOrDenied k.input state c.in-Some-number_held.seq over) (sym c.self.view_is) is_over st is))) c.is_over.ensures
+    c.in-Some-number_held.seq (sym c.number_held.ensures ∙ c.in-Some-number_held.is) c.is_over.result (subst (λ (k : Running). (state : State) → Refines k state → CanBeMadeOrDenied k.input state c.in-Some-number_held.seq c.is_over.result) (sym c.self.view_is) c.is_over.ensures st is))

@@ -1,4 +1,5 @@
 use Rattle.std.proofs.Common.{◌∙◌, Option, false, sym, subst}
+use Rattle.std.specs.Option.{option_copied}
 use Rattle.st_calls.specs.declared.judged.Snapshot.{Snapshot}
 use Rattle.st_law.specs.State.{State}
 use Rattle.st_decide.specs.Machine.{Refines, Running}
@@ -15,9 +16,9 @@ returns-then-not-has_come c =
 pub returns : goal.returns
 returns c =
     let m : Running = record { input = c.self.inside.input.now; system = c.self.inside.system.now; workers = c.self.inside.workers.now; threads = c.self.inside.threads.now; answers = c.self.inside.answers.now; operator = c.self.inside.operator.now } in
-    let found : Option Snapshot = c.in_ok-question.field-0 in
-    let question : IsQuestion m c.args.seq found = subst (λ (k : Running). IsQuestion k c.args.seq found) (sym c.self.view_is) c.in_ok-question.ensures in
+    let found : Option Snapshot = option_copied c.question.result in
+    let question : IsQuestion m c.args.seq found = subst (λ (k : Running). IsQuestion k c.args.seq found) (sym c.self.view_is) c.question.ensures in
     let over : (st : State) → Refines m st → CanBeMadeOrDenied m.input st c.args.seq c.is_none.result = λ st is.
-    subst (CanBeMadeOrDenied m.input st c.args.seq) (sym (none_of found c.is_none.result c.is_none.ensures))
+    subst (CanBeMadeOrDenied m.input st c.args.seq) (sym (none_of c.question.result c.is_none.result c.is_none.ensures))
     (over_by m st is c.args.seq c.state.result (c.state.ensures.law m.input st is.workers) (sym c.has_come.ensures ∙ c.if-not-has_come.false) found question) in
     subst (λ (k : Running). (st : State) → Refines k st → CanBeMadeOrDenied k.input st c.args.seq c.is_none.result) c.self.view_is over

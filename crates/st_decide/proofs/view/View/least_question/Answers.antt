@@ -1,17 +1,19 @@
-use Rattle.std.proofs.Common.{◌≡◌, ◌+◌, ◌∙◌, suc, ℕ, None, Some, ap, arith, sym, subst}
+use Rattle.std.proofs.Common.{◌≡◌, ◌+◌, ◌∙◌, suc, ℕ, Bor, Option, None, Some, ap, arith, sym, subst}
 use Rattle.std.proofs.lemmas.Option.{slice_get-get_or}
+use Rattle.std.specs.Option.{option_copied}
 use Rattle.st_base.specs.Numbered.{item_at_number}
+use Rattle.st_calls.specs.declared.judged.Snapshot.{Snapshot}
 use Rattle.st_workers.proofs.Turns.{number_within}
 use Rattle.st_decide.specs.Machine.{Running}
 use Rattle.st_decide.specs.Questions.{IsLeastAmong, IsLeastFound}
 use Rattle.st_decide.proofs.Asked.{among_free, among_held, found_by, found_here, none_among}
-use Rattle.st_decide.proofs.view.View.least_question.Goals.{in-None, in-Some+in_ok-least-in-Some, in-Some-number_held+in_ok-least, in_default}
+use Rattle.st_decide.proofs.view.View.least_question.Goals.{in-None, in-Some, in-Some-number_held, in_default}
 use Rattle.st_decide.proofs.view.View.least_question.Goals as goal
 
 pub loop-thread-init : goal.loop-thread-init
 loop-thread-init c = elim c.match-least_held.branch [
-  | in-Some+in_ok-least-in-Some w ↦ subst (IsLeastAmong c.args.self.now 0) (sym w.least-is) (none_among c.args.self.now w.in_ok-least-in-Some.least (found_here c.args.self.now w.in-Some.seq w.in_ok-least-in-Some.least w.in_ok-least-in-Some.ensures))
-  | in-None w ↦ subst (IsLeastAmong c.args.self.now 0) (sym w.least-is) (none_among c.args.self.now None tt)
+  | in-Some w ↦ subst (λ (o : Option (Bor Snapshot)). IsLeastAmong c.args.self.now 0 (option_copied o)) (sym w.least-is) (none_among c.args.self.now (option_copied w.question-least.result) (found_here c.args.self.now w.in-Some.seq (option_copied w.question-least.result) w.question-least.ensures))
+  | in-None w ↦ subst (λ (o : Option (Bor Snapshot)). IsLeastAmong c.args.self.now 0 (option_copied o)) (sym w.least-is) (none_among c.args.self.now None tt)
 ]
 
 pub loop-thread-preserved : goal.loop-thread-preserved
@@ -23,16 +25,17 @@ loop-thread-preserved c =
     slice_get-get_or m.threads i row c.loop-thread-test.true ∙ ap Some (sym c.thread-item.is) in
     let row_is : item_at_number c.args.self.now.threads (suc i) ≡ Some row = subst (λ (k : Running). item_at_number k.threads (suc i) ≡ Some row) c.self.view_is here in
     let next : suc i ≡ i + 1 = omega arith in
-    subst (λ (n : ℕ). IsLeastAmong c.args.self.now n c.match-number_held.least) next (elim c.match-number_held.branch [
-      | in-Some-number_held+in_ok-least w ↦ subst (IsLeastAmong c.args.self.now (suc i)) (sym w.least-is)
-          (among_held c.args.self.now i c.loop-thread.least c.loop-thread.invariant row row_is w.in-Some-number_held.seq (sym c.number_held.ensures ∙ w.in-Some-number_held.is) w.in_ok-least.least w.in_ok-least.ensures)
-      | in_default w ↦ subst (IsLeastAmong c.args.self.now (suc i)) (sym w.least-is)
-          (among_free c.args.self.now i c.loop-thread.least c.loop-thread.invariant row row_is (sym c.number_held.ensures ∙ w.in_default.is))
+    subst (λ (n : ℕ). IsLeastAmong c.args.self.now n (option_copied c.match-number_held.least)) next (elim c.match-number_held.branch [
+      | in-Some-number_held w ↦ subst (λ (o : Option (Bor Snapshot)). IsLeastAmong c.args.self.now (suc i) (option_copied o)) (sym w.least-is)
+          (among_held c.args.self.now i (option_copied c.loop-thread.least) c.loop-thread.invariant row row_is w.in-Some-number_held.seq (sym c.number_held.ensures ∙ w.in-Some-number_held.is) (option_copied w.lesser-least.result) w.lesser-least.ensures)
+      | in_default w ↦ subst (λ (o : Option (Bor Snapshot)). IsLeastAmong c.args.self.now (suc i) (option_copied o)) (sym w.least-is)
+          (among_free c.args.self.now i (option_copied c.loop-thread.least) c.loop-thread.invariant row row_is (sym c.number_held.ensures ∙ w.in_default.is))
     ])
 
 pub returns : goal.returns
 returns c =
     let m : Running = record { input = c.self.inside.input.now; system = c.self.inside.system.now; workers = c.self.inside.workers.now; threads = c.self.inside.threads.now; answers = c.self.inside.answers.now; operator = c.self.inside.operator.now } in
-    let among : IsLeastAmong m c.loop-thread.thread-index c.loop-thread.least = subst (λ (k : Running). IsLeastAmong k c.loop-thread.thread-index c.loop-thread.least) (sym c.self.view_is) c.loop-thread.invariant in
-    subst (λ (k : Running). IsLeastFound k c.loop-thread.least) c.self.view_is
-    (found_by m c.loop-thread.thread-index c.loop-thread.least among (λ t row is. let within = (number_within m.threads t row is).1 in omega (arith, within, c.loop-thread-test.false)))
+    let found : Option Snapshot = option_copied c.loop-thread.least in
+    let among : IsLeastAmong m c.loop-thread.thread-index found = subst (λ (k : Running). IsLeastAmong k c.loop-thread.thread-index found) (sym c.self.view_is) c.loop-thread.invariant in
+    subst (λ (k : Running). IsLeastFound k found) c.self.view_is
+    (found_by m c.loop-thread.thread-index found among (λ t row is. let within = (number_within m.threads t row is).1 in omega (arith, within, c.loop-thread-test.false)))

@@ -16,23 +16,23 @@ returns-then-not-is_unmatched c =
 pub returns-then-not-is_asked : goal.returns-then-not-is_asked
 returns-then-not-is_asked c =
     let m : Running = record { input = c.self.inside.input.now; system = c.self.inside.system.now; workers = c.self.inside.workers.now; threads = c.self.inside.threads.now; answers = c.self.inside.answers.now; operator = c.self.inside.operator.now } in
-    let copies : Snapshot = c.in_ok-copies.copies in
+    let copies : Snapshot = c.snapshot-copies.result.now in
     let seen : Snapshot = c.get.result.now in
     let says = subst (λ (s : Snapshot). c.is_asked.result ≡ (is_undecided (session_verdict m s) && answers m.input m.operator s)) c.get.ensures
     (subst (λ (k : Running). c.is_asked.result ≡ (is_undecided (session_verdict k seen) && answers k.input k.operator seen)) (sym c.self.view_is) c.is_asked.ensures) in
     let none : IsQuestion m c.args.seq None = λ st is.
-    asked_by m st is c.args.seq copies c.state.result (c.state.ensures.law m.input st is.workers) (sym c.is_unmatched.ensures ∙ c.if-not-is_unmatched.false) (c.in_ok-copies.ensures m.input st is.workers) c.is_asked.result says ∙ c.if-not-is_asked.true in
+    asked_by m st is c.args.seq copies c.state.result (c.state.ensures.law m.input st is.workers) (sym c.is_unmatched.ensures ∙ c.if-not-is_unmatched.false) (c.snapshot-copies.ensures m.input st is.workers) c.is_asked.result says ∙ c.if-not-is_asked.true in
     subst (λ (k : Running). IsQuestion k c.args.seq None) c.self.view_is none
 
 pub returns : goal.returns
 returns c =
     let m : Running = record { input = c.self.inside.input.now; system = c.self.inside.system.now; workers = c.self.inside.workers.now; threads = c.self.inside.threads.now; answers = c.self.inside.answers.now; operator = c.self.inside.operator.now } in
-    let copies : Snapshot = c.in_ok-copies.copies in
+    let copies : Snapshot = c.snapshot-copies.result.now in
     let seen : Snapshot = c.get.result.now in
     let says = subst (λ (s : Snapshot). c.is_asked.result ≡ (is_undecided (session_verdict m s) && answers m.input m.operator s)) c.get.ensures
     (subst (λ (k : Running). c.is_asked.result ≡ (is_undecided (session_verdict k seen) && answers k.input k.operator seen)) (sym c.self.view_is) c.is_asked.ensures) in
     let some : IsQuestion m c.args.seq (Some copies) = λ st is. (
-      asked_by m st is c.args.seq copies c.state.result (c.state.ensures.law m.input st is.workers) (sym c.is_unmatched.ensures ∙ c.if-not-is_unmatched.false) (c.in_ok-copies.ensures m.input st is.workers) c.is_asked.result says ∙ c.if-not-is_asked.false,
-      c.in_ok-copies.ensures m.input st is.workers,
+      asked_by m st is c.args.seq copies c.state.result (c.state.ensures.law m.input st is.workers) (sym c.is_unmatched.ensures ∙ c.if-not-is_unmatched.false) (c.snapshot-copies.ensures m.input st is.workers) c.is_asked.result says ∙ c.if-not-is_asked.false,
+      c.snapshot-copies.ensures m.input st is.workers,
     ) in
     subst (λ (k : Running). IsQuestion k c.args.seq (Some copies)) c.self.view_is some

@@ -16,7 +16,7 @@ pub returns-in-Permit-clause-step : goal.returns-in-Permit-clause-step
 returns-in-Permit-clause-step c =
     let m : Running = record { input = c.self.inside.input.now; system = c.self.inside.system.now; workers = c.self.inside.workers.now; threads = c.self.inside.threads.now; answers = c.self.inside.answers.now; operator = c.self.inside.operator.now } in
     let copies : Snapshot = c.get-copies.result.now in
-    let sealed = shared_are m c.args.seq c.in_ok-shared.shared copies c.get-copies.ensures c.in_ok-shared.ensures in
+    let sealed = shared_are m c.args.seq c.snapshot-shared.result.now copies c.get-copies.ensures c.snapshot-shared.ensures in
     if_ok (IsPermittedStep c.args.self.now c.args.tid c.args.seq c.in-Permit.ids) (IsDecidedStep c.args.self.now c.args.tid c.args.seq Unmatched) c.permitted_step.result (λ step next.
     let here : IsPermittedStep m c.args.tid c.args.seq c.in-Permit.ids step = subst (λ (k : Running). IsPermittedStep k c.args.tid c.args.seq c.in-Permit.ids step) (sym c.self.view_is) next in
     subst (λ (k : Running). IsDecidedStep k c.args.tid c.args.seq Unmatched step) c.self.view_is
@@ -26,7 +26,7 @@ pub returns-in-Refuse-clause-step : goal.returns-in-Refuse-clause-step
 returns-in-Refuse-clause-step c =
     let m : Running = record { input = c.self.inside.input.now; system = c.self.inside.system.now; workers = c.self.inside.workers.now; threads = c.self.inside.threads.now; answers = c.self.inside.answers.now; operator = c.self.inside.operator.now } in
     let copies : Snapshot = c.get-copies.result.now in
-    let sealed = shared_are m c.args.seq c.in_ok-shared.shared copies c.get-copies.ensures c.in_ok-shared.ensures in
+    let sealed = shared_are m c.args.seq c.snapshot-shared.result.now copies c.get-copies.ensures c.snapshot-shared.ensures in
     subst (λ (k : Running). IsDecidedStep k c.args.tid c.args.seq Unmatched c.deny.result) c.self.view_is
     (subst (λ (step : Step). IsDecidedStep m c.args.tid c.args.seq Unmatched step) (sym c.deny.ensures)
     (later_refuses m c.args.tid c.args.seq copies sealed c.verdict.result c.verdict.ensures c.in-Refuse.number c.in-Refuse.errno c.in-Refuse.is))
@@ -35,16 +35,16 @@ pub returns-in-Unmatched-clause-step : goal.returns-in-Unmatched-clause-step
 returns-in-Unmatched-clause-step c =
     let m : Running = record { input = c.self.inside.input.now; system = c.self.inside.system.now; workers = c.self.inside.workers.now; threads = c.self.inside.threads.now; answers = c.self.inside.answers.now; operator = c.self.inside.operator.now } in
     let copies : Snapshot = c.get-copies.result.now in
-    let sealed = shared_are m c.args.seq c.in_ok-shared.shared copies c.get-copies.ensures c.in_ok-shared.ensures in
+    let sealed = shared_are m c.args.seq c.snapshot-shared.result.now copies c.get-copies.ensures c.snapshot-shared.ensures in
     let come : (st : State) → Refines m st → IsMessageStateOf m.input st c.args.seq (Some (Answered Unmatched)) = subst (λ (k : Running). (st : State) → Refines k st → IsMessageStateOf k.input st c.args.seq (Some (Answered Unmatched))) (sym c.self.view_is) c.requires.come in
     subst (λ (k : Running). IsDecidedStep k c.args.tid c.args.seq Unmatched Wait) c.self.view_is
     (later_waits m c.args.tid c.args.seq copies sealed come c.verdict.result c.verdict.ensures c.in-Unmatched.is c.answers.result c.answers.ensures c.if-answers.true)
 
-pub returns-clause-step : goal.returns-clause-step
-returns-clause-step c =
+pub returns-in-Unmatched-2-clause-step : goal.returns-in-Unmatched-2-clause-step
+returns-in-Unmatched-2-clause-step c =
     let m : Running = record { input = c.self.inside.input.now; system = c.self.inside.system.now; workers = c.self.inside.workers.now; threads = c.self.inside.threads.now; answers = c.self.inside.answers.now; operator = c.self.inside.operator.now } in
     let copies : Snapshot = c.get-copies.result.now in
-    let sealed = shared_are m c.args.seq c.in_ok-shared.shared copies c.get-copies.ensures c.in_ok-shared.ensures in
+    let sealed = shared_are m c.args.seq c.snapshot-shared.result.now copies c.get-copies.ensures c.snapshot-shared.ensures in
     let come : (st : State) → Refines m st → IsMessageStateOf m.input st c.args.seq (Some (Answered Unmatched)) = subst (λ (k : Running). (st : State) → Refines k st → IsMessageStateOf k.input st c.args.seq (Some (Answered Unmatched))) (sym c.self.view_is) c.requires.come in
     subst (λ (k : Running). IsDecidedStep k c.args.tid c.args.seq Unmatched c.deny-in-Unmatched-2.result) c.self.view_is
     (subst (λ (step : Step). IsDecidedStep m c.args.tid c.args.seq Unmatched step) (sym c.deny-in-Unmatched-2.ensures)

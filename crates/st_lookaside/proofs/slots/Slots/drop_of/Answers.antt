@@ -1,14 +1,23 @@
-use Rattle.std.proofs.Common.{List, None, refl, sym, subst}
-use Rattle.st_lookaside.specs.Slot as slot
-use Rattle.st_lookaside.specs.Slots.{AreAscending, ChangesSlot}
-use Rattle.st_lookaside.proofs.Places.{gone, kept_remove, now_removed}
+use Rattle.std.proofs.Common.{None, sym, subst, List}
+use Rattle.st_lookaside.specs.Slots.{slots_of, ChangesSlot, HasSlots}
+use Rattle.st_lookaside.specs.declared.slots.SlotKey.{SlotKey}
+use Rattle.st_lookaside.proofs.Numbers.{gone, has_key, kept_remove, now_removed}
 use Rattle.st_lookaside.proofs.slots.Slots.drop_of.Goals as goal
 
 pub unreachable-requires : goal.unreachable-requires
-unreachable-requires c = gone c.self.inside.slots.items c.args.self.now c.self.inside.slots.items c.self.invariant c.self.view_is refl c.args.seq c.in_default.field-0 c.in_default.ensures.missing c.requires
+unreachable-requires c = gone c.self.inside.slab c.self.inside.keys.items c.args.self.now c.self.invariant c.self.view_is c.args.seq c.in_default.field-0 c.in_default.ensures.missing c.requires
+
+pub remove-requires : goal.remove-requires
+remove-requires c = has_key c.self.inside.slab c.self.inside.keys.items c.args.self.now c.self.invariant c.self.view_is c.args.seq c.in-Ok.place c.in-Ok.ensures.found c.take_out-key.result c.take_out-key.ensures.value
 
 pub invariant_of-self : goal.invariant_of-self
-invariant_of-self c = subst AreAscending (sym c.take_out.ensures.items) (kept_remove c.self.inside.slots.items c.args.self.now c.self.inside.slots.items c.self.invariant c.self.view_is refl c.args.seq c.in-Ok.place c.in-Ok.ensures.found)
+invariant_of-self c =
+    let d : SlotKey = record { seq = c.args.seq; key = c.take_out-key.result } in
+    subst (λ (keys : List SlotKey). HasSlots c.remove.new.self keys) (sym c.take_out-key.ensures.items)
+    (kept_remove c.self.inside.slab c.self.inside.keys.items c.args.self.now c.self.invariant c.self.view_is c.args.seq c.in-Ok.place c.in-Ok.ensures.found c.take_out-key.result d (c.take_out-key.ensures.value d) c.remove.new.self c.remove.ensures.updates c.remove.ensures.len)
 
 pub returns : goal.returns
-returns c = subst (λ (l : List slot.Slot). ChangesSlot c.args.self.now c.args.seq None l) (sym c.take_out.ensures.items) (now_removed c.self.inside.slots.items c.args.self.now c.self.inside.slots.items c.self.invariant c.self.view_is refl c.args.seq c.in-Ok.place c.in-Ok.ensures.found)
+returns c =
+    let d : SlotKey = record { seq = c.args.seq; key = c.take_out-key.result } in
+    subst (λ (keys : List SlotKey). ChangesSlot c.args.self.now c.args.seq None (slots_of c.remove.new.self keys)) (sym c.take_out-key.ensures.items)
+    (now_removed c.self.inside.slab c.self.inside.keys.items c.args.self.now c.self.invariant c.self.view_is c.args.seq c.in-Ok.place c.in-Ok.ensures.found c.take_out-key.result d (c.take_out-key.ensures.value d) c.remove.new.self c.remove.ensures.updates)

@@ -1,9 +1,11 @@
-use Rattle.std.proofs.Common.{refl}
-use Rattle.st_lookaside.proofs.Places.{found_now, gone}
+use Rattle.st_lookaside.proofs.Numbers.{found_now, is_there, is_used}
 use Rattle.st_lookaside.proofs.slots.Slots.slot.Goals as goal
 
-pub unreachable-requires : goal.unreachable-requires
-unreachable-requires c = gone c.self.inside.slots.items c.args.self.now c.self.inside.slots.items c.self.invariant c.self.view_is refl c.args.seq c.in_default.field-0 c.in_default.ensures.missing c.requires
+pub key_of-requires : goal.key_of-requires
+key_of-requires c = record { ascending = c.self.invariant.ascending; some = is_there c.self.inside.slab c.self.inside.keys.items c.args.self.now c.self.invariant c.self.view_is c.args.seq c.requires }
+
+pub index-requires : goal.index-requires
+index-requires c = is_used c.self.inside.slab c.self.inside.keys.items c.args.self.now c.self.invariant c.self.view_is c.args.seq c.key_of.result c.key_of.ensures
 
 pub returns : goal.returns
-returns c = found_now c.self.inside.slots.items c.args.self.now c.self.inside.slots.items c.self.invariant c.self.view_is refl c.args.seq c.in-Ok.place c.in-Ok.ensures.found c.index.result.now c.index.ensures
+returns c = found_now c.self.inside.slab c.self.inside.keys.items c.args.self.now c.self.invariant c.self.view_is c.args.seq c.key_of.result c.key_of.ensures c.index.result.now c.index.ensures

@@ -1,4 +1,4 @@
-use Rattle.std.proofs.Common.{◌∙◌, Some, ap, sym, subst}
+use Rattle.std.proofs.Common.{◌∙◌, Some, sym, subst}
 use Rattle.st_calls.specs.declared.judged.Snapshot.{Snapshot}
 use Rattle.st_trace.specs.declared.entry.Choice.TheVariants.{Operator}
 use Rattle.st_decide.specs.Machine.{IsStep, Running}
@@ -14,20 +14,20 @@ answer-requires c =
     let st = c.self.invariant.state in
     let is = c.self.invariant.is in
     let copies : Snapshot = c.get.result.now in
-    let x : IsLeastFound m (Some copies) = subst (λ (k : Running). IsLeastFound k (Some copies)) (sym c.self.view_is) (subst (λ (k : Running). IsLeastFound k (Some copies)) c.view.ensures (subst (IsLeastFound c.view.result) (c.in-Some.is ∙ ap Some (sym c.get.ensures)) c.in_ok-copies.ensures)) in
+    let x : IsLeastFound m (Some copies) = subst (λ (k : Running). IsLeastFound k (Some copies)) (sym c.self.view_is) (subst (λ (k : Running). IsLeastFound k (Some copies)) c.view.ensures (subst (λ (s : Snapshot). IsLeastFound c.view.result (Some s)) (sym (c.get.ensures ∙ c.in_ok-copies.ensures)) c.in-Some.ensures)) in
     answers_here m st is copies (x st is).0 (x st is).1 (x st is).2
 
 pub invariant_of-self-2 : goal.invariant_of-self-2
 invariant_of-self-2 c =
     let m : Running = record { input = c.self.inside.input.now; system = c.self.inside.system; workers = c.self.inside.workers; threads = c.self.inside.threads.items; answers = c.self.inside.answers; operator = c.self.inside.operator } in
     let copies : Snapshot = c.get.result.now in
-    let x : IsLeastFound m (Some copies) = subst (λ (k : Running). IsLeastFound k (Some copies)) (sym c.self.view_is) (subst (λ (k : Running). IsLeastFound k (Some copies)) c.view.ensures (subst (IsLeastFound c.view.result) (c.in-Some.is ∙ ap Some (sym c.get.ensures)) c.in_ok-copies.ensures)) in
+    let x : IsLeastFound m (Some copies) = subst (λ (k : Running). IsLeastFound k (Some copies)) (sym c.self.view_is) (subst (λ (k : Running). IsLeastFound k (Some copies)) c.view.ensures (subst (λ (s : Snapshot). IsLeastFound c.view.result (Some s)) (sym (c.get.ensures ∙ c.in_ok-copies.ensures)) c.in-Some.ensures)) in
     running_step m (with_operator m c.answer.new.self) Operator c.in_ok-answer.field-0 c.self.invariant (answered_on m c.answer.new.self copies c.in_ok-answer.field-0 x c.in_ok-answer.ensures.law)
 
 pub returns-clause-step : goal.returns-clause-step
 returns-clause-step c = left_as _ _ Operator _ _ c.leave.ensures
     (let m : Running = record { input = c.self.inside.input.now; system = c.self.inside.system; workers = c.self.inside.workers; threads = c.self.inside.threads.items; answers = c.self.inside.answers; operator = c.self.inside.operator } in
     let copies : Snapshot = c.get.result.now in
-    let x : IsLeastFound m (Some copies) = subst (λ (k : Running). IsLeastFound k (Some copies)) (sym c.self.view_is) (subst (λ (k : Running). IsLeastFound k (Some copies)) c.view.ensures (subst (IsLeastFound c.view.result) (c.in-Some.is ∙ ap Some (sym c.get.ensures)) c.in_ok-copies.ensures)) in
+    let x : IsLeastFound m (Some copies) = subst (λ (k : Running). IsLeastFound k (Some copies)) (sym c.self.view_is) (subst (λ (k : Running). IsLeastFound k (Some copies)) c.view.ensures (subst (λ (s : Snapshot). IsLeastFound c.view.result (Some s)) (sym (c.get.ensures ∙ c.in_ok-copies.ensures)) c.in-Some.ensures)) in
     subst (λ (k : Running). IsStep k Operator (Some c.in_ok-answer.field-0) (with_operator m c.answer.new.self)) c.self.view_is
     (answered_on m c.answer.new.self copies c.in_ok-answer.field-0 x c.in_ok-answer.ensures.law))

@@ -1,12 +1,12 @@
 use Rattle.std.proofs.Common.{◌≡◌, ◌≤◌, ◌∙◌, ◌-◌, ℕ, List, set, length, Option, None, Some, ap, arith, refl, sym, subst}
 use Rattle.std.specs.Prelude.{is_some, Err, IsSome, Ok, OnErr, Result}
 use Rattle.st_lookaside.specs.Slot.{Slot}
-use Rattle.st_lookaside.specs.Slots.{slot_at}
+use Rattle.st_lookaside.specs.Slots.{slot_at, ChangesSlot}
 use Rattle.st_messages.specs.Messages.{first_waiting, with_state, HeldCalls, HasWorker}
 use Rattle.st_messages.specs.declared.message.MsgState.TheVariants.{Waiting, Claimed}
 use Rattle.st_law.specs.State.{is_live}
 use Rattle.st_trace.specs.declared.entry.Entry.TheVariants as entry
-use Rattle.st_workers.specs.Filling.{IsTurnFor}
+use Rattle.st_workers.specs.Filling.{sealed_if_ready, IsTurnFor}
 use Rattle.st_workers.specs.Refinement.{RepresentsAfterEntry, RepresentsMessages, AreValidWorkers}
 use Rattle.st_workers.specs.Tasks.{task_of}
 use Rattle.st_workers.specs.UnderWay.{turn_of_worker, UnderWay}
@@ -73,6 +73,9 @@ slot c = state_slot (old c) c.self.invariant c.in-Some.seq Waiting c.in-Some.ens
 calls : (c : goal.After-claim) → (new c).calls ≡ with_state (old c).calls c.in-Some.seq (Claimed c.args.worker)
 calls c = known c.claim.result (λ seq. c.claim.new.self ≡ with_state (old c).calls seq (Claimed c.args.worker)) c.in-Some.seq (c.claim.ensures.first ∙ sym c.in-Some.ensures.first) c.claim.ensures.ok
 
+slots_now : (c : goal.After-claim) → ChangesSlot (old c).slots c.in-Some.seq (Some (sealed_if_ready (slot c).0)) (new c).slots
+slots_now c = known (slot_at (old c).slots c.in-Some.seq) (λ s. ChangesSlot (old c).slots c.in-Some.seq (Some (sealed_if_ready s)) (new c).slots) (slot c).0 (slot c).1 c.in_ok-turn.ensures.slot
+
 turn : (c : goal.After-claim) → IsTurnFor c.in-Some.seq (slot c).0 c.in_ok-turn.turn
 turn c = known (slot_at (old c).slots c.in-Some.seq) (λ s. IsTurnFor c.in-Some.seq s c.in_ok-turn.turn) (slot c).0 (slot c).1 c.in_ok-turn.ensures.turn
 
@@ -84,7 +87,7 @@ returns-clause-workers c = ap (λ (k : HeldCalls). k.workers) (calls c) ∙ ap (
 
 -- out of memory
 pub invariant_of-self : goal.invariant_of-self
-invariant_of-self c = subst (λ (slots : List Slot). AreValidWorkers (record { calls = c.self.inside.messages; slots = slots; turns = c.self.inside.turns.items })) (sym c.turn_for.ensures.same) c.self.invariant
+invariant_of-self c = subst (λ (slots : List Slot). AreValidWorkers (record { calls = c.self.inside.messages; slots = slots; turns = c.self.inside.turns.items })) (sym c.in_err-turn.ensures.err) c.self.invariant
 
 pub returns-in_err-turn-clause-workers : goal.returns-in_err-turn-clause-workers
 returns-in_err-turn-clause-workers c = ap (λ (k : UnderWay). k.calls.workers) c.self.view_is
@@ -96,15 +99,15 @@ on_err (Err e) x = x
 
 pub returns-in_err-turn-clause-err : goal.returns-in_err-turn-clause-err
 returns-in_err-turn-clause-err c =
-    on_err c.from_residual.result (ap (λ (slots : List Slot). record { calls = c.self.inside.messages; slots = slots; turns = c.self.inside.turns.items }) c.turn_for.ensures.same ∙ c.self.view_is)
+    on_err c.from_residual.result (ap (λ (slots : List Slot). record { calls = c.self.inside.messages; slots = slots; turns = c.self.inside.turns.items }) c.in_err-turn.ensures.err ∙ c.self.view_is)
 
 pub invariant_of-self-2 : goal.invariant_of-self-2
-invariant_of-self-2 c = claimed_whole (old c) (new c) c.args.worker c.in-Some.seq (slot c).0 c.in_ok-turn.turn (idle c) c.in-Some.ensures.least.waiting (slot c).1 (calls c) c.turn_for.ensures.same (put c) (turn c) c.self.invariant
+invariant_of-self-2 c = claimed_whole (old c) (new c) c.args.worker c.in-Some.seq (slot c).0 c.in_ok-turn.turn (idle c) c.in-Some.ensures.least.waiting (slot c).1 (calls c) (slots_now c) (put c) (turn c) c.self.invariant
 
 pub returns-clause-kept : goal.returns-clause-kept
 returns-clause-kept c =
     let follows : RepresentsAfterEntry (old c) (entry.Claimed c.args.worker c.in-Some.seq) (new c) =
-    claimed_follows (old c) (new c) c.args.worker c.in-Some.seq (slot c).0 c.in_ok-turn.turn (idle c) c.in-Some.ensures.least.waiting (slot c).1 (calls c) c.turn_for.ensures.same (put c) (turn c) in
+    claimed_follows (old c) (new c) c.args.worker c.in-Some.seq (slot c).0 c.in_ok-turn.turn (idle c) c.in-Some.ensures.least.waiting (slot c).1 (calls c) (slots_now c) (put c) (turn c) in
     subst (λ (k : UnderWay). RepresentsAfterEntry k (entry.Claimed c.args.worker c.in-Some.seq) (new c)) c.self.view_is follows
 
 pub returns-clause-law : goal.returns-clause-law
