@@ -17,7 +17,10 @@ pub type Space = u32;
 /// The number of an object of the file tree, counted from 1. The root has number 1.
 pub type Obj = u32;
 
-/// A message's sequence number, counted from 1. No number is used twice.
+/// The drawing of a message: 1 for the message that is posted first, 2 for the next, and so on. None comes again.
+pub type Drawing = u64;
+
+/// The sequence number by which entries name a message: its drawing.
 pub type Seq = u64;
 
 /// The ids of a process: its real and effective user and group, as in credentials(7) and setuid(2).

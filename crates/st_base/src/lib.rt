@@ -9,7 +9,7 @@ pub mod shared;
 pub mod text;
 
 pub use errno::Errno;
-pub use ids::{Ids, Obj, Pid, Seq, Space, Tid, Worker};
+pub use ids::{Drawing, Ids, Obj, Pid, Seq, Space, Tid, Worker};
 pub use sequence::Sequence;
 pub use shared::Shared;
 pub use text::Text;

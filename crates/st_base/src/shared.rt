@@ -2,18 +2,20 @@ ghost use Rattle.std.specs.Prelude.{◌≡◌, IfOk};
 
 use std::alloc::{AllocError, Global};
 use std::marker::Model;
-use std::rc::Rc;
+use std::sync::Arc;
 
-/// A value that is stored once and that several records share.
+/// A value that is stored once and that several records share, in any threads.
 #[derive(Debug, Drop)]
 pub struct Shared<T> {
-    held: Rc<T>,
+    held: Arc<T>,
 }
 
 impl<T> Model for Shared<T> {
+    ghost use Rattle.std.specs.Arc.{arc_value};
+
     ghost Value = { T };
 
-    ghost view = { λ s. s.held.value };
+    ghost view = { λ s. arc_value s.held };
 }
 
 impl<T: Drop> Shared<T> {
@@ -21,7 +23,7 @@ impl<T: Drop> Shared<T> {
     pub fn new(alloc: Global, value: T) -> Result<Self, AllocError>
         ensures { IfOk result (λ shared. shared ≡ value) }
     {
-        match Rc::new(alloc, value) {
+        match Arc::new(alloc, value) {
             Ok(held) => Ok(Shared { held }),
             Err(_) => Err(AllocError),
         }
@@ -31,7 +33,7 @@ impl<T: Drop> Shared<T> {
     pub fn get(&self) -> &T
         ensures { result.now ≡ self.now }
     {
-        self.held.as_ref()
+        &self.held
     }
 
     /// The same value for one more record. It allocates no memory, and fails only if the count of records can't be increased.
@@ -39,7 +41,7 @@ impl<T: Drop> Shared<T> {
         ensures { IfOk result (λ shared. shared ≡ self.now) }
     {
         Ok(Shared {
-            held: self.held.clone()?,
+            held: Arc::try_clone(&self.held)?,
         })
     }
 }
