@@ -1,3 +1,4 @@
 pub mod Argument
 pub mod Call
+pub mod Emulation
 pub mod Rules

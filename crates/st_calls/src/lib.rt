@@ -3,6 +3,7 @@
 
 pub mod argument;
 pub mod call;
+pub mod emulation;
 pub mod flags;
 pub mod index;
 pub mod judged;
@@ -10,6 +11,7 @@ pub mod rule;
 
 pub use argument::{ArgSpec, ArgText, Label, PartKind, args_of};
 pub use call::{SysCall, follows};
+pub use emulation::{emulation_prefix, emulation_word};
 pub use flags::{
     O_ACCMODE, O_APPEND, O_CREAT, O_EXCL, O_RDONLY, O_RDWR, O_TRUNC, O_WRONLY, has_flag,
 };

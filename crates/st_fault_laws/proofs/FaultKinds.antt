@@ -3,6 +3,7 @@ use Rattle.std.proofs.Common.{◌≡◌, ◌⊎◌, inl, inr, ℕ, ◌+◌, ◌�
 use Rattle.std.specs.Str.{bytes_eq}
 use Rattle.std.specs.List.{list_any}
 use Rattle.std.proofs.lemmas.Bool.{ltb-false, and_parts}
+use Rattle.st_calls.specs.Emulation.{emulation_word}
 use Rattle.st_grammar.proofs.Common.{Action, acts, Ask, Asks, binaries, binary_of, BinaryPolicy, Close, Colon, Comma, comparison, completed, concluded, Denies, DeniesWith, Deny, EPERM, error_named, filter_name, FilterName, filters_in, found, fresh, GrammarState, grants, has_policy, id_in, index_in, is_action, is_close_bracket, is_colon_symbol, is_comma_symbol, is_word_symbol, is_label, is_line_symbol, IsAction, with_joint, joins_both, joins_either, lexed_text, Line, may_test, may_test_label, MOST_FILTERS, most_joins, names_for, only, op_named, Open, OpenBracket, Permit, Quoted, names_set_id_call, step, step_action, step_as, step_binary, step_denial, step_error, step_grant, step_id, step_indexed, step_joint, step_label, step_name, step_operand, step_operator, step_row, step_start, step_system, step_tail, step_text, step_user, StepResult, Symbol, Test, Token, True, unquoted, waits, Who, with_group, without_either, Word, word_index, word_who}
 use Rattle.st_grammar.specs.declared.fault.PolicyFault.TheVariants.{AskWithLearn, DuplicatePolicy, ElevateOnSetId, ElevateWithoutIds, Expected, NotSupported, TooMany, UnknownArgument, UnknownCall, UnknownError, UnknownUser}
 use Rattle.st_grammar.specs.declared.env.Env.{Env}
@@ -124,7 +125,7 @@ module _ (text : List ℕ) (env : Env) (old : List BinaryPolicy) (before followi
   judged-system h u (Word word) =
       let begun : List Symbol = Word (codes "Policy") ∷ Colon ∷ h.spelled ∷ [] in
       let more : List Symbol = Comma ∷ Word (codes "Emulation") ∷ Colon ∷ [] in
-      judged-if (bytes_eq word (codes "native")) (λ e. Fits (record u { place = place.HeaderEnd }))
+      judged-if (bytes_eq word emulation_word) (λ e. Fits (record u { place = place.HeaderEnd }))
       (λ e. special place.System tt (Word word) (NotSupported at unsupported.Emulation) (NoNative (rows ++ begun) word (is ∙ ap (λ (ts : List Symbol). rows ++ ts) h.front_is ∙ sym (append_assoc rows begun more))))
   judged-system h u s = plain place.System tt s
 

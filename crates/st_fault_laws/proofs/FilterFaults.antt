@@ -1,6 +1,7 @@
 -- The first fault of a filter alone is that of a policy in which the filter follows a header, unless the fault is after a filter's row.
 use Rattle.std.proofs.Common.{◌≡◌, ℕ, ◌+◌, ◌≢◌, Bool, true, false, List, [], ◌∷◌, ◌++◌, length, map, codes, Option, None, Some, Ok, Err, if◌then◌else◌, refl, ap, sym, subst, ◌∙◌, arith, append_assoc, append-nil, length-append}
 use Rattle.std.specs.Str.{bytes_eq}
+use Rattle.st_calls.specs.Emulation.{emulation_word}
 use Rattle.st_grammar.proofs.Common.{add_filter, AreRows, as_reading, binaries, BinaryPolicy, Broken, Colon, Comma, shifted_fault, fault_in, fault_of, filter_in, filter_name, filter_of, FilterName, FilterResult, FilterValue, first_reading, fresh, GrammarState, Header, is_binary_place, is_line_symbol, IsFilter, Lexed, lexed_text, LexFault, lexical, Line, next, NoRow, optional_fault_after, or_refused, read_from, read_step, Reading, reading_step, step_name, step_to, StepResult, Symbol, symbol_of, Token, unless_lexical, Word}
 use Rattle.st_grammar.specs.declared.env.Env.{Env}
 use Rattle.st_grammar.specs.declared.fault.PolicyFault.TheVariants.{Expected, Lex, UnknownCall}
@@ -227,11 +228,11 @@ module _ (env : Env) (text big : List ℕ) (n lines : ℕ) (long : length big �
 -- ---- the header
 
 abbrev header_row : List Symbol
-header_row = Word (codes "Policy") ∷ Colon ∷ Word (codes "/a") ∷ Comma ∷ Word (codes "Emulation") ∷ Colon ∷ Word (codes "native") ∷ []
+header_row = Word (codes "Policy") ∷ Colon ∷ Word (codes "/a") ∷ Comma ∷ Word (codes "Emulation") ∷ Colon ∷ Word emulation_word ∷ []
 
 -- the header and its line
 abbrev pub header_rows : List Symbol
-header_rows = Word (codes "Policy") ∷ Colon ∷ Word (codes "/a") ∷ Comma ∷ Word (codes "Emulation") ∷ Colon ∷ Word (codes "native") ∷ Line ∷ []
+header_rows = Word (codes "Policy") ∷ Colon ∷ Word (codes "/a") ∷ Comma ∷ Word (codes "Emulation") ∷ Colon ∷ Word emulation_word ∷ Line ∷ []
 
 -- the policy of the header
 abbrev pub policy_above : List BinaryPolicy

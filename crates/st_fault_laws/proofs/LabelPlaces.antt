@@ -3,6 +3,7 @@ use Rattle.std.proofs.Common.{◌≡◌, ℕ, ◌+◌, Bool, true, false, ◌&&�
 use Rattle.std.specs.Str.{bytes_eq}
 use Rattle.std.specs.List.{list_any}
 use Rattle.std.proofs.lemmas.List.{map-append}
+use Rattle.st_calls.specs.Emulation.{emulation_word}
 use Rattle.st_grammar.proofs.Common.{acts, add_filter, as_reading, Ask, binaries, binary_of, BinaryPolicy, Close, Colon, Comma, comparison, completed, concluded, Deny, ends_filter, EPERM, error_named, filter_name, filter_of, first_reading, found, fresh, GrammarState, grants, id_in, is_action, is_close_bracket, is_colon_symbol, is_comma_symbol, is_word_symbol, is_label, is_line_symbol, with_joint, joins_both, joins_either, Line, may_test, MOST_FILTERS, most_joins, names_for, next, only, op_named, Open, OpenBracket, Permit, Quoted, read_step, Reading, reading_after, reading_step, names_set_id_call, step, step_action, step_as, step_binary, step_denial, step_error, step_grant, step_id, step_indexed, step_joint, step_label, step_name, step_operand, step_operator, step_row, step_start, step_system, step_tail, step_text, step_to, step_user, StepResult, Symbol, symbol_of, taken, Test, Token, True, unquoted, waits, with_group, without_either, Word, word_index, word_who}
 use Rattle.st_grammar.specs.declared.fault.PolicyFault.TheVariants.{AskWithLearn, DuplicatePolicy, ElevateOnSetId, ElevateWithoutIds, Expected, NotSupported, TooMany, UnknownArgument}
 use Rattle.st_grammar.specs.declared.env.Env.{Env}
@@ -65,7 +66,7 @@ module _ (w u : GrammarState) (at : ℕ) where
   comes-binary known o = by-found _ o (λ binary. by-if (list_any (λ b. bytes_eq b binary) known) (Stops (DuplicatePolicy at)) (to place.Comma tt))
 
   comes-system : (s : Symbol) → Comes w at (step_system u at s)
-  comes-system (Word word) = by-if (bytes_eq word (codes "native")) (to place.HeaderEnd tt) (Stops (NotSupported at unsupported.Emulation))
+  comes-system (Word word) = by-if (bytes_eq word emulation_word) (to place.HeaderEnd tt) (Stops (NotSupported at unsupported.Emulation))
   comes-system s = no-more
 
   comes-joined : Comes w at (with_joint u at)

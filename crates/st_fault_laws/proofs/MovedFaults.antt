@@ -8,6 +8,7 @@ use Rattle.st_grammar.specs.declared.env.NamedId.{NamedId}
 use Rattle.st_grammar.specs.declared.place.Place.{Place}
 use Rattle.st_grammar.specs.declared.fault.PolicyFault.{PolicyFault}
 use Rattle.st_lex.specs.declared.token.LexFault.TheVariants.{BadByte, OpenQuote, BadEscape}
+use Rattle.st_calls.specs.Emulation.{emulation_word}
 use Rattle.st_grammar.specs.declared.fault.PolicyFault.TheVariants.{NoMemory}
 use Rattle.st_grammar.specs.declared.fault.Unsupported.TheVariants as unsupported
 use Rattle.st_grammar.specs.declared.place.Place.TheVariants as place
@@ -132,7 +133,7 @@ module _ (n at x : ℕ) where
   row-moved w s = not-expected
 
   system-moved : (w : GrammarState) (s : Symbol) → Moved n (step_system w at s) (step_system (labelled x w) (n + at) s)
-  system-moved w (Word word) = moved-if (bytes_eq word (codes "native")) (to w place.HeaderEnd tt) (Stopped (NotSupported at unsupported.Emulation))
+  system-moved w (Word word) = moved-if (bytes_eq word emulation_word) (to w place.HeaderEnd tt) (Stopped (NotSupported at unsupported.Emulation))
   system-moved w s = not-expected
 
   joined-moved : (w : GrammarState) → Moved n (with_joint w at) (with_joint (labelled x w) (n + at))

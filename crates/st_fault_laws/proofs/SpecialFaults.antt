@@ -3,6 +3,7 @@ use Rattle.std.proofs.Common.{◌≡◌, ◌⊎◌, inl, inr, ℕ, Bool, true, f
 use Rattle.std.specs.Str.{bytes_eq}
 use Rattle.std.specs.List.{list_any}
 use Rattle.std.proofs.lemmas.Bool.{or_from}
+use Rattle.st_calls.specs.Emulation.{emulation_word}
 use Rattle.st_grammar.proofs.Common.{binaries, binary_of, BinaryPolicy, Close, Colon, Comma, error_named, filter_name, FilterName, filters_in, first_reading, GrammarState, id_in, index_in, is_action, is_label, Line, may_test, names_for, Open, OpenBracket, Quoted, read_step, Reading, names_set_id_call, Symbol, symbol_of, Token, Word}
 use Rattle.st_grammar.specs.declared.fault.PolicyFault.TheVariants.{AskWithLearn, DuplicatePolicy, ElevateOnSetId, ElevateWithoutIds, NotSupported, TooMany, UnknownArgument, UnknownCall, UnknownError, UnknownUser}
 use Rattle.st_grammar.specs.declared.env.Env.{Env}
@@ -51,7 +52,7 @@ module _ (env : Env) (w : GrammarState) (set : List BinaryPolicy) (at : ℕ) whe
   binary-only s binary e = by-test (list_any (λ b. bytes_eq b binary) (binaries set)) (λ k. rw (e, k) refl) (λ k. rw (e, k) (inl tt))
 
   system-only : (word : List ℕ) → OnlyHere (NotSupported at unsupported.Emulation) place.System (Word word)
-  system-only word = by-test (bytes_eq word (codes "native")) (λ n. rw n (inl tt)) (λ n. rw n refl)
+  system-only word = by-test (bytes_eq word emulation_word) (λ n. rw n (inl tt)) (λ n. rw n refl)
 
   error-only : (word : List ℕ) → OnlyHere (UnknownError at) place.Error (Word word)
   error-only word = by-some (error_named word) (λ errno e. rw e (inl tt)) (λ e. rw e refl)

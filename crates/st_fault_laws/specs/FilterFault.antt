@@ -4,6 +4,7 @@ use Rattle.st_lex.specs.declared.token.LexFault.{LexFault}
 use Rattle.st_lex.specs.declared.token.Token.{Token}
 use Rattle.st_lex.specs.Quoted.{newline, shifted_fault}
 use Rattle.st_lex.specs.Tokens.{lexed_text}
+use Rattle.st_calls.specs.Emulation.{emulation_word}
 use Rattle.st_grammar.specs.declared.env.Env.{Env}
 use Rattle.st_grammar.specs.declared.fault.PolicyFault.{PolicyFault}
 use Rattle.st_grammar.specs.declared.fault.PolicyFault.TheVariants.{Lex, Expected, UnknownCall, UnknownArgument, UnknownError, UnknownUser, DuplicatePolicy, ElevateWithoutIds, ElevateOnSetId, NotSupported, AskWithLearn, TooMany, NoMemory}
@@ -14,7 +15,7 @@ use Rattle.st_fault_laws.specs.FirstFault.{symbols_at, plain_fault, IsFirstFault
 
 -- the line of a header, after which a filter may follow
 abbrev pub header : List ℕ
-header = codes "Policy: /a, Emulation: native" ++ newline ∷ []
+header = codes "Policy: /a, Emulation: " ++ emulation_word ++ newline ∷ []
 
 -- the same fault, this many bytes later in the text
 abbrev pub moved : ℕ → PolicyFault → PolicyFault

@@ -3,6 +3,7 @@ use Rattle.std.proofs.Common.{◌≡◌, ℕ, ◌+◌, ◌-◌, ◌<◌, ◌≤�
 use Rattle.std.specs.Str.{bytes_eq}
 use Rattle.std.specs.List.{list_any}
 use Rattle.std.proofs.lemmas.Bool.{ltb-true, eqb-true}
+use Rattle.st_calls.specs.Emulation.{emulation_word}
 use Rattle.st_grammar.proofs.Common.{acts, Always, Ask, Asks, AskWithLearn, binaries, binary_of, BinaryPolicy, Close, close_group, CloseBracket, Colon, Comma, comparison, Denies, DeniesWith, Deny, ElevateOnSetId, ElevateWithoutIds, Env, EPERM, error_named, filter_name, filter_of, FilterName, FilterValue, First, Formula, fresh, GrammarState, Grant, Grants, GrantsAndLogs, has_policy, id_in, If, index_in, Indexed, is_action, is_join, is_label, is_line_symbol, IsAction, IsCondition, IsFilter, IsTail, joins_either, Line, Logs, LogsAndGrants, may_test, MayGrant, MOST_FILTERS, most_joins, names_for, new_policy, OfBoth, OfGroup, OfUser, Op, op_named, Open, OpenBracket, Operand, PendingOperand, Permit, Permits, Place, Quoted, read_step, reading_step, Reduced, settle, names_set_id_call, Short, Spells, step_to, StepResult, Symbol, Test, Then, True, unquoted, Who, who_named, Whoever, with_group, without_either, Word}
 use Rattle.st_grammar.specs.declared.place.Place.TheVariants as place
 use Rattle.st_grammar.specs.Expression as stack
@@ -200,7 +201,7 @@ module _ (env : Env) (old : List BinaryPolicy) (rows front : List Symbol) (w : G
   kept-emulation_colon h s = tt
 
   kept-system : Has place.System → (s : Symbol) → Keeps place.System s
-  kept-system h (Word word) = by-word word (codes "native") (λ e. rw e (header-more (Word (codes "native")) h)) (λ e. rw e tt)
+  kept-system h (Word word) = by-word word emulation_word (λ e. rw e (header-more (Word emulation_word) h)) (λ e. rw e tt)
   kept-system h s = tt
 
   -- ---- expressions

@@ -1,5 +1,6 @@
 -- One filter alone is read as in a file, after a header.
 use Rattle.std.proofs.Common.{◌≡◌, ℕ, Bool, true, false, ◌&&◌, if◌then◌else◌, List, [], ◌∷◌, ◌++◌, length, map, Option, None, Some, Ok, Err, codes, refl, ap, sym, subst, ◌∙◌, arith, append_assoc, append-nil}
+use Rattle.st_calls.specs.Emulation.{emulation_word}
 use Rattle.st_grammar.proofs.Common.{add_filter, as_reading, binaries, BinaryPolicy, Broken, Colon, Comma, ends_filter, Env, filter_in, filter_name, filter_of, FilterName, FilterValue, fresh, GrammarState, Header, is_binary_place, is_line_symbol, IsFilter, lexed_text, LexFault, Line, next, NoRow, Place, read_step, Reading, reading_after, reading_step, step, step_name, step_to, StepResult, Symbol, symbol_of, taken, Token, Word}
 use Rattle.st_filter.specs.declared.filter.FilterName.TheVariants as name
 use Rattle.st_grammar.specs.declared.place.Place.TheVariants as place
@@ -12,7 +13,7 @@ use Rattle.st_grammar.proofs.Policies.{fresh_policy}
 -- ---- a header before it
 
 abbrev pub rows_before : List Symbol
-rows_before = Word (codes "Policy") ∷ Colon ∷ Word (codes "/") ∷ Comma ∷ Word (codes "Emulation") ∷ Colon ∷ Word (codes "native") ∷ Line ∷ []
+rows_before = Word (codes "Policy") ∷ Colon ∷ Word (codes "/") ∷ Comma ∷ Word (codes "Emulation") ∷ Colon ∷ Word emulation_word ∷ Line ∷ []
 
 -- the policy of that header
 abbrev pub one_policy : List BinaryPolicy
@@ -22,7 +23,7 @@ header_after : (env : Env) → After env [] rows_before one_policy
 header_after env = record {
   before = [];
   last = fresh_policy (codes "/");
-  are_rows = Header [] (Word (codes "Policy") ∷ Colon ∷ Word (codes "/") ∷ Comma ∷ Word (codes "Emulation") ∷ Colon ∷ Word (codes "native") ∷ []) [] (codes "/") NoRow (record { spelled = Word (codes "/"); parts = refl; binary_is = refl });
+  are_rows = Header [] (Word (codes "Policy") ∷ Colon ∷ Word (codes "/") ∷ Comma ∷ Word (codes "Emulation") ∷ Colon ∷ Word emulation_word ∷ []) [] (codes "/") NoRow (record { spelled = Word (codes "/"); parts = refl; binary_is = refl });
   set_is = refl;
   new = (refl, tt);
 }

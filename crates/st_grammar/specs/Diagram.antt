@@ -6,6 +6,7 @@ use Rattle.st_base.specs.declared.errno.Errno.TheVariants.{EPERM}
 use Rattle.st_base.specs.Errno.{error_named}
 use Rattle.st_lex.specs.declared.token.LexFault.{LexFault}
 use Rattle.st_lex.specs.Unquote.{unquoted}
+use Rattle.st_calls.specs.Emulation.{emulation_word}
 use Rattle.st_filter.specs.Formula.{Formula, True, Test}
 use Rattle.st_filter.specs.declared.filter.Action.{Action}
 use Rattle.st_filter.specs.declared.filter.Action.TheVariants.{Permit, Deny, Ask}
@@ -149,10 +150,10 @@ abbrev pub step_binary : List (List ℕ) → GrammarState → ℕ → Option (Li
 step_binary known w at binary =
     found (Expected at) (λ binary. if list_any (λ b. bytes_eq b binary) known then Err (DuplicatePolicy at) else step_to w place.Comma) binary
 
--- at the emulation of a header: only `native` is supported
+-- at the emulation of a header: only one is supported
 abbrev pub step_system : GrammarState → ℕ → Symbol → StepResult
 step_system w at (Word word) =
-    if bytes_eq word (codes "native") then step_to w place.HeaderEnd else Err (NotSupported at unsupported.Emulation)
+    if bytes_eq word emulation_word then step_to w place.HeaderEnd else Err (NotSupported at unsupported.Emulation)
 step_system w at _ = expected at
 
 -- ---- expressions

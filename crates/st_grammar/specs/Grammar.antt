@@ -7,6 +7,7 @@ use Rattle.st_base.specs.declared.errno.Errno.TheVariants.{EPERM}
 use Rattle.st_base.specs.Errno.{error_named}
 use Rattle.st_lex.specs.Tokens.{lexed_text}
 use Rattle.st_lex.specs.Unquote.{unquoted}
+use Rattle.st_calls.specs.Emulation.{emulation_word}
 use Rattle.st_grammar.specs.declared.env.Env.{Env}
 use Rattle.st_filter.specs.declared.filter.Action.{Action}
 use Rattle.st_filter.specs.declared.filter.Action.TheVariants.{Permit, Deny, Ask}
@@ -149,7 +150,7 @@ binary_of env _ = None
 -- a header: the row that begins the policy of a binary
 pub record IsHeader (env : Env) (row : List Symbol) (binary : List ℕ) : Type 0 where
   pub spelled : Symbol
-  pub parts : row ≡ Word (codes "Policy") ∷ Colon ∷ spelled ∷ Comma ∷ Word (codes "Emulation") ∷ Colon ∷ Word (codes "native") ∷ []
+  pub parts : row ≡ Word (codes "Policy") ∷ Colon ∷ spelled ∷ Comma ∷ Word (codes "Emulation") ∷ Colon ∷ Word emulation_word ∷ []
   pub binary_is : binary_of env spelled ≡ Some binary
 
 -- rows, each ended by a Line: blank rows, headers, and the filters of the last header

@@ -8,6 +8,7 @@ use Rattle.st_calls.specs.declared.rule.Rule.{Rule}
 use Rattle.st_calls.specs.declared.rule.Rule.TheVariants.{Call}
 use Rattle.st_calls.specs.Argument.{has_argument, has_label}
 use Rattle.st_calls.specs.Call.{rule_named, sets_ids}
+use Rattle.st_calls.specs.Emulation.{emulation_prefix}
 use Rattle.st_grammar.specs.declared.env.Env.{Env}
 use Rattle.st_grammar.specs.declared.env.NamedId.{NamedId}
 use Rattle.st_filter.specs.declared.filter.FilterName.{FilterName}
@@ -35,9 +36,9 @@ is_name_byte b = is_ascii_alphanumeric b || (b == 95)
 abbrev pub if_name : List ℕ → Option (List ℕ)
 if_name name = if nat_lt 0 (length name) && list_all is_name_byte name then Some name else None
 
--- the rest of a word after `native-`, if it can be the name of a call
+-- the rest of a word after the emulation's prefix, if it can be the name of a call
 abbrev pub native_name : List ℕ → Option (List ℕ)
-native_name word = if starts_with nat_eq word (codes "native-") then if_name (drop 7 word) else None
+native_name word = if starts_with nat_eq word emulation_prefix then if_name (drop (length emulation_prefix) word) else None
 
 -- what a filter of this word is for: the rule that it names, if it names one, otherwise a call outside the model
 abbrev pub name_by : List ℕ → Option Rule → FilterName

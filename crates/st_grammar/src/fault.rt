@@ -10,7 +10,7 @@ use thiserror::Error;
 pub enum Unsupported {
     /// The operator `re`, which tests by a regular expression.
     Re,
-    /// An emulation other than `native`.
+    /// Another emulation's word.
     Emulation,
 }
 

@@ -6,7 +6,7 @@ ghost use Rattle.st_grammar.specs.Words.{is_label, is_name_byte, native_name, na
 
 use crate::env::{Env, NamedId};
 use st_base::number::{number_of, numeral_up_to};
-use st_calls::Rule;
+use st_calls::{Rule, emulation_prefix};
 use st_filter::{Op, Who};
 
 /// Whether a word is this keyword.
@@ -48,14 +48,15 @@ fn is_name(name: &[u8]) -> bool
     name.len() > 0 && has_name_bytes(name)
 }
 
-/// The rest of a word after `native-`, if it can be the name of a call.
+/// The rest of a word after the emulation's prefix, if it can be the name of a call.
 pub fn native_name(word: &[u8]) -> Option<&[u8]>
     ensures { option_copied result ≡ native_name word.now }
 {
-    if !word.starts_with(b"native-") {
+    let prefix = emulation_prefix();
+    if !word.starts_with(prefix) {
         return None;
     }
-    let name = &word[7..];
+    let name = &word[prefix.len()..];
     if is_name(name) { Some(name) } else { None }
 }
 

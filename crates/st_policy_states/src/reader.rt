@@ -28,7 +28,7 @@ pub struct Reader<'a> {
     pub(crate) place: Place,
     // How many filters have been read, those of earlier files and the current one included.
     pub(crate) filters: usize,
-    // The filter's name after `native-`, and its rule, unless it is a call outside the model.
+    // The filter's name after the emulation's prefix, and its rule, unless it is a call outside the model.
     pub(crate) name: &'a [u8],
     pub(crate) rule: Option<Rule>,
     // The current label, its offset in the text, and its index.

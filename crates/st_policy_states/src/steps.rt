@@ -7,6 +7,7 @@ ghost use Rattle.st_grammar.specs.Reading.{is_binary_place};
 use crate::reader::Reader;
 use crate::stack::PendingOperand;
 use st_base::{Errno, Text};
+use st_calls::emulation_word;
 use st_filter::{Action, Expr, Grant, Predicate, Who};
 use st_grammar::words::{
     id_of, index_of, is_keyword, is_label, may_test, may_test_label, names_for, op_named, sets_ids,
@@ -49,7 +50,7 @@ impl<'a> Reader<'a> {
     {
         match *symbol {
             Symbol::Word(word) => {
-                if !is_keyword(word, b"native") {
+                if !is_keyword(word, emulation_word()) {
                     return Err(PolicyFault::NotSupported(at, Unsupported::Emulation));
                 }
                 self.go(Place::HeaderEnd)

@@ -5,6 +5,7 @@ use Rattle.st_base.specs.declared.errno.Errno.{Errno}
 use Rattle.st_base.specs.declared.errno.Errno.TheVariants.{EPERM}
 use Rattle.st_base.specs.Errno.{word_of_error}
 use Rattle.st_calls.specs.Call.{name_of_rule}
+use Rattle.st_calls.specs.Emulation.{emulation_prefix, emulation_word}
 use Rattle.st_lex.specs.declared.token.TokenKind.TheVariants as kind
 use Rattle.st_lex.specs.Pieces.{Piece, PlainWord, QuotedText, Sign, Space, print, is_word_text}
 use Rattle.st_filter.specs.declared.filter.Action.{Action}
@@ -132,7 +133,7 @@ predicate_pieces (Some p) =
 
 -- ---- rows
 
--- the rule or the call that a filter is for, as it is written after `native-`
+-- the rule or the call that a filter is for, as it is written after the emulation's prefix
 abbrev pub call_word : FilterName → List ℕ
 call_word (name.Rule rule) = name_of_rule rule
 call_word (name.Other word) = word
@@ -140,7 +141,7 @@ call_word (name.Other word) = word
 -- the pieces of a filter in its row
 abbrev pub filter_pieces : FilterValue → List Piece
 filter_pieces f =
-    PlainWord (codes "native-" ++ call_word f.name) ∷ Sign kind.Colon ∷ Space ∷
+    PlainWord (emulation_prefix ++ call_word f.name) ∷ Sign kind.Colon ∷ Space ∷
     condition_pieces f.formula ++ action_pieces f.action ++ grant_pieces f.grant ++ log_pieces f.log ++ predicate_pieces f.predicate
 
 -- the canonical text of one filter
@@ -155,7 +156,7 @@ binary_piece binary = if is_word_text binary then PlainWord binary else QuotedTe
 abbrev pub header_pieces : List ℕ → List Piece
 header_pieces binary =
     PlainWord (codes "Policy") ∷ Sign kind.Colon ∷ Space ∷ binary_piece binary ∷ Sign kind.Comma ∷ Space ∷
-    PlainWord (codes "Emulation") ∷ Sign kind.Colon ∷ Space ∷ PlainWord (codes "native") ∷ []
+    PlainWord (codes "Emulation") ∷ Sign kind.Colon ∷ Space ∷ PlainWord emulation_word ∷ []
 
 -- the pieces of a row, which ends with a newline
 abbrev pub row_pieces : List Piece → List Piece

@@ -1,12 +1,13 @@
-ghost use Rattle.std.specs.Prelude.{◌≡◌, ◌++◌, [], List, OnOk, OnErr, IfOk};
+ghost use Rattle.std.specs.Prelude.{◌≡◌, ◌++◌, [], List, codes, OnOk, OnErr, IfOk};
 ghost use Rattle.std.specs.List.{flat_map};
 ghost use Rattle.st_lex.specs.Pieces.{print, piece_bytes};
 ghost use Rattle.st_base.specs.Errno.{word_of_error};
+ghost use Rattle.st_calls.specs.Emulation.{emulation_word};
 ghost use Rattle.st_printing.specs.Canon.{word_of_op, index_pieces, test_pieces, needs_no_parens, in_parens, expression_pieces, condition_pieces, deny_pieces, action_pieces, user_pieces, group_pieces, grant_pieces, log_pieces, word_of_who, cmp_piece, predicate_pieces, call_word, filter_pieces, row_pieces, canon_filter, header_pieces, binary_piece, policy_pieces, canon};
 ghost use Rattle.st_filter.specs.Formula.{formula, Operand, Conjunction};
 
 use st_base::{Errno, Text};
-use st_calls::append_index;
+use st_calls::{append_index, emulation_prefix, emulation_word};
 use st_filter::{
     Action, Cmp, Expr, Filter, FilterName, Grant, Op, Policy, PolicySet, Predicate, Who,
 };
@@ -206,7 +207,7 @@ fn append_predicate(predicate: Option<Predicate>, out: &mut Text) -> Result<(), 
     out.append_number(u64::from(predicate.id))
 }
 
-// A filter's name after `native-`.
+// A filter's name after the emulation's prefix.
 fn word_of_name(name: &FilterName) -> &[u8]
     ensures { result.now ≡ call_word name.now }
 {
@@ -220,7 +221,7 @@ fn word_of_name(name: &FilterName) -> &[u8]
 fn append_filter(filter: &Filter, out: &mut Text) -> Result<(), AllocError>
     ensures { OnOk result (out.new ≡ out.old ++ canon_filter filter.now) }
 {
-    out.append(b"native-")?;
+    out.append(emulation_prefix())?;
     out.append(word_of_name(filter.name()))?;
     out.append(b": ")?;
     append_condition(filter.expr(), out)?;
@@ -251,14 +252,22 @@ fn append_binary(binary: &[u8], out: &mut Text) -> Result<(), AllocError>
     }
 }
 
+// Appends what follows the binary in a header's row, with the newline.
+fn append_emulation(out: &mut Text) -> Result<(), AllocError>
+    ensures { OnOk result (out.new ≡ out.old ++ codes ", Emulation: " ++ emulation_word ++ codes "\n") }
+{
+    out.append(b", Emulation: ")?;
+    out.append(emulation_word())?;
+    out.append(b"\n")
+}
+
 // Appends a header's row with its newline.
 fn append_header(binary: &[u8], out: &mut Text) -> Result<(), AllocError>
     ensures { OnOk result (out.new ≡ out.old ++ print (row_pieces (header_pieces binary.now))) }
 {
     out.append(b"Policy: ")?;
     append_binary(binary, out)?;
-    out.append(b", Emulation: native\n")?;
-    Ok(())
+    append_emulation(out)
 }
 
 // Appends the rows of filters.

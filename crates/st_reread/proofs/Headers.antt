@@ -6,6 +6,7 @@ use Rattle.st_grammar.proofs.Common.{AreBytes, binary_of, is_word_text, IsHeader
 use Rattle.st_grammar.specs.declared.env.Env.{Env}
 use Rattle.st_lex.specs.Quote.{quoted}
 use Rattle.st_lex.proofs.Unquotes.{unquoted-quoted}
+use Rattle.st_calls.specs.Emulation.{emulation_word}
 use Rattle.st_grammar.specs.Grammar.{if_absolute}
 use Rattle.st_printing.specs.Canon.{header_pieces}
 use Rattle.st_reread.proofs.Symbols.{piece_symbols, IsPrintable, ArePrintable}
@@ -37,7 +38,7 @@ readable_binary env row binary is p = readable_symbol env is.spelled binary (sub
 abbrev header_by : Bool → List ℕ → List Piece
 header_by b binary =
     PlainWord (codes "Policy") ∷ Sign kind.Colon ∷ Space ∷ cond b (PlainWord binary) (QuotedText binary) ∷ Sign kind.Comma ∷ Space ∷
-    PlainWord (codes "Emulation") ∷ Sign kind.Colon ∷ Space ∷ PlainWord (codes "native") ∷ []
+    PlainWord (codes "Emulation") ∷ Sign kind.Colon ∷ Space ∷ PlainWord emulation_word ∷ []
 
 is_header_by : (env : Env) (b : Bool) (binary : List ℕ) → is_word_text binary ≡ b → IsReadableBinary binary → IsHeader env (piece_symbols (header_by b binary)) binary
 is_header_by env true binary e r = record { spelled = Word binary; parts = refl; binary_is = r.absolute }

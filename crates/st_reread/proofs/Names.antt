@@ -1,5 +1,5 @@
 -- Names of filters are read back.
-use Rattle.std.proofs.Common.{◌≡◌, ℕ, Bool, true, false, cond, ◌&&◌, nat_eq, nat_lt, List, ◌++◌, length, take, drop, codes, Option, Some, None, option_map, refl, ap, sym, subst, ◌∙◌, take-append-drop}
+use Rattle.std.proofs.Common.{◌≡◌, ℕ, Bool, true, false, cond, ◌&&◌, nat_eq, nat_lt, List, ◌++◌, length, take, drop, Option, Some, None, option_map, refl, ap, sym, subst, ◌∙◌, take-append-drop}
 use Rattle.std.specs.List.{starts_with, list_all}
 use Rattle.std.proofs.lemmas.Slice.Eq.{bytes_eq-Decides}
 use Rattle.st_grammar.proofs.Common.{Call, filter_name, FilterName, FsRead, is_word_text}
@@ -8,14 +8,15 @@ use Rattle.st_calls.specs.declared.call.SysCall.TheVariants.{Open}
 use Rattle.st_calls.specs.declared.rule.Rule.{Rule}
 use Rattle.st_calls.specs.declared.rule.Rule.TheVariants.{FsWrite}
 use Rattle.st_calls.specs.Call.{rule_named}
+use Rattle.st_calls.specs.Emulation.{emulation_prefix}
 use Rattle.st_filter.specs.declared.filter.FilterName.TheVariants as name
 use Rattle.st_grammar.specs.Words.{is_name_byte, if_name, native_name, name_by}
 use Rattle.st_printing.specs.Canon.{call_word}
 
 -- the name is a Word that is read back
 pub record IsReadableName (name : FilterName) : Type 0 where
-  pub is_word : is_word_text (codes "native-" ++ call_word name) ≡ true
-  pub is_read : filter_name (codes "native-" ++ call_word name) ≡ Some name
+  pub is_word : is_word_text (emulation_prefix ++ call_word name) ≡ true
+  pub is_read : filter_name (emulation_prefix ++ call_word name) ≡ Some name
 
 readable_call : (call : SysCall) → IsReadableName (name.Rule (Call call))
 readable_call Open = record { is_word = refl; is_read = refl }
@@ -30,14 +31,14 @@ named_by : (b : Bool) (word call : List ℕ) → cond b (Some word) None ≡ Som
 named_by true word call e = cc
 named_by false word call e = absurd (cc)
 
-native_by : (b : Bool) (word call : List ℕ) → starts_with nat_eq word (codes "native-") ≡ b → cond b (if_name (drop 7 word)) None ≡ Some call → word ≡ codes "native-" ++ call
+native_by : (b : Bool) (word call : List ℕ) → starts_with nat_eq word emulation_prefix ≡ b → cond b (if_name (drop (length emulation_prefix) word)) None ≡ Some call → word ≡ emulation_prefix ++ call
 native_by true word call e is =
-    let front : codes "native-" ≡ take 7 word = (bytes_eq-Decides (codes "native-") (take 7 word)).0 e in
-    let back : drop 7 word ≡ call = named_by (nat_lt 0 (length (drop 7 word)) && list_all is_name_byte (drop 7 word)) (drop 7 word) call is in
-    sym (take-append-drop 7 word) ∙ ap (λ (xs : List ℕ). xs ++ drop 7 word) (sym front) ∙ ap (λ (xs : List ℕ). codes "native-" ++ xs) back
+    let front : emulation_prefix ≡ take (length emulation_prefix) word = (bytes_eq-Decides emulation_prefix (take (length emulation_prefix) word)).0 e in
+    let back : drop (length emulation_prefix) word ≡ call = named_by (nat_lt 0 (length (drop (length emulation_prefix) word)) && list_all is_name_byte (drop (length emulation_prefix) word)) (drop (length emulation_prefix) word) call is in
+    sym (take-append-drop (length emulation_prefix) word) ∙ ap (λ (xs : List ℕ). xs ++ drop (length emulation_prefix) word) (sym front) ∙ ap (λ (xs : List ℕ). emulation_prefix ++ xs) back
 native_by false word call e is = absurd (cc)
 
-named_rule : (word call : List ℕ) (o : Option Rule) → word ≡ codes "native-" ++ call → is_word_text word ≡ true → rule_named call ≡ o → filter_name word ≡ Some (name_by call o) → IsReadableName (name_by call o)
+named_rule : (word call : List ℕ) (o : Option Rule) → word ≡ emulation_prefix ++ call → is_word_text word ≡ true → rule_named call ≡ o → filter_name word ≡ Some (name_by call o) → IsReadableName (name_by call o)
 named_rule word call (Some rule) is w e f = readable_rule rule
 named_rule word call None is w e f = record {
   is_word = ap is_word_text (sym is) ∙ w;
@@ -49,7 +50,7 @@ read_name word name None e w is = absurd (cc)
 read_name word name (Some call) e w is =
     let same : name_by call (rule_named call) ≡ name = cc in
     subst IsReadableName same
-    (named_rule word call (rule_named call) (native_by (starts_with nat_eq word (codes "native-")) word call refl e) w refl
+    (named_rule word call (rule_named call) (native_by (starts_with nat_eq word emulation_prefix) word call refl e) w refl
     (ap (option_map (λ (call : List ℕ). name_by call (rule_named call))) e))
 
 -- a name that was read can be read again

@@ -1,8 +1,9 @@
 -- Filters, read and printed.
-use Rattle.std.proofs.Common.{◌≡◌, List, ◌∷◌, ◌++◌, codes, refl, ap, subst, ◌∙◌, append_assoc}
+use Rattle.std.proofs.Common.{◌≡◌, List, ◌∷◌, ◌++◌, refl, ap, subst, ◌∙◌, append_assoc}
 use Rattle.st_grammar.proofs.Common.{Colon, FilterValue, IsFilter, Piece, CanBeReadBack, Symbol, Word}
 use Rattle.st_grammar.specs.declared.env.Env.{Env}
 use Rattle.st_lex.proofs.Pieces.{StandWell-append}
+use Rattle.st_calls.specs.Emulation.{emulation_prefix}
 use Rattle.st_printing.specs.Canon.{condition_pieces, action_pieces, grant_pieces, log_pieces, predicate_pieces, call_word, filter_pieces}
 use Rattle.st_reread.specs.Readable.{HasSmallIds}
 use Rattle.st_reread.proofs.Names.{IsReadableName, readable_name}
@@ -41,12 +42,12 @@ parted c a g l p =
 
 pub is_filter : (env : Env) (f : FilterValue) → IsReadableFilter env f → IsFilter env (piece_symbols (filter_pieces f)) f
 is_filter env f r = record {
-  spelled = codes "native-" ++ call_word f.name;
+  spelled = emulation_prefix ++ call_word f.name;
   condition = piece_symbols (condition_pieces f.formula);
   action = piece_symbols (action_pieces f.action);
   tail = piece_symbols (grant_pieces f.grant ++ log_pieces f.log);
   predicate = piece_symbols (predicate_pieces f.predicate);
-  parts = ap (λ (ts : List Symbol). Word (codes "native-" ++ call_word f.name) ∷ Colon ∷ ts) (parted (condition_pieces f.formula) (action_pieces f.action) (grant_pieces f.grant) (log_pieces f.log) (predicate_pieces f.predicate));
+  parts = ap (λ (ts : List Symbol). Word (emulation_prefix ++ call_word f.name) ∷ Colon ∷ ts) (parted (condition_pieces f.formula) (action_pieces f.action) (grant_pieces f.grant) (log_pieces f.log) (predicate_pieces f.predicate));
   name_is = r.name.is_read;
   condition_is = is_condition env f.name f.formula r.condition;
   action_is = is_action env f.action r.action;
