@@ -1,9 +1,14 @@
 -- The kernel's own answers in the rows of a table, as filters are appended.
-use Rattle.std.proofs.Common.{◌≡◌, ◌∙◌, ◌++◌, ◌&&◌, ℕ, Bool, true, false, cond, List, [], ◌∷◌, map, Option, Some, None, Vec, Global, refl, ap, sym, get_or}
+use Rattle.std.proofs.Common.{◌≡◌, ◌<◌, ◌+◌, ◌∙◌, ◌++◌, ◌&&◌, ℕ, suc, Bool, true, false, cond, not, set, List, [], ◌∷◌, length, map, Option, Some, None, Vec, Global, refl, ap, sym, get_or, true≢false}
+use Rattle.std.proofs.lemmas.List.{get_or-set_other, get_or-set_same}
 use Rattle.std.proofs.lemmas.Slice.Eq.{bytes_eq-Decides}
-use Rattle.std.specs.Prelude.{is_some, unwrap_or}
+use Rattle.std.specs.List.{position, position_or_len}
+use Rattle.std.specs.Map.{keys_of, lookup, values_of}
+use Rattle.std.specs.Option.{option_or}
+use Rattle.std.specs.Prelude.{is_some, nat_lt, slice_get, unwrap_or}
 use Rattle.std.specs.Str.{bytes_eq}
-use Rattle.indexmap.specs.IndexMap.{insert_entry}
+use Rattle.indexmap.proofs.MapLemmas.{Found-position}
+use Rattle.indexmap.specs.IndexMap.{insert_entry, set_value_at}
 use Rattle.st_calls.proofs.Rules.{same_rule-Decides}
 use Rattle.st_calls.specs.Call.{every_rule, index_of_rule}
 use Rattle.st_calls.specs.Rules.{same_rule}
@@ -12,68 +17,103 @@ use Rattle.st_calls.specs.declared.rule.FastAnswer.{FastAnswer}
 use Rattle.st_calls.specs.declared.rule.FastAnswer.TheVariants.{Ask}
 use Rattle.st_calls.specs.declared.rule.Rule.{Rule}
 use Rattle.st_calls.specs.declared.rule.Rule.TheVariants.{Call, FsRead, FsWrite}
-use Rattle.st_filter.proofs.Entries.{same_key}
+use Rattle.st_filter.proofs.Entries.{is_key, same_key}
 use Rattle.st_filter.specs.Fast.{fast, fast_answer, first_answer}
 use Rattle.st_filter.specs.Formula.{FilterValue}
-use Rattle.st_compile.specs.Answers.{AreAnswersUnder, ChangesAnswer, InForce, answer_at, answer_in, answers_in, changed_answer, with_appended}
-use Rattle.st_compile.specs.Table.{AnswersEntry, BinaryAnswers, binary_answers, represented_table}
+use Rattle.st_compile.specs.Answers.{AreAnswersUnder, ChangesAnswer, InForce, KeepsAnswers, answer_at, answer_in, with_appended}
+use Rattle.st_compile.specs.Table.{AnswersEntry, AreTables, BinaryAnswers, answer_row, binary_answers, represented_table}
+use Rattle.st_compile.proofs.Keyed.{key_stands, lookup_set}
+use Rattle.st_compile.proofs.Tables.{answers_kept, chosen, gains, items_of, lookup_length, made_at}
 
 -- the answer by the first filter is that of all
 pub fast_is : (fs : List FilterValue) → unwrap_or (first_answer fs) Ask ≡ fast fs
 fast_is [] = refl
 fast_is (f ∷ fs) = refl
 
--- ---- a row that is set
+-- ---- the row of a binary
 
-twice : {X : Type 0} (b : Bool) (x y z : X) → cond b x z ≡ cond b x (cond b y z)
-twice true x y z = refl
-twice false x y z = refl
+abbrev binaries : List AnswersEntry → List (List ℕ)
+binaries es = map (λ (row : BinaryAnswers). row.binary) (represented_table es)
 
-module _ (key : Vec ℕ Global) (v : Vec (Option FastAnswer) Global) (other : List ℕ) where
-  abbrev Set : List AnswersEntry → List AnswersEntry → Type 0
-  Set es new = binary_answers (represented_table new) other ≡ cond (bytes_eq key.items other) (Some v.items) (binary_answers (represented_table es) other)
+-- the number of a binary's row is the index of its key in the map
+pub row_kept : (es : List AnswersEntry) (binary : List ℕ) → answer_row (represented_table es) binary ≡ position (is_key binary) (keys_of es)
+row_kept es binary = λ k. cond (nat_lt (first es k) (long es k)) (Some (first es k)) None where
+  first : (es : List AnswersEntry) → position_or_len (bytes_eq binary) (binaries es) ≡ position_or_len (is_key binary) (keys_of es)
+  first [] = refl
+  first (e ∷ es) = ap (λ n. cond (not (bytes_eq binary e.0.items)) (1 + n) 0) (first es)
 
-  set_later : (e : AnswersEntry) (es : List AnswersEntry) → bytes_eq key.items e.0.items ≡ false → (b : Bool) → bytes_eq e.0.items other ≡ b → Set es (insert_entry same_key es key v) → Set (e ∷ es) (e ∷ insert_entry same_key es key v)
-  set_later e es differs true same later =
-      let apart : bytes_eq key.items other ≡ false = ap (bytes_eq key.items) (sym ((bytes_eq-Decides e.0.items other).0 same)) ∙ differs in
-      (λ k. cond (same k) (Some e.1.items) (binary_answers (represented_table (insert_entry same_key es key v)) other))
-      ∙ (λ k. cond (sym apart k) (Some v.items) (cond (sym same k) (Some e.1.items) (binary_answers (represented_table es) other)))
-  set_later e es differs false same later =
-      (λ k. cond (same k) (Some e.1.items) (binary_answers (represented_table (insert_entry same_key es key v)) other))
-      ∙ later
-      ∙ (λ k. cond (bytes_eq key.items other) (Some v.items) (cond (sym same k) (Some e.1.items) (binary_answers (represented_table es) other)))
+  long : (es : List AnswersEntry) → length (binaries es) ≡ length (keys_of es)
+  long [] = refl
+  long (e ∷ es) = ap suc (long es)
 
-  set_by : (b : Bool) (e : AnswersEntry) (es : List AnswersEntry) → bytes_eq key.items e.0.items ≡ b → Set es (insert_entry same_key es key v) → Set (e ∷ es) (cond b ((e.0, v) ∷ es) (e ∷ insert_entry same_key es key v))
-  set_by true e es is later =
-      twice (bytes_eq e.0.items other) (Some v.items) (Some e.1.items) (binary_answers (represented_table es) other)
-      ∙ (λ k. cond (bytes_eq (sym ((bytes_eq-Decides key.items e.0.items).0 is) k) other) (Some v.items) (binary_answers (represented_table (e ∷ es)) other))
-  set_by false e es is later = set_later e es is (bytes_eq e.0.items other) refl later
+-- a row without answers changes none
+no_more : (o : Option (List (Option FastAnswer))) (b : Bool) (rule : Rule) → answer_at (unwrap_or (option_or o (cond b (Some (map (λ each. None) every_rule)) None)) []) rule ≡ answer_at (unwrap_or o []) rule
+no_more (Some answers) b rule = refl
+no_more None true rule = made_at (λ each. None) rule
+no_more None false rule = refl
 
-  -- the row of a key has what was set, and each other what it had
-  pub row_set : (es : List AnswersEntry) → Set es (insert_entry same_key es key v)
-  row_set [] = refl
-  row_set (e ∷ es) = set_by (bytes_eq key.items e.0.items) e es refl (row_set es)
+module _ (es : List AnswersEntry) (key : Vec ℕ Global) (v : Vec (Option FastAnswer) Global) (binary : List ℕ) (key_is : key.items ≡ binary) where
+  pub row_made : (i : ℕ) → i ≡ position_or_len (same_key key) (keys_of es) → answer_row (represented_table (insert_entry same_key es key v)) binary ≡ Some i
+  row_made i is = ap (answer_row (represented_table (insert_entry same_key es key v))) (sym key_is) ∙ row_kept (insert_entry same_key es key v) key.items ∙ key_stands key v es ∙ ap Some (sym is)
+
+  pub row_keeps : is_some (lookup (is_key binary) es) ≡ false → v.items ≡ map (λ each. None) every_rule → KeepsAnswers (represented_table es) (represented_table (insert_entry same_key es key v))
+  row_keeps none are other rule =
+      ap (λ (o : Option (List (Option FastAnswer))). answer_at (unwrap_or o []) rule) (gains es key v binary (map (λ each. None) every_rule) none key_is are other)
+      ∙ no_more (binary_answers (represented_table es) other) (bytes_eq binary other) rule
 
 -- ---- an answer that is set
 
--- what is made for each rule is at the rule's index
-pub made_at : (f : Rule → Option FastAnswer) (rule : Rule) → get_or (map f every_rule) (index_of_rule rule) None ≡ f rule
-made_at f (Call Open) = refl
-made_at f (Call call) = refl
-made_at f FsRead = refl
-made_at f FsWrite = refl
+rule_at : (rule : Rule) → get_or every_rule (index_of_rule rule) FsRead ≡ rule
+rule_at (Call Open) = refl
+rule_at (Call call) = refl
+rule_at FsRead = refl
+rule_at FsWrite = refl
 
-module _ (old new : List BinaryAnswers) (binary : List ℕ) (rule : Rule) (answer : FastAnswer) (answers : List (Option FastAnswer)) (set : (other : List ℕ) → binary_answers new other ≡ cond (bytes_eq binary other) (Some answers) (binary_answers old other)) (are : answers ≡ map (changed_answer (answers_in old binary) rule answer) every_rule) where
-  changed_by : (other : List ℕ) (r : Rule) (b : Bool) → bytes_eq binary other ≡ b → answer_in new other r ≡ cond (b && same_rule rule r) (Some answer) (answer_in old other r)
-  changed_by other r true is =
-      ap (λ (o : Option (List (Option FastAnswer))). answer_at (unwrap_or o []) r) (set other ∙ ap (λ c. cond c (Some answers) (binary_answers old other)) is)
-      ∙ ap (λ (row : List (Option FastAnswer)). answer_at row r) are
-      ∙ made_at (changed_answer (answers_in old binary) rule answer) r
-      ∙ ap (λ (bin : List ℕ). changed_answer (answers_in old bin) rule answer r) ((bytes_eq-Decides binary other).0 is)
-  changed_by other r false is = ap (λ (o : Option (List (Option FastAnswer))). answer_at (unwrap_or o []) r) (set other ∙ ap (λ c. cond c (Some answers) (binary_answers old other)) is)
+same_index : (a b : Rule) → index_of_rule a ≡ index_of_rule b → a ≡ b
+same_index a b e = sym (rule_at a) ∙ ap (λ i. get_or every_rule i FsRead) e ∙ rule_at b
 
-  pub answer_changed : ChangesAnswer old binary rule answer new
-  answer_changed other r = changed_by other r (bytes_eq binary other) refl
+module _ (answers : List (Option FastAnswer)) (rule : Rule) (answer : FastAnswer) (inside : index_of_rule rule < length answers) where
+  set_at : (r : Rule) (b : Bool) → same_rule rule r ≡ b → answer_at (set answers (index_of_rule rule) (Some answer)) r ≡ cond b (Some answer) (answer_at answers r)
+  set_at r true same =
+      ap (λ (each : Rule). answer_at (set answers (index_of_rule rule) (Some answer)) each) (sym ((same_rule-Decides rule r).0 same))
+      ∙ get_or-set_same answers (index_of_rule rule) (Some answer) None inside
+  set_at r false differs = get_or-set_other answers (index_of_rule rule) (index_of_rule r) (Some answer) None (λ e. true≢false (sym ((same_rule-Decides rule r).1 (sym (same_index r rule e))) ∙ differs))
+
+module _ (es : List AnswersEntry) (binary : List ℕ) (i : ℕ) (at : answer_row (represented_table es) binary ≡ Some i) where
+  row_is : position (is_key binary) (keys_of es) ≡ Some i
+  row_is = sym (row_kept es binary) ∙ at
+
+  pub row_inside : i < length es
+  row_inside = (Found-position (is_key binary) es i row_is).within
+
+  module _ (v : Vec (Option FastAnswer) Global) (there : slice_get (values_of es) i ≡ Some v) where
+    there_by_key : lookup (is_key binary) es ≡ Some v
+    there_by_key = (Found-position (is_key binary) es i row_is).value ∙ there
+
+    pub row_there : binary_answers (represented_table es) binary ≡ Some v.items
+    row_there = sym (answers_kept es binary) ∙ ap items_of there_by_key
+
+    pub row_length : AreTables (represented_table es) → length v.items ≡ length every_rule
+    row_length whole = lookup_length es binary v whole there_by_key
+
+    module _ (rule : Rule) (answer : FastAnswer) (w : Vec (Option FastAnswer) Global) (inside : index_of_rule rule < length v.items) (is : w.items ≡ set v.items (index_of_rule rule) (Some answer)) where
+      new_row : (other : List ℕ) (b : Bool) → bytes_eq binary other ≡ b → binary_answers (represented_table (set_value_at es i w)) other ≡ cond b (Some w.items) (binary_answers (represented_table es) other)
+      new_row other b same =
+          sym (answers_kept (set_value_at es i w) other)
+          ∙ ap items_of (lookup_set es binary i w row_is other)
+          ∙ chosen (bytes_eq binary other) w (lookup (is_key other) es) (binary_answers (represented_table es) other) (answers_kept es other)
+          ∙ ap (λ c. cond c (Some w.items) (binary_answers (represented_table es) other)) same
+
+      changed_by : (other : List ℕ) (r : Rule) (b : Bool) → bytes_eq binary other ≡ b → answer_in (represented_table (set_value_at es i w)) other r ≡ cond (b && same_rule rule r) (Some answer) (answer_in (represented_table es) other r)
+      changed_by other r true same =
+          ap (λ (o : Option (List (Option FastAnswer))). answer_at (unwrap_or o []) r) (new_row other true same)
+          ∙ ap (λ (row : List (Option FastAnswer)). answer_at row r) is
+          ∙ set_at v.items rule answer inside r (same_rule rule r) refl
+          ∙ ap (λ (o : Option (List (Option FastAnswer))). cond (same_rule rule r) (Some answer) (answer_at (unwrap_or o []) r)) (sym row_there ∙ ap (binary_answers (represented_table es)) ((bytes_eq-Decides binary other).0 same))
+      changed_by other r false same = ap (λ (o : Option (List (Option FastAnswer))). answer_at (unwrap_or o []) r) (new_row other false same)
+
+      pub answer_changed : ChangesAnswer (represented_table es) binary rule answer (represented_table (set_value_at es i w))
+      answer_changed other r = changed_by other r (bytes_eq binary other) refl
 
 -- ---- a filter that is appended
 

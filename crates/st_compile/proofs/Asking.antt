@@ -23,7 +23,7 @@ right_of false b e = cc
 pub both_of : (a b : Bool) → a ≡ true → b ≡ true → (a && b) ≡ true
 both_of a b e f = λ k. e k && f k
 
-last_true : (b : Bool) → (b || true) ≡ true
+pub last_true : (b : Bool) → (b || true) ≡ true
 last_true true = refl
 last_true false = refl
 

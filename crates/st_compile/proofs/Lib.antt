@@ -1,8 +1,10 @@
 mod Answering
+mod Arguments
 pub mod Asking
 mod Holding
 pub mod Indices
-mod Labels
-mod Lists
+mod Keyed
+pub mod Lists
+mod Passes
 pub mod Rows
 mod Tables

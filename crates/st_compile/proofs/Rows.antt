@@ -1,9 +1,6 @@
 -- The rows of indices, as a map keeps them.
 use Rattle.std.proofs.Common.{◌≡◌, ◌≤◌, ◌<◌, ◌+◌, ◌∙◌, ◌++◌, ℕ, suc, zero, Bool, true, false, cond, not, List, [], ◌∷◌, length, map, Option, Some, None, Vec, Global, refl, ap, sym, subst, option_map, vec_capacity, vec_len, arith}
-use Rattle.std.proofs.lemmas.Bool.Decides.{Decides-ltb}
 use Rattle.std.proofs.lemmas.Cmp.{nat_list_eq_equiv}
-use Rattle.std.proofs.lemmas.Map.Entries.{length-keys_of}
-use Rattle.std.proofs.lemmas.Option.{same_Some}
 use Rattle.std.proofs.lemmas.Slice.Eq.{bytes_eq-Decides}
 use Rattle.std.specs.List.{position, position_or_len, remove}
 use Rattle.std.specs.Map.{keys_of, lookup, values_of}
@@ -12,13 +9,9 @@ use Rattle.std.specs.Prelude.{is_some, nat_lt, slice_get}
 use Rattle.std.specs.Str.{bytes_eq}
 use Rattle.indexmap.proofs.MapLemmas.{Found-position}
 use Rattle.indexmap.specs.IndexMap.{insert_entry, set_value_at}
+use Rattle.st_filter.proofs.Entries.{is_key, same_key}
+use Rattle.st_compile.proofs.Keyed.{key_stands, lookup_set}
 use Rattle.st_compile.specs.Places.{GainsPlace, HasRoom, HasRoomAt, IsRoomLeft, KeepsPlaces, LosesPlace, PlacesEntry, PolicyPlaces, Listing, policy_places, places_with, listing_in, policy_row, shown_listing, shown_rows}
-
-abbrev pub is_key : List ℕ → Vec ℕ Global → Bool
-is_key policy key = bytes_eq policy key.items
-
-abbrev pub same_key : Vec ℕ Global → Vec ℕ Global → Bool
-same_key x y = bytes_eq x.items y.items
 
 abbrev pub shown : Option (Vec ℕ Global) → Option Listing
 shown o = option_map shown_listing o
@@ -42,55 +35,13 @@ none_shown (Some v) e = cc
 
 -- ---- a row that is changed
 
-twice : {X : Type 0} (b : Bool) (x y z : X) → cond b x z ≡ cond b x (cond b y z)
-twice true x y z = refl
-twice false x y z = refl
-
-module _ (policy other : List ℕ) (w : Vec ℕ Global) where
-  abbrev Changed : List PlacesEntry → ℕ → Type 0
-  Changed es i = listing_in (shown_rows (set_value_at es i w)) other ≡ cond (bytes_eq policy other) (Some (shown_listing w)) (listing_in (shown_rows es) other)
-
-  own_row : (e : PlacesEntry) (es : List PlacesEntry) → policy ≡ e.0.items → Changed (e ∷ es) 0
-  own_row e es same =
-      twice (bytes_eq e.0.items other) (Some (shown_listing w)) (Some (shown_listing e.1)) (listing_in (shown_rows es) other)
-      ∙ (λ k. cond (bytes_eq (sym same k) other) (Some (shown_listing w)) (listing_in (shown_rows (e ∷ es)) other))
-
-  later_row : (e : PlacesEntry) (es : List PlacesEntry) (i : ℕ) → bytes_eq policy e.0.items ≡ false → (b : Bool) → bytes_eq e.0.items other ≡ b → Changed es i → Changed (e ∷ es) (suc i)
-  later_row e es i differs true same later =
-      let at : e.0.items ≡ other = (bytes_eq-Decides e.0.items other).0 same in
-      let apart : bytes_eq policy other ≡ false = ap (bytes_eq policy) (sym at) ∙ differs in
-      (λ k. cond (same k) (Some (shown_listing e.1)) (listing_in (shown_rows (set_value_at es i w)) other))
-      ∙ (λ k. cond (sym apart k) (Some (shown_listing w)) (cond (sym same k) (Some (shown_listing e.1)) (listing_in (shown_rows es) other)))
-  later_row e es i differs false same later =
-      (λ k. cond (same k) (Some (shown_listing e.1)) (listing_in (shown_rows (set_value_at es i w)) other))
-      ∙ later
-      ∙ (λ k. cond (bytes_eq policy other) (Some (shown_listing w)) (cond (sym same k) (Some (shown_listing e.1)) (listing_in (shown_rows es) other)))
-
-  changed_by : (b : Bool) (e : PlacesEntry) (es : List PlacesEntry) → bytes_eq policy e.0.items ≡ b → (i : ℕ) → cond (not b) (1 + position_or_len (is_key policy) (keys_of es)) 0 ≡ i
-      → (cond (not b) (1 + position_or_len (is_key policy) (keys_of es)) 0 < suc (length es)) → (position_or_len (is_key policy) (keys_of es) < length es → Changed es (position_or_len (is_key policy) (keys_of es))) → Changed (e ∷ es) i
-  changed_by true e es is i at inside later = subst (Changed (e ∷ es)) at (own_row e es ((bytes_eq-Decides policy e.0.items).0 is))
-  changed_by false e es is i at inside later =
-      let next : suc (position_or_len (is_key policy) (keys_of es)) ≡ 1 + position_or_len (is_key policy) (keys_of es) = omega arith in
-      subst (Changed (e ∷ es)) (next ∙ at) (later_row e es (position_or_len (is_key policy) (keys_of es)) is (bytes_eq e.0.items other) refl (later (omega arith)))
-
-  changed : (es : List PlacesEntry) → position_or_len (is_key policy) (keys_of es) < length es → Changed es (position_or_len (is_key policy) (keys_of es))
-  changed [] inside = absurd (omega arith)
-  changed (e ∷ es) inside = changed_by (bytes_eq policy e.0.items) e es refl _ refl inside (changed es)
-
-found_by : (b : Bool) (a i n : ℕ) → nat_lt a n ≡ b → Some i ≡ cond b (Some a) None → (a ≡ i) × (a < n)
-found_by true a i n is e = (same_Some a i (sym e), (Decides-ltb a n).0 is)
-found_by false a i n is e = absurd (clash e) where
-  clash : Some i ≡ None → ⊥
-  clash f = cc
-
 -- the row at a policy's index is changed, and no other
 pub row_changed : (es : List PlacesEntry) (policy : List ℕ) (i : ℕ) (w : Vec ℕ Global) → Some i ≡ position (is_key policy) (keys_of es) → (other : List ℕ)
     → listing_in (shown_rows (set_value_at es i w)) other ≡ cond (bytes_eq policy other) (Some (shown_listing w)) (listing_in (shown_rows es) other)
 row_changed es policy i w at other =
-    let found : (position_or_len (is_key policy) (keys_of es) ≡ i) × (position_or_len (is_key policy) (keys_of es) < length (keys_of es)) =
-    found_by (nat_lt (position_or_len (is_key policy) (keys_of es)) (length (keys_of es))) (position_or_len (is_key policy) (keys_of es)) i (length (keys_of es)) refl at in
-    let inside : position_or_len (is_key policy) (keys_of es) < length es = subst (λ n. position_or_len (is_key policy) (keys_of es) < n) (length-keys_of es) found.1 in
-    subst (Changed policy other w es) found.0 (changed policy other w es inside)
+    sym (listing_kept (set_value_at es i w) other)
+    ∙ ap shown (lookup_set es policy i w (sym at) other)
+    ∙ chosen (bytes_eq policy other) w (lookup (is_key other) es) (listing_in (shown_rows es) other) (listing_kept es other)
 
 -- the entry of the map for the policy of that row
 pub row_there : (es : List PlacesEntry) (policy : List ℕ) (i : ℕ) (v : Vec ℕ Global) → slice_get (values_of es) i ≡ lookup (is_key policy) es → slice_get (values_of es) i ≡ Some v → listing_in (shown_rows es) policy ≡ Some (shown_listing v)
@@ -217,29 +168,8 @@ module _ (key v : Vec ℕ Global) (other : List ℕ) where
   row_begun (e ∷ es) none = begun_by (bytes_eq key.items e.0.items) e es (nat_list_eq_equiv.symm key.items e.0.items) none (row_begun es)
 
 -- the row of a key is where it was, or after the others
-module _ (key v : Vec ℕ Global) where
-  abbrev place : List PlacesEntry → ℕ
-  place es = position_or_len (same_key key) (keys_of es)
-
-  abbrev Stands : ℕ → List PlacesEntry → Type 0
-  Stands n new = (position_or_len (is_key key.items) (keys_of new) ≡ n) × (n < length (keys_of new))
-
-  stands_by : (b : Bool) (e : PlacesEntry) (es : List PlacesEntry) → bytes_eq key.items e.0.items ≡ b → Stands (place es) (insert_entry same_key es key v)
-      → Stands (cond (not b) (1 + place es) 0) (cond b ((e.0, v) ∷ es) (e ∷ insert_entry same_key es key v))
-  stands_by true e es is later = (ap (λ b. cond (not b) (1 + position_or_len (is_key key.items) (keys_of es)) 0) is, omega arith)
-  stands_by false e es is later =
-      (ap (λ b. cond (not b) (1 + position_or_len (is_key key.items) (keys_of (insert_entry same_key es key v))) 0) is ∙ ap (λ n. 1 + n) later.0, omega (arith, later.1))
-
-  stands : (es : List PlacesEntry) → Stands (place es) (insert_entry same_key es key v)
-  stands [] = (ap (λ b. cond (not b) (1 + 0) 0) ((bytes_eq-Decides key.items key.items).1 refl), omega arith)
-  stands (e ∷ es) = stands_by (bytes_eq key.items e.0.items) e es refl (stands es)
-
-  row_stands : (es : List PlacesEntry) → policy_row (shown_rows (insert_entry same_key es key v)) key.items ≡ Some (place es)
-  row_stands es =
-      let new = keys_of (insert_entry same_key es key v) in
-      row_kept (insert_entry same_key es key v) key.items
-      ∙ ap (λ n. cond (nat_lt n (length new)) (Some n) None) (stands es).0
-      ∙ ap (λ b. cond b (Some (place es)) None) ((Decides-ltb (place es) (length new)).1 (stands es).1)
+row_stands : (key v : Vec ℕ Global) (es : List PlacesEntry) → policy_row (shown_rows (insert_entry same_key es key v)) key.items ≡ Some (position_or_len (same_key key) (keys_of es))
+row_stands key v es = row_kept (insert_entry same_key es key v) key.items ∙ key_stands key v es
 
 no_places : (o : Option Listing) (b : Bool) (v : Vec ℕ Global) → v.items ≡ [] → places_with (option_or o (cond b (Some (shown_listing v)) None)) ≡ places_with o
 no_places (Some listing) b v empty = refl

@@ -1,5 +1,5 @@
 -- Tables of the kernel's own answers, as a map stores them.
-use Rattle.std.proofs.Common.{◌≡◌, ◌∙◌, ℕ, suc, zero, Bool, true, false, cond, List, [], ◌∷◌, take, length, Option, Some, None, Vec, Global, refl, ap, sym, get_or, option_map}
+use Rattle.std.proofs.Common.{◌≡◌, ◌∙◌, ℕ, suc, zero, Bool, true, false, cond, List, [], ◌∷◌, take, length, map, Option, Some, None, Vec, Global, refl, ap, sym, get_or, option_map}
 use Rattle.std.proofs.lemmas.Cmp.{nat_list_eq_equiv}
 use Rattle.std.proofs.lemmas.List.Elements.{All-cons, All-head, All-nil, All-tail}
 use Rattle.std.proofs.lemmas.Option.{same_Some}
@@ -8,7 +8,7 @@ use Rattle.std.specs.Map.{lookup}
 use Rattle.std.specs.Option.{option_or}
 use Rattle.std.specs.Prelude.{is_some, slice_get, unwrap_or}
 use Rattle.std.specs.Str.{bytes_eq}
-use Rattle.indexmap.specs.IndexMap.{insert_entry}
+use Rattle.indexmap.specs.IndexMap.{insert_entry, set_value_at}
 use Rattle.st_calls.specs.Call.{every_rule, index_of_rule}
 use Rattle.st_calls.specs.declared.call.SysCall.TheVariants.{Open}
 use Rattle.st_calls.specs.declared.rule.FastAnswer.{FastAnswer}
@@ -27,7 +27,7 @@ use Rattle.st_compile.specs.Table.{AnswersEntry, AreTables, BinaryAnswers, Gains
 abbrev pub items_of : Option (Vec (Option FastAnswer) Global) → Option (List (Option FastAnswer))
 items_of o = option_map (λ (v : Vec (Option FastAnswer) Global). v.items) o
 
-chosen : (b : Bool) (v : Vec (Option FastAnswer) Global) (o : Option (Vec (Option FastAnswer) Global)) (other : Option (List (Option FastAnswer))) → items_of o ≡ other → items_of (cond b (Some v) o) ≡ cond b (Some v.items) other
+pub chosen : (b : Bool) (v : Vec (Option FastAnswer) Global) (o : Option (Vec (Option FastAnswer) Global)) (other : Option (List (Option FastAnswer))) → items_of o ≡ other → items_of (cond b (Some v) o) ≡ cond b (Some v.items) other
 chosen true v o other e = refl
 chosen false v o other e = e
 
@@ -59,12 +59,12 @@ lookup_length (e ∷ es) binary v whole is =
 
 -- ---- the answer for a rule
 
--- the table has each rule's answer at the rule's index
-first_answers-at : (filters : List FilterValue) (rule : Rule) (d : Option FastAnswer) → get_or (first_answers filters) (index_of_rule rule) d ≡ first_answer (filters_of rule filters)
-first_answers-at filters (Call Open) d = refl
-first_answers-at filters (Call call) d = refl
-first_answers-at filters FsRead d = refl
-first_answers-at filters FsWrite d = refl
+-- what is made for each rule is at the rule's index
+pub made_at : (f : Rule → Option FastAnswer) (rule : Rule) → get_or (map f every_rule) (index_of_rule rule) None ≡ f rule
+made_at f (Call Open) = refl
+made_at f (Call call) = refl
+made_at f FsRead = refl
+made_at f FsWrite = refl
 
 -- the answers of a binary are those under its policy; a binary without a policy has none
 some_by : (b : Bool) (filters others : List FilterValue) (o : Option (List (Option FastAnswer))) (answers : List (Option FastAnswer)) → cond b (Some (first_answers filters)) o ≡ Some answers → (o ≡ Some answers → answers ≡ first_answers others) → answers ≡ first_answers (cond b filters others)
@@ -84,17 +84,6 @@ no_answers : (policies : List BinaryPolicy) (binary : List ℕ) → answers_of p
 no_answers [] binary e = refl
 no_answers (policy ∷ policies) binary e =
     none_by (bytes_eq policy.binary binary) policy.filters (policy_of policies binary) (answers_of policies binary) e (no_answers policies binary)
-
-module _ (policies : List BinaryPolicy) (es : List AnswersEntry) (binary : List ℕ) (rule : Rule) (table : IsTableOf policies (represented_table es)) where
-  pub found : (v : Vec (Option FastAnswer) Global) (d : Option FastAnswer) → lookup (is_key binary) es ≡ Some v → get_or v.items (index_of_rule rule) d ≡ first_answer (read_filters policies binary rule)
-  found v d e =
-      let is : answers_of policies binary ≡ Some v.items = sym (table binary) ∙ sym (answers_kept es binary) ∙ ap items_of e in
-      ap (λ answers. get_or answers (index_of_rule rule) d) (some_answers policies binary v.items is) ∙ first_answers-at (policy_of policies binary) rule d
-
-  pub missing : lookup (is_key binary) es ≡ None → None ≡ first_answer (read_filters policies binary rule)
-  missing e =
-      let is : answers_of policies binary ≡ None = sym (table binary) ∙ sym (answers_kept es binary) ∙ ap items_of e in
-      ap (λ filters. first_answer (filters_of rule filters)) (sym (no_answers policies binary is))
 
 -- ---- answers that are added
 
@@ -152,6 +141,14 @@ inserted_whole [] key v whole all = All-cons (λ row. length row.answers ≡ len
 inserted_whole (e ∷ es) key v whole all =
     whole_by (bytes_eq key.items e.0.items) e es key v whole all (inserted_whole es key v whole (All-tail (λ row. length row.answers ≡ length every_rule) (answers_of_entry e) (represented_table es) all))
 
+-- the same, if a row is set
+pub set_whole : (es : List AnswersEntry) (i : ℕ) (w : Vec (Option FastAnswer) Global) → length w.items ≡ length every_rule → AreTables (represented_table es) → AreTables (represented_table (set_value_at es i w))
+set_whole [] i w whole all = all
+set_whole (e ∷ es) zero w whole all = All-cons (λ row. length row.answers ≡ length every_rule) (answers_of_entry (e.0, w)) (represented_table es) whole (All-tail (λ row. length row.answers ≡ length every_rule) (answers_of_entry e) (represented_table es) all)
+set_whole (e ∷ es) (suc i) w whole all =
+    All-cons (λ row. length row.answers ≡ length every_rule) (answers_of_entry e) (represented_table (set_value_at es i w)) (All-head (λ row. length row.answers ≡ length every_rule) (answers_of_entry e) (represented_table es) all)
+    (set_whole es i w whole (All-tail (λ row. length row.answers ≡ length every_rule) (answers_of_entry e) (represented_table es) all))
+
 -- ---- one policy after the other
 
 next_of : (policies : List BinaryPolicy) (i : ℕ) (binary : List ℕ) (filters : List FilterValue) → option_map (λ (p : BinaryPolicy). p.binary) (slice_get policies i) ≡ Some binary → option_map (λ (p : BinaryPolicy). p.filters) (slice_get policies i) ≡ Some filters
@@ -175,7 +172,7 @@ module _ (policies : List BinaryPolicy) (binary : List ℕ) (rule : Rule) where
   answer_by : (o : Option (List (Option FastAnswer))) → answers_of policies binary ≡ o → answer_at (unwrap_or o []) rule ≡ first_answer (read_filters policies binary rule)
   answer_by (Some answers) is =
       ap (λ (row : List (Option FastAnswer)). answer_at row rule) (some_answers policies binary answers is)
-      ∙ first_answers-at (policy_of policies binary) rule None
+      ∙ made_at (λ each. first_answer (filters_of each (policy_of policies binary))) rule
   answer_by None is = no_answer rule ∙ ap (λ filters. first_answer (filters_of rule filters)) (sym (no_answers policies binary is)) where
     no_answer : (r : Rule) → answer_at [] r ≡ first_answer (filters_of r [])
     no_answer r = refl

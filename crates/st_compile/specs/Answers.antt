@@ -34,9 +34,9 @@ answer_in rows binary rule = answer_at (answers_in rows binary) rule
 abbrev pub AreAnswersUnder : InForce → List BinaryAnswers → Type 0
 AreAnswersUnder filters rows = (binary : List ℕ) (rule : Rule) → answer_in rows binary rule ≡ first_answer (filters binary rule)
 
--- the answer for a rule, where one rule has this answer
-abbrev pub changed_answer : List (Option FastAnswer) → Rule → FastAnswer → Rule → Option FastAnswer
-changed_answer answers rule answer other = if same_rule rule other then Some answer else answer_at answers other
+-- each binary and rule has the same answer as before
+abbrev pub KeepsAnswers : List BinaryAnswers → List BinaryAnswers → Type 0
+KeepsAnswers old new = (binary : List ℕ) (rule : Rule) → answer_in new binary rule ≡ answer_in old binary rule
 
 -- an answer that a binary and a rule have now; the others are as before
 abbrev pub ChangesAnswer : List BinaryAnswers → List ℕ → Rule → FastAnswer → List BinaryAnswers → Type 0

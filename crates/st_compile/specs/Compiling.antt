@@ -1,38 +1,40 @@
 -- Compiled expressions and filters.
-use Rattle.std.specs.Prelude.{◌≡◌, ◌<◌, ℕ, List, slice_get, Option, None, Some}
-use Rattle.st_calls.specs.Argument.{name_of_label}
+use Rattle.std.specs.Prelude.{◌≡◌, ◌<◌, ◌≤◌, ◌+◌, ◌&&◌, ◌||◌, not, ℕ, Bool, true, false, List, [], length, get_or, slice_get, Some}
+use Rattle.st_calls.specs.Call.{every_rule, index_of_rule}
+use Rattle.st_calls.specs.declared.argument.ArgSpec.{ArgSpec}
 use Rattle.st_calls.specs.declared.argument.ArgText.{ArgText}
 use Rattle.st_calls.specs.declared.rule.Rule.{Rule}
-use Rattle.st_filter.specs.Formula.{FilterValue, Formula, True, Test, Not, And, Or}
+use Rattle.st_filter.specs.Formula.{FilterValue, Formula}
 use Rattle.st_filter.specs.Judging.{is_true}
 use Rattle.st_filter.specs.Policies.{filters_of}
+use Rattle.st_compile.specs.Arguments.{are_at_places}
+use Rattle.st_compile.specs.Passing.{passes}
 use Rattle.st_compile.specs.declared.expr.CompiledExpr.{CompiledExpr}
 use Rattle.st_compile.specs.declared.expr.CompiledExpr.TheVariants as compiled
 
--- the formula of a compiled expression; what tests a label that no argument has is never true
-abbrev pub compiled_formula : CompiledExpr → Formula
-compiled_formula compiled.True = True
-compiled_formula compiled.Never = Not True
-compiled_formula (compiled.Test label index op text) = Test (name_of_label label) index op text.now
-compiled_formula (compiled.Not' p e) = Not (compiled_formula e)
-compiled_formula (compiled.And' p e q f) = And (compiled_formula e) (compiled_formula f)
-compiled_formula (compiled.Or' p e q f) = Or (compiled_formula e) (compiled_formula f)
+-- whether a compiled expression is true of arguments
+abbrev pub is_true_at : CompiledExpr → List ArgText → Bool
+is_true_at compiled.True args = true
+is_true_at compiled.Never args = false
+is_true_at (compiled.Test place shared op text) args = passes op shared text.now (slice_get args place)
+is_true_at (compiled.Not' p e) args = not (is_true_at e args)
+is_true_at (compiled.And' p e q f) args = is_true_at e args && is_true_at f args
+is_true_at (compiled.Or' p e q f) args = is_true_at e args || is_true_at f args
 
--- a compiled expression is true of the same arguments as a formula
-abbrev pub HasTruthOf : Formula → CompiledExpr → Type 0
-HasTruthOf formula expr = (args : List ArgText) → is_true (compiled_formula expr) args ≡ is_true formula args
+-- a compiled expression is true of the same calls as a formula, if their arguments are those of the rule, in order
+abbrev pub HasTruthOf : List ArgSpec → Formula → CompiledExpr → Type 0
+HasTruthOf specs formula expr = (args : List ArgText) → are_at_places specs args ≡ true → is_true_at expr args ≡ is_true formula args
 
 -- ---- the filters of a policy, by their rules
 
--- the list at an optional place has the filters of a rule
-abbrev pub IsListedAt : List FilterValue → Rule → List (List FilterValue) → Option ℕ → Type 0
-IsListedAt filters rule lists None = ⊥
-IsListedAt filters rule lists (Some place) = slice_get lists place ≡ Some (filters_of rule filters)
+-- the place of a rule's list
+abbrev pub place_of : List ℕ → Rule → ℕ
+place_of places rule = get_or places (index_of_rule rule) 0
 
--- for each of the first so many of these rules there is a place, and the list at the place has the rule's filters
-abbrev pub AreListed : List FilterValue → List Rule → ℕ → List (List FilterValue) → List ℕ → Type 0
-AreListed filters rules count lists places = (i : ℕ) (rule : Rule) → i < count → slice_get rules i ≡ Some rule → IsListedAt filters rule lists (slice_get places i)
-
--- each list is still at its place
-abbrev pub KeepsLists : List (List FilterValue) → List (List FilterValue) → Type 0
-KeepsLists old new = (place : ℕ) (list : List FilterValue) → slice_get old place ≡ Some list → slice_get new place ≡ Some list
+-- the list at the place of each rule has the rule's filters; the first list is empty, and no two rules have another one in common
+pub record AreListed (filters : List FilterValue) (lists : List (List FilterValue)) (places : List ℕ) : Type 0 where
+  pub listed : (rule : Rule) → slice_get lists (place_of places rule) ≡ Some (filters_of rule filters)
+  pub none : slice_get lists 0 ≡ Some []
+  pub apart : (rule other : Rule) → 0 < place_of places rule → place_of places rule ≡ place_of places other → rule ≡ other
+  pub rules : length places ≡ length every_rule
+  pub few : length lists ≤ length filters + 1

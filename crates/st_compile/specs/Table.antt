@@ -1,6 +1,6 @@
 -- The kernel's own answers under each policy, computed beforehand.
 use Rattle.std.specs.Prelude.{◌≡◌, ℕ, List, [], ◌∷◌, map, length, if◌then◌else◌, Option, Some, None, Vec}
-use Rattle.std.specs.List.{All}
+use Rattle.std.specs.List.{All, position}
 use Rattle.std.specs.Option.{option_or}
 use Rattle.std.specs.Str.{bytes_eq}
 use Rattle.std.specs.declared.alloc.Global.{Global}
@@ -24,6 +24,10 @@ first_answers filters = map (λ rule. first_answer (filters_of rule filters)) ev
 abbrev pub binary_answers : List BinaryAnswers → List ℕ → Option (List (Option FastAnswer))
 binary_answers [] binary = None
 binary_answers (row ∷ rows) binary = if bytes_eq row.binary binary then Some row.answers else binary_answers rows binary
+
+-- the number of the row of a binary, if there is one
+abbrev pub answer_row : List BinaryAnswers → List ℕ → Option ℕ
+answer_row rows binary = position (bytes_eq binary) (map (λ (row : BinaryAnswers). row.binary) rows)
 
 -- the answers under the first policy of a binary
 abbrev pub answers_of : List BinaryPolicy → List ℕ → Option (List (Option FastAnswer))

@@ -1,25 +1,25 @@
-// Expressions with the labels of their tests resolved.
-ghost use Rattle.std.specs.Prelude.{◌≡◌, List, IfOk};
-ghost use Rattle.std.specs.List.{list_any};
-ghost use Rattle.st_calls.specs.Argument.{name_of_label};
-ghost use Rattle.st_calls.specs.declared.argument.ArgText.{ArgText};
+// Expressions whose tests know the places of their arguments.
+ghost use Rattle.std.specs.Prelude.{◌≡◌, List, IfOk, true};
 ghost use Rattle.st_filter.specs.Formula.{formula, Test};
-ghost use Rattle.st_filter.specs.Judging.{is_true, test_holds_of};
-ghost use Rattle.st_compile.specs.Compiling.{HasTruthOf, compiled_formula};
+ghost use Rattle.st_compile.specs.Arguments.{are_distinct};
+ghost use Rattle.st_compile.specs.Compiling.{HasTruthOf, is_true_at};
 
-use st_calls::{ArgText, Label};
-use st_filter::{Expr, Op, compares};
+use crate::argument::place_called;
+use crate::passing::{passes, shared_len};
+use st_calls::{ArgSpec, ArgText};
+use st_filter::{Expr, Op};
 use std::alloc::{AllocError, Global};
 
-/// An expression of a filter with the labels of its tests resolved. Its texts are the filter's.
+/// An expression of a filter whose tests know the places of their arguments. Its texts are the filter's.
 #[derive(Debug, Drop)]
 pub enum CompiledExpr<'a> {
     True,
-    /// A test of a label that no argument has.
+    /// A test of an argument that the rule's calls lack.
     Never,
     Test {
-        label: Label,
-        index: u32,
+        place: usize,
+        /// The argument begins with so many bytes of the text, if it passes.
+        shared: usize,
         op: Op,
         text: &'a [u8],
     },
@@ -28,14 +28,21 @@ pub enum CompiledExpr<'a> {
     Or(Box<CompiledExpr<'a>>, Box<CompiledExpr<'a>>),
 }
 
-// A test with its label resolved.
-fn compiled_test<'a>(label: &[u8], index: u32, op: Op, text: &'a [u8]) -> CompiledExpr<'a>
-    ensures { HasTruthOf (Test label.now index op text.now) result }
+// A test of the argument with a label of this name and this index, among those of a rule.
+fn compiled_test<'a>(
+    specs: &[ArgSpec],
+    label: &[u8],
+    index: u32,
+    op: Op,
+    text: &'a [u8],
+) -> CompiledExpr<'a>
+    requires { are_distinct specs.now ≡ true }
+    ensures { HasTruthOf specs.now (Test label.now index op text.now) result }
 {
-    match Label::of_word(label) {
-        Some(label) => CompiledExpr::Test {
-            label,
-            index,
+    match place_called(specs, label, index) {
+        Some(place) => CompiledExpr::Test {
+            place,
+            shared: shared_len(op, text),
             op,
             text,
         },
@@ -43,9 +50,14 @@ fn compiled_test<'a>(label: &[u8], index: u32, op: Op, text: &'a [u8]) -> Compil
     }
 }
 
-/// An expression with the labels of its tests resolved: true of the same calls.
-pub fn compiled<'a>(alloc: Global, expr: &'a Expr) -> Result<CompiledExpr<'a>, AllocError>
-    ensures { IfOk result (HasTruthOf (formula expr.now)) }
+/// An expression whose tests know the places of their arguments among those of a rule: true of the same calls.
+pub fn compiled<'a>(
+    alloc: Global,
+    specs: &[ArgSpec],
+    expr: &'a Expr,
+) -> Result<CompiledExpr<'a>, AllocError>
+    requires { are_distinct specs.now ≡ true }
+    ensures { IfOk result (HasTruthOf specs.now (formula expr.now)) }
 {
     Ok(match expr {
         Expr::True => CompiledExpr::True,
@@ -54,48 +66,32 @@ pub fn compiled<'a>(alloc: Global, expr: &'a Expr) -> Result<CompiledExpr<'a>, A
             index,
             op,
             text,
-        } => compiled_test(label.bytes(), *index, *op, text.bytes()),
-        Expr::Not(operand) => CompiledExpr::Not(Box::new(alloc, compiled(alloc, operand)?)?),
+        } => compiled_test(specs, label.bytes(), *index, *op, text.bytes()),
+        Expr::Not(operand) => CompiledExpr::Not(Box::new(alloc, compiled(alloc, specs, operand)?)?),
         Expr::And(left, right) => CompiledExpr::And(
-            Box::new(alloc, compiled(alloc, left)?)?,
-            Box::new(alloc, compiled(alloc, right)?)?,
+            Box::new(alloc, compiled(alloc, specs, left)?)?,
+            Box::new(alloc, compiled(alloc, specs, right)?)?,
         ),
         Expr::Or(left, right) => CompiledExpr::Or(
-            Box::new(alloc, compiled(alloc, left)?)?,
-            Box::new(alloc, compiled(alloc, right)?)?,
+            Box::new(alloc, compiled(alloc, specs, left)?)?,
+            Box::new(alloc, compiled(alloc, specs, right)?)?,
         ),
     })
 }
 
-// Whether an argument has this label and index, and compares with a text as the operator says.
-fn passes(label: Label, index: u32, op: Op, text: &[u8], argument: &ArgText) -> bool
-    ensures { result ≡ test_holds_of (name_of_label label) index op text.now argument.now }
-{
-    argument.label == label && argument.index == index && compares(op, argument.text.bytes(), text)
-}
-
-// Whether one of the arguments passes the test.
-fn one_passes(label: Label, index: u32, op: Op, text: &[u8], arguments: &[ArgText]) -> bool
-    ensures { result ≡ list_any (test_holds_of (name_of_label label) index op text.now) arguments.now }
-{
-    arguments
-        .iter()
-        .any(|argument| passes(label, index, op, text, argument))
-}
-
-/// Whether an expression is true of a call's arguments.
+/// Whether an expression is true of a call's arguments. No label is looked at.
 pub fn is_true(expr: &CompiledExpr<'_>, arguments: &[ArgText]) -> bool
-    ensures { result ≡ is_true (compiled_formula expr.now) arguments.now }
+    ensures { result ≡ is_true_at expr.now arguments.now }
 {
     match expr {
         CompiledExpr::True => true,
         CompiledExpr::Never => false,
         CompiledExpr::Test {
-            label,
-            index,
+            place,
+            shared,
             op,
             text,
-        } => one_passes(*label, *index, *op, text, arguments),
+        } => passes(*op, *shared, text, arguments.get(*place)),
         CompiledExpr::Not(operand) => !is_true(operand, arguments),
         CompiledExpr::And(left, right) => is_true(left, arguments) && is_true(right, arguments),
         CompiledExpr::Or(left, right) => is_true(left, arguments) || is_true(right, arguments),

@@ -1,11 +1,13 @@
 //! Compiles policies: what a held call's filters say, and the kernel's own answers, are found without searching the policies.
 #![tactic(auto)]
 
+mod argument;
 mod asked;
 pub mod compiled;
 mod expr;
 mod filter;
 mod index;
+mod passing;
 pub mod places;
 mod policy;
 mod rule;

@@ -1,20 +1,20 @@
-ghost use Rattle.std.specs.Prelude.{◌≡◌, List, None, IfOk, OnOk, OnErr, map};
+ghost use Rattle.std.specs.Prelude.{◌≡◌, ℕ, List, None, Some, IfOk, OnOk, map};
 ghost use Rattle.st_calls.specs.Call.{every_rule};
-ghost use Rattle.st_filter.specs.Fast.{fast, first_answer};
+ghost use Rattle.st_filter.specs.Fast.{fast, fast_answer};
+ghost use Rattle.st_filter.specs.Formula.{FilterValue};
 ghost use Rattle.st_filter.specs.Policies.{read_filters};
-ghost use Rattle.st_filter.specs.declared.set.BinaryPolicy.{BinaryPolicy};
-ghost use Rattle.st_compile.specs.Answers.{answer_at, answer_in, answers_in, changed_answer, with_appended, AreAnswersUnder, ChangesAnswer, InForce};
-ghost use Rattle.st_compile.specs.Table.{first_answers, Gains, IsTableOf};
+ghost use Rattle.st_compile.specs.Answers.{answer_at, answer_in, answers_in, with_appended, AreAnswersUnder, ChangesAnswer, InForce, KeepsAnswers};
+ghost use Rattle.st_compile.specs.Table.{answer_row, first_answers, Gains, IsTableOf};
 
 use indexmap::IndexMap;
 use st_base::Text;
 use st_calls::{FastAnswer, Rule};
-use st_filter::{Filter, Policy, PolicySet, fast_answer, first_answer};
+use st_filter::{Policy, PolicySet, first_answer};
 use std::alloc::{AllocError, Global};
 use std::marker::Model;
 
-/// The kernel's own answers under each policy that was read, by the binary and the rule. An answer takes one lookup, however many
-/// filters there are. A rule that no filter is for has no answer.
+/// The kernel's own answers under the filters in force, by the binary and the rule. An answer takes one lookup, however many filters there
+/// are. A rule that no filter is for has no answer.
 #[derive(Debug, Drop)]
 pub struct FastTable {
     // For each binary, the answers by the indices of the rules.
@@ -65,42 +65,17 @@ fn answer_at(answers: &[Option<FastAnswer>], rule: Rule) -> Option<FastAnswer>
     }
 }
 
-// The same, where one rule has this answer.
-fn changed_answer(
-    answers: &[Option<FastAnswer>],
-    rule: Rule,
-    answer: FastAnswer,
-    other: Rule,
-) -> Option<FastAnswer>
-    ensures { result ≡ changed_answer answers.now rule answer other }
+// No answer for any rule.
+fn no_answers(alloc: Global) -> Result<Vec<Option<FastAnswer>>, AllocError>
+    ensures { IfOk result (λ answers. answers.items ≡ map (λ rule. None) every_rule) }
 {
-    if rule == other {
-        Some(answer)
-    } else {
-        answer_at(answers, other)
-    }
-}
-
-// The answers of a binary, where one rule has this answer.
-fn answers_with(
-    alloc: Global,
-    answers: &[Option<FastAnswer>],
-    rule: Rule,
-    answer: FastAnswer,
-) -> Result<Vec<Option<FastAnswer>>, AllocError>
-    ensures { IfOk result (λ changed. changed.items ≡ map (changed_answer answers.now rule answer) every_rule) }
-{
-    Rule::ALL
-        .iter()
-        .map(|&other| changed_answer(answers, rule, answer, other))
-        .collect(alloc)
+    Rule::ALL.iter().map(|_| None).collect(alloc)
 }
 
 impl FastTable {
     /// The answers under all policies of a set.
     pub fn build(alloc: Global, policies: &PolicySet) -> Result<Self, AllocError>
-        ensures table { IfOk result (λ table. IsTableOf policies.now table) }
-        ensures answers { IfOk result (AreAnswersUnder (read_filters policies.now)) }
+        ensures { IfOk result (AreAnswersUnder (read_filters policies.now)) }
     {
         let table = table_of(alloc, policies)?;
         Ok(table)
@@ -119,16 +94,6 @@ impl FastTable {
         Ok(())
     }
 
-    /// The answer for a rule under the policy of a binary; `None` if no filter that was read is for the rule.
-    pub fn get(&self, binary: &[u8], rule: Rule) -> Option<FastAnswer>
-        ensures { (policies : List BinaryPolicy) → IsTableOf policies self.now → result ≡ first_answer (read_filters policies binary.now rule) }
-    {
-        match self.tables.get(binary) {
-            Some(answers) => answers[rule.index()],
-            None => None,
-        }
-    }
-
     // The answers of a binary; empty if it has none.
     fn answers(&self, binary: &[u8]) -> &[Option<FastAnswer>]
         ensures { result.now ≡ answers_in self.now binary.now }
@@ -140,60 +105,53 @@ impl FastTable {
     }
 
     /// The kernel's own answer for a binary and a rule, by the first filter in force.
-    pub fn answer(&self, binary: &[u8], rule: Rule) -> FastAnswer
+    pub fn get(&self, binary: &[u8], rule: Rule) -> FastAnswer
         ensures { (filters : InForce) → AreAnswersUnder filters self.now → result ≡ fast (filters binary.now rule) }
     {
         answer_at(self.answers(binary), rule).unwrap_or(FastAnswer::Ask)
     }
 
-    // Gives a binary and a rule an answer.
-    fn set_answer(
-        &mut self,
-        alloc: Global,
-        binary: &[u8],
-        rule: Rule,
-        answer: FastAnswer,
-    ) -> Result<(), AllocError>
-        ensures ok { OnOk result (ChangesAnswer self.old binary.now rule answer self.new) }
-        ensures err { OnErr result (self.new ≡ self.old) }
+    /// The row of a binary, which is made if there is none. The answers don't change, even if memory runs out.
+    pub fn make_row(&mut self, alloc: Global, binary: &[u8]) -> Result<usize, AllocError>
+        ensures row { IfOk result (λ row. answer_row self.new binary.now ≡ Some row) }
+        ensures kept { KeepsAnswers self.old self.new }
     {
-        let answers = answers_with(alloc, self.answers(binary), rule, answer)?;
-        let key = Text::of(alloc, binary)?.into_bytes();
-        self.tables.insert(key, answers)?;
-        Ok(())
+        match self.tables.get_index_of(binary) {
+            Some(row) => Ok(row),
+            None => {
+                let answers = no_answers(alloc)?;
+                let key = Text::of(alloc, binary)?.into_bytes();
+                let (row, _) = self.tables.insert_full(key, answers)?;
+                Ok(row)
+            }
+        }
     }
 
-    // Gives a binary and a rule their first filter's answer.
-    fn set_first(
-        &mut self,
-        alloc: Global,
-        binary: &[u8],
-        rule: Rule,
-        filter: &Filter,
-    ) -> Result<(), AllocError>
-        requires { answer_in self.old binary.now rule ≡ None }
-        ensures ok { OnOk result ((filters : InForce) → AreAnswersUnder filters self.old → AreAnswersUnder (with_appended filters binary.now rule filter.now) self.new) }
-        ensures err { OnErr result (self.new ≡ self.old) }
+    // The answer in a row for a rule.
+    fn answer_in(&self, row: usize, rule: Rule) -> Option<FastAnswer>
+        requires { (binary : List ℕ) × (answer_row self.now binary ≡ Some row) }
+        ensures { (binary : List ℕ) → answer_row self.now binary ≡ Some row → result ≡ answer_in self.now binary rule }
     {
-        self.set_answer(alloc, binary, rule, fast_answer(filter))?;
-        Ok(())
+        answer_at(self.tables[row].as_slice(), rule)
     }
 
-    /// Takes a filter into account that was appended for a binary and a rule. Only the first filter for them makes a difference. If memory
-    /// runs out, nothing changes.
-    pub fn appended(
-        &mut self,
-        alloc: Global,
-        binary: &[u8],
-        rule: Rule,
-        filter: &Filter,
-    ) -> Result<(), AllocError>
-        ensures ok { OnOk result ((filters : InForce) → AreAnswersUnder filters self.old → AreAnswersUnder (with_appended filters binary.now rule filter.now) self.new) }
-        ensures err { OnErr result (self.new ≡ self.old) }
+    // Gives a row and a rule an answer.
+    fn set_answer(&mut self, row: usize, rule: Rule, answer: FastAnswer)
+        requires { (binary : List ℕ) × (answer_row self.old binary ≡ Some row) }
+        ensures { (binary : List ℕ) → answer_row self.old binary ≡ Some row → ChangesAnswer self.old binary rule answer self.new }
     {
-        match answer_at(self.answers(binary), rule) {
-            Some(_) => Ok(()),
-            None => self.set_first(alloc, binary, rule, filter),
+        let answers = &mut self.tables[row];
+        answers[rule.index()] = Some(answer);
+    }
+
+    /// Takes a filter with this answer into account that was appended for the binary of a row and a rule. Only the first filter for them
+    /// makes a difference. It takes no memory.
+    pub fn appended(&mut self, row: usize, rule: Rule, answer: FastAnswer)
+        requires { (binary : List ℕ) × (answer_row self.old binary ≡ Some row) }
+        ensures { (filters : InForce) (binary : List ℕ) (f : FilterValue) → answer_row self.old binary ≡ Some row → fast_answer f ≡ answer → AreAnswersUnder filters self.old → AreAnswersUnder (with_appended filters binary rule f) self.new }
+    {
+        if self.answer_in(row, rule).is_none() {
+            self.set_answer(row, rule, answer);
         }
     }
 }

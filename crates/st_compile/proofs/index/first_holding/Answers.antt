@@ -16,7 +16,7 @@ loop-part-preserved c =
       first =
           so_far_next c.args.copies.now filters c.loop-part.part-index c.loop-part.first c.first_below-first.result part c.loop-part.invariant.first
           (ap (λ parts. slice_get parts c.loop-part.part-index) (sym c.loop-part.invariant.items) ∙ at) c.first_below-first.ensures.within c.first_below-first.ensures.holds
-          (c.first_below-first.ensures.none (asks_for part.text) (c.of-places.ensures ∙ c.requires c.bytes.result.now ∙ ap (λ text. places_from (asks_for text) 0 filters) c.bytes.ensures));
+          (c.first_below-first.ensures.none (asks_for part.text) (c.of-places.ensures ∙ c.requires.texts c.bytes.result.now ∙ ap (λ text. places_from (asks_for text) 0 filters) c.bytes.ensures));
     }
 
 pub returns : goal.returns
@@ -28,7 +28,7 @@ returns c =
       within = omega (arith, within, so_far.within);
       holds_of_call = holds_next c.args.copies.now c.args.filters.now c.loop-part.first c.first_below.result within c.first_below.ensures.holds so_far.holds_of_call;
       none_before =
-          none_at_all c.args.copies.now c.args.filters.now c.first_below.result (c.first_below.ensures.none (asks_for []) (c.of.ensures ∙ c.requires []))
+          none_at_all c.args.copies.now c.args.filters.now c.first_below.result (c.first_below.ensures.none (asks_for []) (c.of.ensures ∙ c.requires.texts []))
           (λ j arg at k f less.
           let inside = slice_get_within c.args.copies.now.parts j arg at in
           so_far.none_before j arg (omega (arith, inside, items, c.loop-part-test.false)) at k f (omega (arith, less, within)));

@@ -1,13 +1,16 @@
-use Rattle.std.proofs.Common.{◌∙◌, ap, sym}
+use Rattle.std.proofs.Common.{◌∙◌, ap, not, subst, sym}
 use Rattle.std.specs.Prelude.{is_some}
-use Rattle.st_compile.specs.Answers.{answer_at}
-use Rattle.st_compile.proofs.Answering.{answers_kept_under}
+use Rattle.st_compile.specs.Answers.{ChangesAnswer}
+use Rattle.st_compile.proofs.Answering.{answers_gained, answers_kept_under}
 use Rattle.st_compile.proofs.table.FastTable.appended.Goals as goal
 
-pub returns-in-Some-clause-ok : goal.returns-in-Some-clause-ok
-returns-in-Some-clause-ok c = λ filters are.
-    answers_kept_under filters c.args.self.now c.args.binary.now c.args.rule c.args.filter.now are
-    (ap is_some (sym (c.in-Some.ensures ∙ ap (λ row. answer_at row c.args.rule) c.answers.ensures)))
+pub returns-then-is_none : goal.returns-then-is_none
+returns-then-is_none c = λ filters binary f at is are.
+    answers_gained filters c.args.self.now binary c.args.rule f are c.set_answer.new.self
+    (ap is_some (sym (c.answer_in.ensures binary at)) ∙ c.is_none.ensures ∙ ap not c.if-is_none.true)
+    (subst (λ answer. ChangesAnswer c.args.self.now binary c.args.rule answer c.set_answer.new.self) (sym is) (c.set_answer.ensures binary at))
 
-pub set_first-requires : goal.set_first-requires
-set_first-requires c = sym (c.in-None.ensures ∙ ap (λ row. answer_at row c.args.rule) c.answers.ensures)
+pub returns-else-is_none : goal.returns-else-is_none
+returns-else-is_none c = λ filters binary f at is are.
+    answers_kept_under filters c.args.self.now binary c.args.rule f are
+    (ap is_some (sym (c.answer_in.ensures binary at)) ∙ c.is_none.ensures ∙ ap not c.if-is_none.false)

@@ -1,5 +1,5 @@
 use Rattle.st_compile.proofs.Tables.{answers_read}
 use Rattle.st_compile.proofs.table.FastTable.build.Goals as goal
 
-pub returns-clause-answers : goal.returns-clause-answers
-returns-clause-answers c = answers_read c.args.policies.now c.in_ok-table.table c.in_ok-table.ensures
+pub returns : goal.returns
+returns c = answers_read c.args.policies.now c.in_ok-table.table c.in_ok-table.ensures

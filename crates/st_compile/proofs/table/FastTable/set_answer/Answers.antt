@@ -1,30 +1,38 @@
-use Rattle.std.proofs.Common.{◌≡◌, ◌∙◌, Some, cond, length, map, ap, sym, subst}
-use Rattle.std.proofs.lemmas.List.{length-map}
-use Rattle.std.specs.Str.{bytes_eq}
-use Rattle.indexmap.specs.IndexMap.{insert_entry}
-use Rattle.st_calls.specs.Call.{every_rule}
-use Rattle.st_filter.proofs.Entries.{same_key}
-use Rattle.st_compile.specs.Answers.{ChangesAnswer, answers_in, changed_answer}
-use Rattle.st_compile.specs.Table.{AreTables, binary_answers, represented_table}
-use Rattle.st_compile.proofs.Answering.{answer_changed, row_set}
-use Rattle.st_compile.proofs.Tables.{inserted_whole}
+use Rattle.std.proofs.Common.{◌≡◌, ◌<◌, ◌∙◌, Some, length, set, ap, arith, subst, sym}
+use Rattle.std.proofs.lemmas.List.{length-set}
+use Rattle.std.specs.Vec.{with_item}
+use Rattle.indexmap.specs.IndexMap.{set_value_at}
+use Rattle.st_calls.specs.Call.{every_rule, index_of_rule}
+use Rattle.st_compile.specs.Answers.{ChangesAnswer}
+use Rattle.st_compile.specs.Table.{answer_row, represented_table}
+use Rattle.st_compile.proofs.Answering.{answer_changed, row_inside, row_length}
+use Rattle.st_compile.proofs.Tables.{set_whole}
 use Rattle.st_compile.proofs.table.FastTable.set_answer.Goals as goal
 
-pub invariant_of-self-2 : goal.invariant_of-self-2
-invariant_of-self-2 c =
-    let v = c.in_ok-answers.answers in
-    subst (λ es. AreTables (represented_table es)) (sym c.in_ok-insert.ensures.entries)
-    (inserted_whole c.self.inside.tables.entries c.into_bytes-key.result v (ap length c.in_ok-answers.ensures ∙ length-map every_rule (changed_answer c.answers.result.now c.args.rule c.args.answer)) c.self.invariant)
+pub index_mut-answers-requires : goal.index_mut-answers-requires
+index_mut-answers-requires c = row_inside c.self.inside.tables.entries c.requires.0 c.args.row (subst (λ rows. answer_row rows c.requires.0 ≡ Some c.args.row) (sym c.self.view_is) c.requires.1)
 
-pub returns-clause-ok : goal.returns-clause-ok
-returns-clause-ok c =
+pub index_mut-requires : goal.index_mut-requires
+index_mut-requires c =
+    let here = subst (λ rows. answer_row rows c.requires.0 ≡ Some c.args.row) (sym c.self.view_is) c.requires.1 in
+    let whole : length c.index_mut-answers.result.now.items ≡ length every_rule = row_length c.self.inside.tables.entries c.requires.0 c.args.row here c.index_mut-answers.result.now c.index_mut-answers.ensures.value c.self.invariant in
+    omega (arith, whole, c.index.ensures.within, c.index_mut-answers.result.now.ok.0)
+
+pub invariant_of-self : goal.invariant_of-self
+invariant_of-self c =
+    let here = subst (λ rows. answer_row rows c.requires.0 ≡ Some c.args.row) (sym c.self.view_is) c.requires.1 in
+    let whole : length c.index_mut-answers.result.now.items ≡ length every_rule = row_length c.self.inside.tables.entries c.requires.0 c.args.row here c.index_mut-answers.result.now c.index_mut-answers.ensures.value c.self.invariant in
+    set_whole c.self.inside.tables.entries c.args.row _
+    (length-set c.index_mut-answers.result.now.items c.index.result (Some c.args.answer) ∙ whole) c.self.invariant
+
+pub returns : goal.returns
+returns c = λ binary at.
+    let here = subst (λ rows. answer_row rows c.requires.0 ≡ Some c.args.row) (sym c.self.view_is) c.requires.1 in
+    let whole : length c.index_mut-answers.result.now.items ≡ length every_rule = row_length c.self.inside.tables.entries c.requires.0 c.args.row here c.index_mut-answers.result.now c.index_mut-answers.ensures.value c.self.invariant in
     let es = c.self.inside.tables.entries in
-    let key = c.into_bytes-key.result in
-    let v = c.in_ok-answers.answers in
-    let binary = c.args.binary.now in
-    let key_is : key.items ≡ binary = c.into_bytes-key.ensures ∙ c.in_ok-of.ensures in
-    subst (λ rows. ChangesAnswer rows binary c.args.rule c.args.answer (represented_table c.insert.new.self.entries)) c.self.view_is
-    (subst (λ new. ChangesAnswer (represented_table es) binary c.args.rule c.args.answer (represented_table new)) (sym c.in_ok-insert.ensures.entries)
-    (answer_changed (represented_table es) (represented_table (insert_entry same_key es key v)) binary c.args.rule c.args.answer v.items
-    (λ other. row_set key v other es ∙ ap (λ bin. cond (bytes_eq bin other) (Some v.items) (binary_answers (represented_table es) other)) key_is)
-    (c.in_ok-answers.ensures ∙ ap (λ answers. map (changed_answer answers c.args.rule c.args.answer) every_rule) (c.answers.ensures ∙ ap (λ rows. answers_in rows binary) (sym c.self.view_is)))))
+    let there = subst (λ rows. answer_row rows binary ≡ Some c.args.row) (sym c.self.view_is) at in
+    let inside : index_of_rule c.args.rule < length c.index_mut-answers.result.now.items = omega (arith, whole, c.index.ensures.within, c.index.ensures.value) in
+    let new = with_item c.index_mut-answers.result.now c.index.result (Some c.args.answer) in
+    subst (λ rows. ChangesAnswer rows binary c.args.rule c.args.answer (represented_table (set_value_at es c.args.row new))) c.self.view_is
+    (answer_changed es binary c.args.row there c.index_mut-answers.result.now c.index_mut-answers.ensures.value c.args.rule c.args.answer new inside
+    (ap (λ n. set c.index_mut-answers.result.now.items n (Some c.args.answer)) c.index.ensures.value))
