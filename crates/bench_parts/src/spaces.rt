@@ -7,7 +7,7 @@ pub fn copies(alloc: Global, count: u64) -> Result<u64, AllocError> {
     let first = spaces.make(alloc)?;
     let mut sum: u64 = 0;
     for _ in 0..count {
-        let space = spaces.copy_space(alloc, first)?;
+        let space = spaces.copy_space(first)?;
         sum = sum.wrapping_add(u64::from(space));
         spaces.unmake(space);
     }

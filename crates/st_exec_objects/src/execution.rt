@@ -9,7 +9,7 @@ ghost use Rattle.st_names.specs.Name.{printed_name};
 ghost use Rattle.st_request.specs.Outcome.{outcome_of, unless_err, with_memories, with_tree};
 ghost use Rattle.st_request.specs.Processes.{AreProcessesAfter};
 ghost use Rattle.st_trace.specs.declared.entry.CallResult.TheVariants.{Value};
-ghost use Rattle.st_exec_objects.specs.Execution.{spaces_after};
+ghost use Rattle.st_exec_objects.specs.Execution.{AreSpacesAfter};
 
 use crate::walking;
 use st_base::{Errno, Sequence, Shared, Space};
@@ -74,7 +74,7 @@ fn execute(
     ensures result { IfOk result (λ outcome. outcome.result ≡ Value 0) }
     ensures changes { IfOk result (λ outcome. outcome.changes ≡ Change.Execed (printed_name name.now) (next_space spaces.old) ∷ policy_changes request.now.inherit (printed_name name.now)) }
     ensures processes { IfOk result (λ outcome. AreProcessesAfter procs.old request.now.pid outcome.changes procs.new) }
-    ensures spaces { IfOk result (λ outcome. spaces.new ≡ spaces_after (process_at procs.old request.now.pid).space spaces.old outcome.changes) }
+    ensures spaces { IfOk result (λ outcome. AreSpacesAfter (process_at procs.old request.now.pid).space spaces.old outcome.changes spaces.new) }
     ensures memory { IfOk result (λ outcome. (s b : ℕ) → s ≢ (process_at procs.old request.now.pid).space → byte_in spaces.new s b ≡ memory_after (process_at procs.old request.now.pid).space (byte_in spaces.old) outcome.changes s b) }
     ensures pids { next_pid procs.new ≡ next_pid procs.old }
     ensures ready { is_space_live spaces.new (process_at procs.new request.now.pid).space ≡ true }
@@ -108,7 +108,7 @@ pub fn execve(
     requires room { next_space spaces.old < 2 ^ 32 }
     ensures outcome { IfOk result (λ outcome. (system : System) → outcome_of outcome system.descriptors ≡ execve_outcome (with_tree (with_memories system spaces.old) tree.now) request.now) }
     ensures processes { IfOk result (λ outcome. AreProcessesAfter procs.old request.now.pid outcome.changes procs.new) }
-    ensures spaces { IfOk result (λ outcome. spaces.new ≡ spaces_after (process_at procs.old request.now.pid).space spaces.old outcome.changes) }
+    ensures spaces { IfOk result (λ outcome. AreSpacesAfter (process_at procs.old request.now.pid).space spaces.old outcome.changes spaces.new) }
     ensures memory { IfOk result (λ outcome. (s b : ℕ) → s ≢ (process_at procs.old request.now.pid).space → byte_in spaces.new s b ≡ memory_after (process_at procs.old request.now.pid).space (byte_in spaces.old) outcome.changes s b) }
     ensures pids { next_pid procs.new ≡ next_pid procs.old }
     ensures ready { is_space_live spaces.new (process_at procs.new request.now.pid).space ≡ true }

@@ -66,7 +66,7 @@ fn start_copy(
     ensures memory { OnOk result (IsSpaceCopied spaces.old (process_at procs.old request.now.pid).space spaces.new) }
     ensures err { OnErr result ((procs.new ≡ procs.old) × (spaces.new ≡ spaces.old)) }
 {
-    let space = spaces.copy_space(alloc, procs.space(request.pid))?;
+    let space = spaces.copy_space(procs.space(request.pid))?;
     let started = start_child(procs, alloc, request, space);
     if started.is_err() {
         spaces.unmake(space);

@@ -1,5 +1,5 @@
 -- The bytes of spaces after a word is written or a space is added, and the words that bytes form.
-use Rattle.std.proofs.Common.{zero, suc, ◌≡◌, ℕ, ◌+◌, ◌-◌, ◌*◌, ◌/◌, ◌%◌, ◌^◌, ◌<◌, ◌≤◌, inl, inr, Bool, true, false, cond, List, ◌++◌, length, get_or, set, take, drop, replicate, eqb, length-append, length-drop, refl, ap, sym, ◌∙◌, arith}
+use Rattle.std.proofs.Common.{zero, suc, ◌≡◌, ℕ, ◌+◌, ◌-◌, ◌*◌, ◌/◌, ◌%◌, ◌^◌, ◌<◌, ◌≤◌, inl, inr, Bool, true, false, cond, List, ◌++◌, length, get_or, set, take, drop, replicate, eqb, append_assoc, length-append, length-drop, refl, ap, sym, ◌∙◌, arith}
 use Rattle.std.proofs.lemmas.Bool.Decides.{leb_tells}
 use Rattle.std.proofs.lemmas.Bool.{cases_eq, eq-eqb, ne_eqb, cond-true, cond-false}
 use Rattle.std.proofs.lemmas.List.{get_or-set_same, get_or-set_other, get_or_append_left, get_or-append_right, get_or-take, get_or-drop, length-take-le, ext_get_or}
@@ -61,15 +61,27 @@ more_bytes f at n m ys size each =
       | inr less ↦ let before : i < n = less.1 in get_or_append_left (bytes_from f at n) ys 0 i (omega (arith, before, first)) ∙ get_or-map-range_with_len f at n i (at + i) 0 before refl ∙ sym (get_or-map-range_with_len f at (n + m) i (at + i) 0 inside refl)
     ])
 
+-- bytes that were appended, followed by as many more bytes
+pub bytes_from-more : (f : ℕ → ℕ) (at done width : ℕ) (before text more new : List ℕ) → text ≡ before ++ bytes_from f at done → new ≡ text ++ more → length more ≡ width
+    → ((i : ℕ) → i < width → get_or more i 0 ≡ f (at + done + i)) → new ≡ before ++ bytes_from f at (done + width)
+bytes_from-more f at done width before text more new so_far is size each =
+    is ∙ ap (λ (xs : List ℕ). xs ++ more) so_far ∙ append_assoc before (bytes_from f at done) more
+    ∙ ap (λ (xs : List ℕ). before ++ xs) (more_bytes f at done width more size each)
+
 -- the bytes so far, followed by those of a part of one more word
-pub bytes_from-part : (words : List ℕ) (at done width n from word : ℕ) (text part more : List ℕ) → text ≡ bytes_from (byte_of words) at done → word ≡ get_or words ((at + done) / 8) 0 → part ≡ to_le_bytes w64 word
-    → from ≡ (at + done) % 8 → from + width ≤ 8 → n ≡ width → more ≡ text ++ take n (drop from part) → more ≡ bytes_from (byte_of words) at (done + width)
-bytes_from-part words at done width n from word text part more so_far word_is part_is from_is low n_is is =
+pub bytes_from-part : (words before : List ℕ) (at done width n from word : ℕ) (text part more : List ℕ) → text ≡ before ++ bytes_from (byte_of words) at done → word ≡ get_or words ((at + done) / 8) 0
+    → part ≡ to_le_bytes w64 word → from ≡ (at + done) % 8 → from + width ≤ 8 → n ≡ width → more ≡ text ++ take n (drop from part) → more ≡ before ++ bytes_from (byte_of words) at (done + width)
+bytes_from-part words before at done width n from word text part more so_far word_is part_is from_is low n_is is =
     let whole : List ℕ = to_le_bytes w64 (get_or words ((at + done) / 8) 0) in
     let eight : length whole ≡ 8 = refl in
     let new : List ℕ = take width (drop from whole) in
     let same : take n (drop from part) ≡ new = (λ i. take (n_is i) (drop from (part_is i))) ∙ ap (λ (w : ℕ). take width (drop from (to_le_bytes w64 w))) word_is in
     let size : length new ≡ width = length-take-le width (drop from whole) (omega (arith, low, eight, length-drop from whole)) in
-    is ∙ (λ i. so_far i ++ same i)
-    ∙ more_bytes (byte_of words) at done width new size (λ i inside.
+    bytes_from-more (byte_of words) at done width before text new more so_far (is ∙ ap (λ (xs : List ℕ). text ++ xs) same) size (λ i inside.
     get_or-take width (drop from whole) i 0 inside ∙ get_or-drop from whole i 0 ∙ sym (byte_of-at words ((at + done) / 8) (from + i) (at + done + i) (omega (arith, inside, low)) (omega (arith, from_is))))
+
+-- the same bytes at other offsets
+pub bytes_from-same : (f g : ℕ → ℕ) (at from count : ℕ) → ((i : ℕ) → i < count → f (at + i) ≡ g (from + i)) → bytes_from f at count ≡ bytes_from g from count
+bytes_from-same f g at from count each = ext_get_or 0 (bytes_from f at count) (bytes_from g from count) (length-map-range_with_len f at count ∙ sym (length-map-range_with_len g from count)) (λ i low.
+    let inside : i < count = omega (arith, low, length-map-range_with_len f at count) in
+    get_or-map-range_with_len f at count i (at + i) 0 inside refl ∙ each i inside ∙ sym (get_or-map-range_with_len g from count i (from + i) 0 inside refl))

@@ -1,11 +1,13 @@
--- Which words and bytes a space has after one is made, written, given up or unmade.
-use Rattle.std.proofs.Common.{zero, suc, ◌≡◌, ◌≢◌, ℕ, ◌-◌, ◌<◌, ◌≤◌, inl, inr, Bool, true, false, cond, ◌==◌, List, [], ◌∷◌, ◌++◌, length, get_or, set, take, Option, Some, None, refl, ap, sym, ◌∙◌, arith, subst}
+-- Which pages and bytes a space has after one is made, given up or unmade.
+use Rattle.std.proofs.Common.{zero, suc, ◌≡◌, ◌≢◌, ℕ, ◌-◌, ◌<◌, ◌≤◌, inl, inr, Bool, true, false, cond, ◌==◌, List, [], ◌∷◌, ◌++◌, length, get_or, set, take, Option, None, refl, ap, sym, ◌∙◌, arith}
 use Rattle.std.proofs.lemmas.Bool.{cases_eq, eq-eqb, ne_eqb, true≢false}
-use Rattle.std.proofs.lemmas.List.{get_or-set_same, get_or-set_other, get_or_push, get_or_read, length-take}
+use Rattle.std.proofs.lemmas.List.{get_or-set_same, get_or-set_other, get_or_push, length-take}
 use Rattle.std.proofs.Math.ListN.{get_or-eq_default}
-use Rattle.std.specs.Prelude.{is_some, unwrap_or}
+use Rattle.std.specs.Prelude.{is_some, slice_get, unwrap_or, ◌/◌, ◌%◌}
+use Rattle.std.specs.Option.{option_map}
 use Rattle.st_base.specs.Numbered.{item_at_number_or}
-use Rattle.st_memory.specs.Memory.{byte_of, byte_in, is_space_live, next_space, words_of_space, zeros, Memories}
+use Rattle.st_memory.specs.Memory.{byte_of, byte_in, next_space, pages_of_space, Memories, NumberedPage}
+use Rattle.st_memory.specs.declared.page.TheConstants.{PAGE_BYTES}
 use Rattle.st_memory.proofs.Bytes.{byte_of-zeros}
 
 -- ---- items by their numbers
@@ -56,55 +58,44 @@ at_number-cut d xs (suc n) s low is = let same : suc n - 1 ≡ n = omega arith i
 
 -- ---- words and bytes of spaces
 
-within : (spaces : Memories) (i : ℕ) → is_some (get_or spaces i None) ≡ true → i < length spaces
+within : {X : Type 0} (spaces : List (Option X)) (i : ℕ) → is_some (get_or spaces i None) ≡ true → i < length spaces
 within [] i is = absurd (true≢false (sym is))
 within (x ∷ spaces) zero is = omega arith
 within (x ∷ spaces) (suc i) is = omega (arith, within spaces i is)
 
 -- a space that exists has one of the numbers that were given
-pub live_within : (spaces : Memories) (space : ℕ) → is_space_live spaces space ≡ true → (1 ≤ space) × (space ≤ length spaces)
+pub live_within : {X : Type 0} (spaces : List (Option X)) (space : ℕ) → is_some (item_at_number_or None spaces space) ≡ true → (1 ≤ space) × (space ≤ length spaces)
 live_within spaces zero is = absurd (true≢false (sym is))
 live_within spaces (suc i) is = (omega arith, omega (arith, within spaces i is))
-
--- the item at the index of a live space is its words
-pub words-place : (spaces : Memories) (space : ℕ) (o : Option (List ℕ)) → is_space_live spaces space ≡ true → o ≡ get_or spaces (space - 1) o → words_of_space spaces space ≡ o
-words-place spaces zero o live is = absurd (true≢false (sym live))
-words-place spaces (suc i) o live is =
-    let same : suc i - 1 ≡ i = omega arith in
-    sym (get_or_read spaces i o (within spaces i live) (subst (λ (n : ℕ). o ≡ get_or spaces n o) same is) None)
 
 under_cond : {A B : Type 0} (f : A → B) (b : Bool) (x y : A) → f (cond b x y) ≡ cond b (f x) (f y)
 under_cond f true x y = refl
 under_cond f false x y = refl
 
--- an appended space has its bytes, and each other space its own
-pub byte_in-push : (spaces : Memories) (o : Option (List ℕ)) (s b : ℕ) → byte_in (spaces ++ o ∷ []) s b ≡ cond (s == next_space spaces) (byte_of (unwrap_or o []) b) (byte_in spaces s b)
-byte_in-push spaces o s b =
-    ap (λ (o : Option (List ℕ)). byte_of (unwrap_or o []) b) (at_number-push None spaces o s) ∙ under_cond (λ (o : Option (List ℕ)). byte_of (unwrap_or o []) b) (s == next_space spaces) o (words_of_space spaces s)
+-- byte b of an entry
+abbrev byte_of_entry : Option (List NumberedPage) → ℕ → ℕ
+byte_of_entry entry b = byte_of (unwrap_or (option_map (λ page. page.words) (slice_get (unwrap_or entry []) (b / PAGE_BYTES))) []) (b % PAGE_BYTES)
 
--- an appended space of zeros has the bytes of a space that doesn't exist
-pub byte_in-made : (spaces : Memories) (s b : ℕ) → byte_in (spaces ++ Some zeros ∷ []) s b ≡ byte_in spaces s b
-byte_in-made spaces s b = byte_in-push spaces (Some zeros) s b ∙ elim (cases_eq s (next_space spaces)) [
-  | inl e ↦ rw (eq-eqb s (next_space spaces) e) (byte_of-zeros 8192 b ∙ sym (ap (λ (n : ℕ). byte_in spaces n b) e ∙ ap (λ (o : Option (List ℕ)). byte_of (unwrap_or o []) b) (get_or-eq_default spaces None (omega arith)) ∙ byte_of-zeros 0 b))
-  | inr ne ↦ rw (ne_eqb s (next_space spaces) ne) refl
-]
+-- an appended space has its bytes, and each other space its own
+pub byte_in-push : (spaces : Memories) (entry : Option (List NumberedPage)) (s b : ℕ) → byte_in (spaces ++ entry ∷ []) s b ≡ cond (s == next_space spaces) (byte_of_entry entry b) (byte_in spaces s b)
+byte_in-push spaces entry s b =
+    ap (λ (o : Option (List NumberedPage)). byte_of_entry o b) (at_number-push None spaces entry s) ∙ under_cond (λ (o : Option (List NumberedPage)). byte_of_entry o b) (s == next_space spaces) entry (pages_of_space spaces s)
+
+-- a space that doesn't exist has zeros
+pub byte_in-past : (spaces : Memories) (s b : ℕ) → s ≡ next_space spaces → byte_in spaces s b ≡ 0
+byte_in-past spaces s b is =
+    ap (λ (n : ℕ). byte_in spaces n b) is ∙ ap (λ (o : Option (List NumberedPage)). byte_of_entry o b) (get_or-eq_default spaces None (omega arith)) ∙ byte_of-zeros 0 (b % PAGE_BYTES)
+
+-- a space that is given up has no bytes, and each other space its own
+pub byte_in-gone : (spaces : Memories) (space s b : ℕ) → 1 ≤ space → space ≤ length spaces → byte_in (set spaces (space - 1) None) s b ≡ cond (s == space) 0 (byte_in spaces s b)
+byte_in-gone spaces space s b low high =
+    ap (λ (o : Option (List NumberedPage)). byte_of_entry o b) (at_number-set None spaces space None s low high)
+    ∙ under_cond (λ (o : Option (List NumberedPage)). byte_of_entry o b) (s == space) None (pages_of_space spaces s)
+    ∙ ap (λ (x : ℕ). cond (s == space) x (byte_in spaces s b)) (byte_of-zeros 0 (b % PAGE_BYTES))
 
 -- a removed space has no bytes, and each other space its own
 pub byte_in-cut : (spaces : Memories) (last s b : ℕ) → 1 ≤ last → last ≡ length spaces → byte_in (take (last - 1) spaces) s b ≡ cond (s == last) 0 (byte_in spaces s b)
 byte_in-cut spaces last s b low is =
-    ap (λ (o : Option (List ℕ)). byte_of (unwrap_or o []) b) (at_number-cut None spaces last s low is)
-    ∙ under_cond (λ (o : Option (List ℕ)). byte_of (unwrap_or o []) b) (s == last) None (words_of_space spaces s)
-    ∙ ap (λ (x : ℕ). cond (s == last) x (byte_in spaces s b)) (byte_of-zeros 0 b)
-
--- a change of one space's bytes changes no other space's
-pub byte_in-put : (change : (ℕ → ℕ) → ℕ → ℕ) (spaces : Memories) (space : ℕ) (o : Option (List ℕ)) (page new : List ℕ) → is_space_live spaces space ≡ true → o ≡ get_or spaces (space - 1) o → o ≡ Some page
-    → ((b : ℕ) → byte_of new b ≡ change (byte_of page) b) → (s b : ℕ) → byte_in (set spaces (space - 1) (Some new)) s b ≡ cond (s == space) (change (byte_in spaces s) b) (byte_in spaces s b)
-byte_in-put change spaces space o page new live is some made s b =
-    let inside = live_within spaces space live in
-    let old : words_of_space spaces space ≡ Some page = words-place spaces space o live is ∙ some in
-    ap (λ (o : Option (List ℕ)). byte_of (unwrap_or o []) b) (at_number-set None spaces space (Some new) s inside.0 inside.1)
-    ∙ under_cond (λ (o : Option (List ℕ)). byte_of (unwrap_or o []) b) (s == space) (Some new) (words_of_space spaces s)
-    ∙ elim (cases_eq s space) [
-      | inl e ↦ rw (eq-eqb s space e) (made b ∙ ap (λ (o : Option (List ℕ)). change (byte_of (unwrap_or o [])) b) (sym old) ∙ ap (λ (n : ℕ). change (byte_in spaces n) b) (sym e))
-      | inr ne ↦ rw (ne_eqb s space ne) refl
-    ]
+    ap (λ (o : Option (List NumberedPage)). byte_of_entry o b) (at_number-cut None spaces last s low is)
+    ∙ under_cond (λ (o : Option (List NumberedPage)). byte_of_entry o b) (s == last) None (pages_of_space spaces s)
+    ∙ ap (λ (x : ℕ). cond (s == last) x (byte_in spaces s b)) (byte_of-zeros 0 (b % PAGE_BYTES))

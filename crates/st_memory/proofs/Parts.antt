@@ -10,23 +10,23 @@ use Rattle.st_model.specs.Memory.{bytes_after_put}
 use Rattle.st_memory.proofs.Bytes.{byte_of-set}
 
 -- a byte that is put, one below those that are put, and one above them
-put_in-inside : (before : ℕ → ℕ) (at : ℕ) (bytes : List ℕ) (b : ℕ) → at ≤ b → b < at + length bytes → bytes_after_put before at bytes b ≡ get_or bytes (b - at) 0
+pub put_in-inside : (before : ℕ → ℕ) (at : ℕ) (bytes : List ℕ) (b : ℕ) → at ≤ b → b < at + length bytes → bytes_after_put before at bytes b ≡ get_or bytes (b - at) 0
 put_in-inside before at bytes b low high =
     cond-true (nat_le at b && nat_lt b (at + length bytes)) (get_or bytes (b - at) 0) (before b)
     (and_from (nat_le at b) (nat_lt b (at + length bytes)) (le-leb at b low) (lt-ltb b (at + length bytes) high))
 
-put_in-below : (before : ℕ → ℕ) (at : ℕ) (bytes : List ℕ) (b : ℕ) → b < at → bytes_after_put before at bytes b ≡ before b
+pub put_in-below : (before : ℕ → ℕ) (at : ℕ) (bytes : List ℕ) (b : ℕ) → b < at → bytes_after_put before at bytes b ≡ before b
 put_in-below before at bytes b low =
     cond-false (nat_le at b && nat_lt b (at + length bytes)) (get_or bytes (b - at) 0) (before b)
     (and_left (nat_le at b) (nat_lt b (at + length bytes)) (lt-leb at b low))
 
-put_in-above : (before : ℕ → ℕ) (at : ℕ) (bytes : List ℕ) (b : ℕ) → at + length bytes ≤ b → bytes_after_put before at bytes b ≡ before b
+pub put_in-above : (before : ℕ → ℕ) (at : ℕ) (bytes : List ℕ) (b : ℕ) → at + length bytes ≤ b → bytes_after_put before at bytes b ≡ before b
 put_in-above before at bytes b high =
     cond-false (nat_le at b && nat_lt b (at + length bytes)) (get_or bytes (b - at) 0) (before b)
     (and_right (nat_le at b) (nat_lt b (at + length bytes)) (le-ltb b (at + length bytes) high))
 
 -- where b is relative to a run of n bytes from `at` on: below, inside or above
-lies : (at n b : ℕ) → (b < at) ⊎ (((at ≤ b) × (b < at + n)) ⊎ (at + n ≤ b))
+pub lies : (at n b : ℕ) → (b < at) ⊎ (((at ≤ b) × (b < at + n)) ⊎ (at + n ≤ b))
 lies at n b = elim (cases_lt b at) [
   | inl low ↦ inl low
   | inr high ↦ elim (cases_lt b (at + n)) [ inl inside ↦ inr (inl (high, inside)) | inr past ↦ inr (inr past) ]

@@ -1,13 +1,18 @@
-ghost use Rattle.std.specs.Prelude.{◌≡◌, ℕ, ◌+◌, ◌%◌, ◌<◌, ◌≤◌, length, slice_index, IfOk};
+ghost use Rattle.std.specs.Prelude.{◌≡◌, ℕ, ◌+◌, ◌%◌, ◌<◌, ◌≤◌, ◌++◌, length, slice_index, IfOk, OnOk};
 ghost use Rattle.std.specs.Int.{w64, to_le_bytes};
 ghost use Rattle.st_memory.specs.Memory.{byte_of, zeros};
 ghost use Rattle.st_model.specs.Memory.{bytes_after_put, bytes_after_store, bytes_from, word_of};
 
-use st_model::{SPACE_BYTES, SPACE_WORDS};
 use std::alloc::{AllocError, Global};
 use std::marker::Model;
 
-/// The words of one space.
+/// The bytes of a page.
+pub const PAGE_BYTES: usize = 4_096;
+
+/// The words of a page.
+pub const PAGE_WORDS: usize = 512;
+
+/// The words of one page.
 #[derive(Debug, Drop)]
 pub struct Page {
     words: Vec<u64>,
@@ -15,39 +20,43 @@ pub struct Page {
 
 impl Model for Page {
     ghost use Rattle.std.specs.Prelude.{◌≡◌, List, ℕ, length};
-    ghost use Rattle.st_model.specs.declared.limits.TheConstants.{SPACE_WORDS};
+    ghost use Rattle.st_memory.specs.declared.page.TheConstants.{PAGE_WORDS};
 
     ghost Value = { List ℕ };
 
     ghost view = { λ p. p.words.items };
 
-    ghost invariant = { λ p. length p.words.items ≡ SPACE_WORDS };
+    ghost invariant = { λ p. length p.words.items ≡ PAGE_WORDS };
 }
 
 impl Page {
-    /// A space of zeros.
+    /// A page of zeros.
     pub fn zeros(alloc: Global) -> Result<Self, AllocError>
         ensures { IfOk result (λ page. page ≡ zeros) }
     {
         Ok(Page {
-            words: vec![in alloc; 0; SPACE_WORDS as usize]?,
+            words: vec![in alloc; 0; PAGE_WORDS]?,
         })
     }
 
     /// The word at an index.
     pub fn word(&self, place: usize) -> u64
-        requires { place < SPACE_WORDS }
+        requires { place < PAGE_WORDS }
         ensures { result ≡ word_of (byte_of self.now) place }
     {
         self.words[place]
     }
 
-    /// `count` bytes from offset `at` on, copied a word at a time into a vector that is allocated once.
-    pub fn bytes(&self, alloc: Global, at: usize, count: usize) -> Result<Vec<u8>, AllocError>
-        requires { 0 < count → at + count ≤ SPACE_BYTES }
-        ensures { IfOk result (λ bytes. bytes.items ≡ bytes_from (byte_of self.now) at count) }
+    /// Appends `count` bytes from offset `at` on, a word at a time.
+    pub fn append_bytes(
+        &self,
+        at: usize,
+        count: usize,
+        bytes: &mut Vec<u8>,
+    ) -> Result<(), AllocError>
+        requires { at + count ≤ PAGE_BYTES }
+        ensures { OnOk result (bytes.new.items ≡ bytes.old.items ++ bytes_from (byte_of self.now) at count) }
     {
-        let mut bytes = Vec::with_capacity(alloc, count)?;
         let mut done = 0;
         while done < count {
             let word = self.words[(at + done) / 8].to_le_bytes();
@@ -56,7 +65,7 @@ impl Page {
             bytes.extend_from_slice(&word[from..from + width])?;
             done += width;
         }
-        Ok(bytes)
+        Ok(())
     }
 
     /// A copy with its own memory.
@@ -70,7 +79,7 @@ impl Page {
 
     /// Stores a word at an index.
     pub fn put_word(&mut self, place: usize, word: u64)
-        requires { place < SPACE_WORDS }
+        requires { place < PAGE_WORDS }
         ensures { (b : ℕ) → byte_of self.new b ≡ bytes_after_store (byte_of self.old) place word b }
     {
         self.words[place] = word;
@@ -78,7 +87,7 @@ impl Page {
 
     // Puts bytes that all fall into one word.
     fn put_part(&mut self, at: usize, part: &[u8])
-        requires inside { at < SPACE_BYTES }
+        requires inside { at < PAGE_BYTES }
         requires one_word { at % 8 + length part.now ≤ 8 }
         ensures { (b : ℕ) → byte_of self.new b ≡ bytes_after_put (byte_of self.old) at part.now b }
     {
@@ -88,7 +97,7 @@ impl Page {
 
     /// Puts bytes at an offset, a word at a time.
     pub fn put_bytes(&mut self, at: usize, bytes: &[u8])
-        requires { 0 < length bytes.now → at + length bytes.now ≤ SPACE_BYTES }
+        requires { at + length bytes.now ≤ PAGE_BYTES }
         ensures { (b : ℕ) → byte_of self.new b ≡ bytes_after_put (byte_of self.old) at bytes.now b }
     {
         let mut done = 0;

@@ -7,7 +7,7 @@ ghost use Rattle.st_model.specs.declared.limits.TheConstants.{SPACE_BYTES};
 
 use crate::outcome::Outcome;
 use st_base::{Space, Text};
-use st_memory::Spaces;
+use st_memory::{MemFault, Spaces};
 use st_trace::Change;
 use std::alloc::{AllocError, Global};
 
@@ -35,8 +35,9 @@ pub fn put_bytes(
         bytes: Text::of(alloc, bytes)?,
     };
     let outcome = Outcome::change(alloc, value, change)?;
-    match spaces.put_bytes(space, at, bytes) {
+    match spaces.put_bytes(alloc, space, at, bytes) {
         Ok(()) => Ok(outcome),
-        Err(_) => unreachable!(),
+        Err(MemFault::NoMemory) => Err(AllocError),
+        Err(MemFault::Outside) => unreachable!(),
     }
 }

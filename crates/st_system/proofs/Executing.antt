@@ -7,7 +7,7 @@ use Rattle.std.proofs.lemmas.List.{get_or-set_other, get_or-set_same, length-app
 use Rattle.std.specs.Prelude.{is_some, nat_lt}
 use Rattle.st_base.specs.declared.errno.Errno.{Errno}
 use Rattle.st_calls.specs.declared.call.SysCall.TheVariants.{Execve}
-use Rattle.st_memory.specs.Memory.{Memories, byte_in, is_space_live, next_space, spaces_after_give_up, spaces_after_make, zeros}
+use Rattle.st_memory.specs.Memory.{Memories, byte_in, is_space_live, next_space}
 use Rattle.st_model.specs.Process.{Process}
 use Rattle.st_model.specs.Processes.{Processes, StartedThread, IsPid, next_pid, process_at, thread_at}
 use Rattle.st_model.specs.Tree.{Tree}
@@ -19,7 +19,7 @@ use Rattle.st_effects.specs.Processes.{execve_outcome, policy_changes}
 use Rattle.st_effects.specs.System.{Outcome, Request, System, success, unless_error}
 use Rattle.st_trace.specs.declared.entry.Change.{Change}
 use Rattle.st_trace.specs.declared.entry.Change.TheVariants.{Execed}
-use Rattle.st_exec_objects.specs.Execution.{spaces_after}
+use Rattle.st_exec_objects.specs.Execution.{AreSpacesAfter, is_live_after}
 use Rattle.st_request.specs.Outcome.{outcome_of, with_descriptors, with_memories, with_processes, with_tree}
 use Rattle.st_request.specs.Processes.{AreProcessesAfter}
 use Rattle.st_request.specs.declared.outcome.Outcome as outcomes
@@ -88,51 +88,32 @@ gone_space processes m p next false binary = space_by (m == p) binary next (proc
 
 -- ---- memories, after one is made and one is given up
 
-module _ (memories : Memories) (own : ℕ) (live : is_space_live memories own ≡ true) where
-  abbrev left : Memories
-  left = spaces_after_give_up (spaces_after_make memories) own
+-- a memory that isn't given up wasn't given up before, and is another one
+kept_left : (old new : Memories) (own s : ℕ) → is_space_live old own ≡ true → next_space new ≡ suc (next_space old) → is_space_live new s ≡ cond (s == own) false (cond (s == next_space old) true (is_space_live old s)) → is_given_up new s ≡ false
+    → (s ≢ own) × (is_given_up old s ≡ false)
+kept_left old new own s live more lives kept = (mine, before (cases_lt s (next_space old))) where
+  low : own < next_space old
+  low = live_low old own live
 
-  next_left : (k : ℕ) → next_space (spaces_after_give_up (spaces_after_make memories) k) ≡ suc (next_space memories)
-  next_left zero = ap suc (length-append memories (Some zeros ∷ []) ∙ omega arith)
-  next_left (suc k) = ap suc (length-set (memories ++ Some zeros ∷ []) k None ∙ length-append memories (Some zeros ∷ []) ∙ omega arith)
+  mine : s ≡ own → ⊥
+  mine e =
+      let gone : is_space_live new s ≡ false = lives ∙ ap (λ b. cond b false (cond (s == next_space old) true (is_space_live old s))) (eq-eqb s own e) in
+      true≢false (sym (ap (λ b. b && not (is_space_live new s)) (ap (nat_lt s) more ∙ le-leb (suc s) (suc (next_space old)) (omega (arith, low, e))) ∙ ap not gone) ∙ kept)
 
-  -- the memory that is given up no longer exists
-  own_gone : (k : ℕ) → own ≡ suc k → k < length memories → is_space_live (spaces_after_give_up (spaces_after_make memories) (suc k)) (suc k) ≡ false
-  own_gone k e low = ap is_some (get_or-set_same (memories ++ Some zeros ∷ []) k None None (let n = length-append memories (Some zeros ∷ []) in omega (arith, low, n)))
+  before : (s < next_space old) ⊎ (next_space old ≤ s) → is_given_up old s ≡ false
+  before (inr past) = ap (λ b. b && not (is_space_live old s)) (lt-leb (suc s) (next_space old) (omega (arith, past)))
+  before (inl inside) =
+      let same : is_space_live new s ≡ is_space_live old s = lives
+      ∙ ap (λ b. cond b false (cond (s == next_space old) true (is_space_live old s))) (ne_eqb s own mine)
+      ∙ ap (λ b. cond b true (is_space_live old s)) (ne_eqb s (next_space old) (λ e. absurd (omega (arith, inside, e)))) in
+      ap (λ b. b && not (is_space_live old s)) (le-leb (suc s) (next_space old) inside)
+      ∙ ap not (sym same)
+      ∙ sym (ap (λ b. b && not (is_space_live new s)) (ap (nat_lt s) more ∙ le-leb (suc s) (suc (next_space old)) (omega (arith, inside))))
+      ∙ kept
 
-  -- any other memory that was made before is unchanged
-  other_stays : (k j : ℕ) → j ≢ k → j < length memories → is_space_live (spaces_after_give_up (spaces_after_make memories) (suc k)) (suc j) ≡ is_space_live memories (suc j)
-  other_stays k j ne low = ap is_some (get_or-set_other (memories ++ Some zeros ∷ []) k j None None ne ∙ get_or-append memories (Some zeros ∷ []) None j low)
-
-  -- a memory that isn't given up wasn't given up before, and is another one
-  pub kept_left : (o s : ℕ) → own ≡ o → is_given_up (spaces_after_give_up (spaces_after_make memories) o) s ≡ false → (s ≢ own) × (is_given_up memories s ≡ false)
-  kept_left zero s e kept = absurd (true≢false (sym live ∙ ap (is_space_live memories) e))
-  kept_left (suc k) zero e kept = absurd (true≢false (given ∙ kept)) where
-    given : true ≡ is_given_up (spaces_after_give_up (spaces_after_make memories) (suc k)) 0
-    given = sym (ap (λ n. nat_lt 0 n && true) (next_left (suc k)) ∙ ap (λ b. b && true) (le-leb 1 (suc (next_space memories)) (omega arith)))
-  kept_left (suc k) (suc j) e kept = (λ same. mine (same ∙ e), before (cases_lt j (length memories))) where
-    low : own < next_space memories
-    low = live_low memories own live
-
-    mine : suc j ≡ suc k → ⊥
-    mine same =
-        let at : is_space_live (spaces_after_give_up (spaces_after_make memories) (suc k)) (suc j) ≡ false =
-        ap (is_space_live (spaces_after_give_up (spaces_after_make memories) (suc k))) same ∙ own_gone k e (omega (arith, low, e)) in
-        true≢false (sym ((λ i. nat_lt (suc j) (next_left (suc k) i) && not (at i)) ∙ ap (λ b. b && true) (le-leb (suc (suc j)) (suc (next_space memories)) (omega (arith, low, e, same)))) ∙ kept)
-
-    before : (j < length memories) ⊎ (length memories ≤ j) → is_given_up memories (suc j) ≡ false
-    before (inr past) = ap (λ b. b && not (is_space_live memories (suc j))) (lt-leb (suc (suc j)) (next_space memories) (omega (arith, past)))
-    before (inl inside) = elim (cases_eq j k) [
-      | inl same ↦ absurd (mine (ap suc same))
-      | inr ne ↦
-          ap (λ b. b && not (is_space_live memories (suc j))) (le-leb (suc (suc j)) (next_space memories) (omega (arith, inside)))
-          ∙ ap not (sym (other_stays k j ne inside))
-          ∙ sym (ap (λ b. b && not (is_space_live (spaces_after_give_up (spaces_after_make memories) (suc k)) (suc j))) (ap (nat_lt (suc j)) (next_left (suc k)) ∙ le-leb (suc (suc j)) (suc (next_space memories)) (omega (arith, inside)))) ∙ kept
-    ]
-
-gone_spaces : (own next : ℕ) (memories : Memories) (inherit : Bool) (binary : List ℕ) → spaces_after own memories (Execed binary next ∷ policy_changes inherit binary) ≡ spaces_after_give_up (spaces_after_make memories) own
-gone_spaces own next memories true binary = refl
-gone_spaces own next memories false binary = refl
+gone_lives : (own s next : ℕ) (b inherit : Bool) (binary : List ℕ) → is_live_after own s b (Execed binary next ∷ policy_changes inherit binary) ≡ cond (s == own) false (cond (s == next) true b)
+gone_lives own s next b true binary = refl
+gone_lives own s next b false binary = refl
 
 gone_next : (n next : ℕ) (inherit : Bool) (binary : List ℕ) → next_space_after n (Execed binary next ∷ policy_changes inherit binary) ≡ suc next
 gone_next n next true binary = refl
@@ -143,7 +124,7 @@ gone_next n next false binary = refl
 module _ (parts : Parts) (x : IsValidSystem parts) (request : Request) (pid_there : IsPid parts.processes request.pid) (given : outcomes.Outcome) (processes : Processes) (memories : Memories)
     (outcome : (system : System) → outcome_of given system.descriptors ≡ execve_outcome (with_tree (with_memories system parts.memories) parts.tree) request)
     (after : AreProcessesAfter parts.processes request.pid given.changes processes)
-    (spaces : memories ≡ spaces_after (process_at parts.processes request.pid).space parts.memories given.changes)
+    (spaces : AreSpacesAfter (process_at parts.processes request.pid).space parts.memories given.changes memories)
     (bytes : (s b : ℕ) → s ≢ (process_at parts.processes request.pid).space → byte_in memories s b ≡ memory_after (process_at parts.processes request.pid).space (byte_in parts.memories) given.changes s b)
     (ready : is_space_live memories (process_at processes request.pid).space ≡ true)
     (lives : (s : ℕ) → s ≢ (process_at parts.processes request.pid).space → is_space_live parts.memories s ≡ true → is_space_live memories s ≡ true) where
@@ -235,16 +216,17 @@ module _ (parts : Parts) (x : IsValidSystem parts) (request : Request) (pid_ther
 
   spaces_by : IsExec (next_space parts.memories) request.inherit given.changes → Spaces
   spaces_by (inl none) =
-      let same : memories ≡ parts.memories = spaces ∙ ap (spaces_after own parts.memories) none in record {
-        next = ap next_space same ∙ sym (ap (next_space_after (next_space parts.memories)) none);
+      let same : memories ≡ parts.memories = spaces.none none in record {
+        next = spaces.next;
         kept = λ s there. ap (λ m. is_given_up m s) (sym same) ∙ there;
         memory = λ s b there. ap (λ m. byte_in m s b) same ∙ sym (ap (λ changes. memory_after own (byte_in parts.memories) changes s b) none);
       }
   spaces_by (inr both) =
-      let left : memories ≡ spaces_after_give_up (spaces_after_make parts.memories) own = spaces ∙ ap (spaces_after own parts.memories) both.1 ∙ gone_spaces own (next_space parts.memories) parts.memories request.inherit both.0 in
-      let kept : (s : ℕ) → is_given_up memories s ≡ false → (s ≢ own) × (is_given_up parts.memories s ≡ false) =
-      λ s there. kept_left parts.memories own own_live own s refl (ap (λ m. is_given_up m s) (sym left) ∙ there) in record {
-        next = ap next_space left ∙ next_left parts.memories own own_live own ∙ sym (ap (next_space_after (next_space parts.memories)) both.1 ∙ gone_next (next_space parts.memories) (next_space parts.memories) request.inherit both.0);
+      let more : next_space memories ≡ suc (next_space parts.memories) = spaces.next ∙ ap (next_space_after (next_space parts.memories)) both.1 ∙ gone_next (next_space parts.memories) (next_space parts.memories) request.inherit both.0 in
+      let lives : (s : ℕ) → is_space_live memories s ≡ cond (s == own) false (cond (s == next_space parts.memories) true (is_space_live parts.memories s)) =
+      λ s. spaces.live s ∙ ap (is_live_after own s (is_space_live parts.memories s)) both.1 ∙ gone_lives own s (next_space parts.memories) (is_space_live parts.memories s) request.inherit both.0 in
+      let kept : (s : ℕ) → is_given_up memories s ≡ false → (s ≢ own) × (is_given_up parts.memories s ≡ false) = λ s there. kept_left parts.memories memories own s own_live more (lives s) there in record {
+        next = spaces.next;
         kept = λ s there. (kept s there).1;
         memory = λ s b there. bytes s b (kept s there).0;
       }

@@ -13,7 +13,7 @@ use Rattle.st_procs.specs.Laws.{AreOrdered}
 use Rattle.st_effects.specs.Changes.{memory_after}
 use Rattle.st_effects.specs.Processes.{execve_outcome}
 use Rattle.st_effects.specs.System.{Request, System, arg_name_at}
-use Rattle.st_exec_objects.specs.Execution.{spaces_after}
+use Rattle.st_exec_objects.specs.Execution.{AreSpacesAfter}
 use Rattle.st_exec_sys.specs.Execution.{CanMakeCall, CanCall, IsProcessCallExecuted}
 use Rattle.st_request.specs.Outcome.{outcome_of, with_memories, with_tree}
 use Rattle.st_request.specs.Processes.{AreProcessesAfter}
@@ -35,7 +35,7 @@ move_of call parts request can is = subst (λ (c : SysCall). CanMake c parts req
 pub whole_binary_if : {E : Type 0} (result : Result Outcome E) (parts : Parts) → IsValidSystem parts → (request : Request) → IsPid parts.processes request.pid → (processes : Processes) (memories : Memories)
     → IfOk result (λ given. (system : System) → outcome_of given system.descriptors ≡ execve_outcome (with_tree (with_memories system parts.memories) parts.tree) request)
     → IfOk result (λ given. AreProcessesAfter parts.processes request.pid given.changes processes)
-    → IfOk result (λ given. memories ≡ spaces_after (process_at parts.processes request.pid).space parts.memories given.changes)
+    → IfOk result (λ given. AreSpacesAfter (process_at parts.processes request.pid).space parts.memories given.changes memories)
     → IfOk result (λ given. (s b : ℕ) → s ≢ (process_at parts.processes request.pid).space → byte_in memories s b ≡ memory_after (process_at parts.processes request.pid).space (byte_in parts.memories) given.changes s b)
     → is_space_live memories (process_at processes request.pid).space ≡ true
     → ((s : ℕ) → s ≢ (process_at parts.processes request.pid).space → is_space_live parts.memories s ≡ true → is_space_live memories s ≡ true)
@@ -47,7 +47,7 @@ whole_binary_if (Err error) parts x request there processes memories outcome aft
 pub made_binary_if : {E : Type 0} (result : Result Outcome E) (parts : Parts) → IsValidSystem parts → (request : Request) → IsPid parts.processes request.pid → (processes : Processes) (memories : Memories)
     → IfOk result (λ given. (system : System) → outcome_of given system.descriptors ≡ execve_outcome (with_tree (with_memories system parts.memories) parts.tree) request)
     → IfOk result (λ given. AreProcessesAfter parts.processes request.pid given.changes processes)
-    → IfOk result (λ given. memories ≡ spaces_after (process_at parts.processes request.pid).space parts.memories given.changes)
+    → IfOk result (λ given. AreSpacesAfter (process_at parts.processes request.pid).space parts.memories given.changes memories)
     → IfOk result (λ given. (s b : ℕ) → s ≢ (process_at parts.processes request.pid).space → byte_in memories s b ≡ memory_after (process_at parts.processes request.pid).space (byte_in parts.memories) given.changes s b)
     → is_space_live memories (process_at processes request.pid).space ≡ true
     → ((s : ℕ) → s ≢ (process_at parts.processes request.pid).space → is_space_live parts.memories s ≡ true → is_space_live memories s ≡ true)

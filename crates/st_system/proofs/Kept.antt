@@ -53,11 +53,6 @@ stored i st parts x t place word space new space_is live bytes keeps = record {
   own : (st.processes (st.threads t).owner).space ≡ space
   own = ap (λ p. (st.processes p).space) (owner_is (thread_at parts.processes t) (st.threads t) (x.threads t)) ∙ ap (λ process. process.space) (x.processes (owner_in (thread_at parts.processes t))) ∙ sym space_is
 
--- what holds of a success holds if the result is no error
-pub of_ok : {A E P : Type 0} (result : Result A E) → OnOk result P → (IsErr result → ⊥) → P
-of_ok (Ok a) on fine = on
-of_ok (Err e) on fine = absurd (fine refl)
-
 -- a word of a process's memory
 pub word_is : (i : Input) (st : State) (parts : Parts) → IsSystem i st parts → (pid place : ℕ) → is_space_live parts.memories (process_at parts.processes pid).space ≡ true
     → (word : ℕ) → word ≡ word_of (byte_in parts.memories (process_at parts.processes pid).space) place → word ≡ word_of (st.memory (st.processes pid).space) place

@@ -1,4 +1,4 @@
-ghost use Rattle.std.specs.Prelude.{◌≡◌, ◌≤◌, ◌<◌, ◌==◌, not, is_some, ℕ, true, cond, length, IsSome, IfSome, IfOk};
+ghost use Rattle.std.specs.Prelude.{◌≡◌, ◌≤◌, ◌<◌, ◌==◌, not, is_some, ℕ, true, cond, length, IsSome, IfSome, IfOk, OnErr, OnOk};
 ghost use Rattle.st_fds.specs.Table.{KeepsTables};
 ghost use Rattle.st_model.specs.DescriptorCalls.{table_after_close_all};
 ghost use Rattle.st_model.specs.Descriptors.{has_table};
@@ -21,7 +21,7 @@ use crate::start::{begin_threads, processes_of, tree_of};
 use st_base::{Ids, Pid, Shared, Text, Tid};
 use st_fds::Fds;
 use st_law::Input;
-use st_memory::Spaces;
+use st_memory::{MemFault, Spaces};
 use st_names::{AbsName, Seen};
 use st_procs::Procs;
 use st_tree::Tree;
@@ -154,19 +154,29 @@ impl System {
         self.tree.look(name)
     }
 
-    /// Stores a word in the memory of a thread's process.
-    pub fn store(&mut self, tid: Tid, place: u32, word: u64)
+    /// Stores a word in the memory of a thread's process. If memory runs out for the copy of a shared page, nothing changes.
+    pub fn store(
+        &mut self,
+        alloc: Global,
+        tid: Tid,
+        place: u32,
+        word: u64,
+    ) -> Result<(), AllocError>
         requires started { IsSome (pid_of self.old.processes tid) }
         requires place { place < SPACE_WORDS }
         ensures processes { self.new.processes ≡ self.old.processes }
-        ensures system { (i : Input) (st : State) → IsSystem i st self.old → IsSystem i (state_after i st (Stored tid place word)) self.new }
+        ensures system { OnOk result ((i : Input) (st : State) → IsSystem i st self.old → IsSystem i (state_after i st (Stored tid place word)) self.new) }
+        ensures err { OnErr result (self.new ≡ self.old) }
     {
         let Some(pid) = self.procs.pid_of(tid) else {
             unreachable!()
         };
         let space = self.procs.space(pid);
-        // The index is inside memory, so the store isn't refused.
-        let _ = self.spaces.put_word(space, place, word);
+        match self.spaces.put_word(alloc, space, place, word) {
+            Ok(()) => Ok(()),
+            Err(MemFault::NoMemory) => Err(AllocError),
+            Err(MemFault::Outside) => unreachable!(),
+        }
     }
 
     /// Ends a thread. With the last thread of its process, the process ends, and its descriptors are closed.

@@ -1,7 +1,9 @@
-//! Tests of files and sinks, over memory and over the host.
+//! Tests of files and sinks, over memory and over the host, and of shared pages.
 #![tactic(auto)]
 
 #[cfg(test)]
 mod files;
+#[cfg(test)]
+mod pages;
 #[cfg(test)]
 mod sinks;
