@@ -13,7 +13,7 @@ use Rattle.st_base.specs.Numbered.{item_at_number}
 use Rattle.st_law.specs.declared.input.Input.{Input}
 use Rattle.st_law.specs.Machine.{state_after}
 use Rattle.st_law.specs.Sessions.{SessionFilter, is_kept_for, session_filters, learnt_by, replied_by}
-use Rattle.st_law.specs.State.{State, read_for, snapshot_in}
+use Rattle.st_law.specs.State.{State, read_at, snapshot_in}
 use Rattle.st_law.proofs.Carried.{RefusesStill}
 
 -- a session that grows at its end grows at its end for each policy and rule
@@ -28,10 +28,10 @@ fast_append (f ∷ fs) gs errno e = e
 module _ (i : Input) (st new : State) (more : List SessionFilter) (grown : new.session ≡ st.session ++ more) where
   refuses_grown : RefusesStill i st new
   refuses_grown policy rule errno e =
-      ap (λ session. fast (read_for i policy rule ++ session_filters session policy rule)) grown
-      ∙ ap (λ fs. fast (read_for i policy rule ++ fs)) (session_append st.session more policy rule)
-      ∙ ap fast (sym (append_assoc (read_for i policy rule) (session_filters st.session policy rule) (session_filters more policy rule)))
-      ∙ fast_append (read_for i policy rule ++ session_filters st.session policy rule) (session_filters more policy rule) errno e
+      ap (λ session. fast (read_at i st policy rule ++ session_filters session policy rule)) grown
+      ∙ ap (λ fs. fast (read_at i st policy rule ++ fs)) (session_append st.session more policy rule)
+      ∙ ap fast (sym (append_assoc (read_at i st policy rule) (session_filters st.session policy rule) (session_filters more policy rule)))
+      ∙ fast_append (read_at i st policy rule ++ session_filters st.session policy rule) (session_filters more policy rule) errno e
 
 pub refuses_learned : (i : Input) (st : State) (q n : ℕ) → RefusesStill i st (state_after i st (Learned q n))
 refuses_learned i st q n = refuses_grown i st (state_after i st (Learned q n)) (learnt_by (snapshot_in st q)) refl

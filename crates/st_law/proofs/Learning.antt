@@ -30,7 +30,7 @@ use Rattle.st_law.specs.Inputs.{IsStartable}
 use Rattle.st_law.specs.Lawful.{IsLearned, IsLawfulBack}
 use Rattle.st_law.specs.Machine.{state_after}
 use Rattle.st_law.specs.Sessions.{SessionFilter, is_kept_for, session_filters, kept_for, learnt_by, replied_by, test_of, learnt_formula, learnt_filter, verdict_or, decision}
-use Rattle.st_law.specs.State.{State, is_live, snapshot_in, snapshot_of_message, read_for, decision_in, is_undecided, operator_decides, is_open_question, is_question}
+use Rattle.st_law.specs.State.{State, is_live, snapshot_in, snapshot_of_message, read_at, decision_in, is_undecided, operator_decides, is_open_question, is_question}
 use Rattle.st_law.specs.Threads.{History}
 use Rattle.st_law.proofs.Growth.{session_append}
 use Rattle.st_law.proofs.Laws.{all_at}
@@ -161,7 +161,7 @@ module _ (i : Input) (st : State) (plain : IsPlain st.session) (q n : ℕ) (x : 
   s = x.copies
 
   abbrev read : List FilterValue
-  read = read_for i s.policy s.rule
+  read = read_at i st s.policy s.rule
 
   abbrev kept : List FilterValue
   kept = session_filters st.session s.policy s.rule

@@ -15,7 +15,7 @@ use Rattle.st_trace.specs.declared.start.Instr.TheVariants.{Store, Call, Fork}
 use Rattle.st_law.specs.declared.input.Input.{Input}
 use Rattle.st_calls.specs.Call.{sets_ids}
 use Rattle.st_law.specs.Sessions.{SessionFilter, session_filters, decision}
-use Rattle.st_law.specs.State.{State, thread_count, is_worker, snapshot_in, read_for, decision_in, is_undecided}
+use Rattle.st_law.specs.State.{State, thread_count, is_worker, snapshot_in, read_at, decision_in, is_undecided}
 use Rattle.st_law.proofs.Copies.{Copies}
 use Rattle.st_law.proofs.Growth.{session_append}
 use Rattle.st_law.proofs.Least.{least}
@@ -66,9 +66,9 @@ learnt_low i st new more grown (Some s) = by (decided_or (decision_in i st s)) w
       omega (arith, one, most)
   by (inr x) =
       let stays : decision_in i new s ≡ decision_in i st s =
-      ap (λ session. decision (read_for i s.policy s.rule) (session_filters session s.policy s.rule) s) grown
-      ∙ ap (λ fs. decision (read_for i s.policy s.rule) fs s) (session_append st.session more s.policy s.rule)
-      ∙ decision_append (read_for i s.policy s.rule) (session_filters st.session s.policy s.rule) (session_filters more s.policy s.rule) s x.0 in
+      ap (λ session. decision (read_at i st s.policy s.rule) (session_filters session s.policy s.rule) s) grown
+      ∙ ap (λ fs. decision (read_at i st s.policy s.rule) fs s) (session_append st.session more s.policy s.rule)
+      ∙ decision_append (read_at i st s.policy s.rule) (session_filters st.session s.policy s.rule) (session_filters more s.policy s.rule) s x.0 in
       let same : may_be_learnt i new (Some s) ≡ may_be_learnt i st (Some s) = ap (λ v. step_unless (not (is_undecided v))) stays in
       omega (arith, same)
 

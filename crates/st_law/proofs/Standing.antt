@@ -25,7 +25,8 @@ use Rattle.st_law.specs.Laws.{IsUsedAsAnswered}
 use Rattle.st_law.specs.Lawful.{IsUsedHeld, IsDeniedHeld, IsLawful, IsLawfulBack}
 use Rattle.st_law.specs.Machine.{state_after}
 use Rattle.st_law.specs.Sessions.{SessionFilter, session_filters, learnt_by, replied_by, verdict_or, decision}
-use Rattle.st_law.specs.State.{State, progress_of_head, snapshot_of_progress, snapshot_in, snapshot_of_message, read_for, decision_in}
+use Rattle.st_filter.specs.Policies.{read_filters}
+use Rattle.st_law.specs.State.{State, progress_of_head, snapshot_of_progress, snapshot_in, snapshot_of_message, decision_in}
 use Rattle.st_law.specs.Threads.{History}
 use Rattle.st_law.proofs.Growth.{session_append}
 use Rattle.st_law.proofs.Moves.{Moves, moves}
@@ -146,9 +147,9 @@ session_grows i (Ended u ∷ later) earlier = session_grows i later earlier
 -- a decision is kept by all later entries
 pub decision_stands : (i : Input) (later earlier : History) (s : Snapshot) → decision_in i (looking_back i earlier) s ≢ Unmatched → decision_in i (looking_back i (later ++ earlier)) s ≡ decision_in i (looking_back i earlier) s
 decision_stands i later earlier s some = let x : Grows i later earlier = session_grows i later earlier in
-    ap (λ session. decision (read_for i s.policy s.rule) (session_filters session s.policy s.rule) s) x.1
-    ∙ ap (λ fs. decision (read_for i s.policy s.rule) fs s) (session_append (session_at i earlier) x.0 s.policy s.rule)
-    ∙ decision_append (read_for i s.policy s.rule) (session_filters (session_at i earlier) s.policy s.rule) (session_filters x.0 s.policy s.rule) s some
+    ap (λ session. decision (read_filters i.policies s.policy s.rule) (session_filters session s.policy s.rule) s) x.1
+    ∙ ap (λ fs. decision (read_filters i.policies s.policy s.rule) fs s) (session_append (session_at i earlier) x.0 s.policy s.rule)
+    ∙ decision_append (read_filters i.policies s.policy s.rule) (session_filters (session_at i earlier) s.policy s.rule) (session_filters x.0 s.policy s.rule) s some
 
 -- ---- a call is made as it was answered
 
@@ -156,7 +157,7 @@ module _ (i : Input) (startable : IsStartable i) (later earlier : History) (w : 
   abbrev following : History
   following = later ++ Answered w s v true ∷ earlier
 
-  answer_verdict : (later : History) → IsLawfulBack i (later ++ Answered w s v true ∷ earlier) → v ≡ verdict (read_for i s.policy s.rule) s
+  answer_verdict : (later : History) → IsLawfulBack i (later ++ Answered w s v true ∷ earlier) → v ≡ verdict (read_filters i.policies s.policy s.rule) s
   answer_verdict [] lawful = lawful.0.verdict_is
   answer_verdict (e ∷ later) lawful = answer_verdict later lawful.1
 
@@ -165,7 +166,7 @@ module _ (i : Input) (startable : IsStartable i) (later earlier : History) (w : 
   same_copies lawful u e = same_Some u s (sym e ∙ (answer_stands i startable later earlier w s v lawful).copies)
 
   pub same_decision : IsLawfulBack i following → v ≢ Unmatched → decision_in i (looking_back i following) s ≡ v
-  same_decision lawful some = read_decides (read_for i s.policy s.rule) (session_filters (session_at i following) s.policy s.rule) s v (sym (answer_verdict later lawful)) some
+  same_decision lawful some = read_decides (read_filters i.policies s.policy s.rule) (session_filters (session_at i following) s.policy s.rule) s v (sym (answer_verdict later lawful)) some
 
   pub used_as_answered : (t : ℕ) (call : SysCall) (regs : List ℕ) (args : List ArgText) (ids : Ids) (result : CallResult) (changes : List Change) → IsLawfulBack i (Used t (Some s.seq) call regs args ids result changes ∷ following) → IsUsedAsAnswered s v call regs args ids
   used_as_answered t call regs args ids result changes lawful =

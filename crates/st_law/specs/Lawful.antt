@@ -31,7 +31,7 @@ use Rattle.st_trace.specs.declared.start.Instr.TheVariants.{Store}
 use Rattle.st_law.specs.declared.input.Input.{Input}
 use Rattle.st_law.specs.declared.input.Mode.TheVariants.{Learn, AskText}
 use Rattle.st_law.specs.History.{looking_back}
-use Rattle.st_law.specs.State.{State, process_in, is_live, progress_in, snapshot_in, is_worker, worker_at, read_for, decision_in, answer_in, filter_count, is_reply_left, is_question, system_of, request_of, arguments_now, link_now, word_for}
+use Rattle.st_law.specs.State.{State, process_in, is_live, progress_in, snapshot_in, is_worker, worker_at, read_at, decision_in, answer_in, filter_count, is_reply_left, is_question, system_of, request_of, arguments_now, link_now, word_for}
 use Rattle.st_law.specs.Threads.{History}
 
 -- ---- entries of threads
@@ -112,7 +112,7 @@ pub record IsAnswered (i : Input) (st : State) (w : ℕ) (s : Snapshot) (v : Ver
   pub worker : is_worker i w ≡ true
   pub at : worker_at st w ≡ Some s.seq
   pub copies : snapshot_in st s.seq ≡ Some s
-  pub verdict_is : v ≡ verdict (read_for i s.policy s.rule) s
+  pub verdict_is : v ≡ verdict (read_at i st s.policy s.rule) s
   pub applied_is : applied ≡ is_live st s.seq
 
 -- ---- calls that aren't held

@@ -35,7 +35,7 @@ use Rattle.st_law.specs.declared.input.Mode.TheVariants.{Enforce, Learn, AskText
 use Rattle.st_law.specs.Messages.{head_after, posted_after, claimed_after, words_after, lookups_after, fault_after, answered_after, closed_after, turn_after}
 use Rattle.st_law.specs.Processes.{first_process, first_tree, first_descriptors, process_count, memory_after_entry}
 use Rattle.st_law.specs.Sessions.{session_after, replied_after, least_from}
-use Rattle.st_law.specs.State.{ThreadState, Message, State, process_in, is_live, progress_in, snapshot_in, snapshot_of_message, snapshot_of_progress, is_worker, worker_at, is_waiting, read_for, decision_in, answer_in, filter_count, next_reply, is_question, system_of, request_of, arguments_now, link_now, word_for, table_after}
+use Rattle.st_law.specs.State.{ThreadState, Message, State, process_in, is_live, progress_in, snapshot_in, snapshot_of_message, snapshot_of_progress, is_worker, worker_at, is_waiting, read_at, decision_in, answer_in, filter_count, next_reply, is_question, system_of, request_of, arguments_now, link_now, word_for, table_after}
 use Rattle.st_law.specs.Threads.{History, PendingCall, changes_of, thread_of, first_owner, body_of, pending_after, left_after, ended_after, number_after}
 
 -- ---- the state
@@ -210,7 +210,7 @@ claimed_entry w (Some q) = Some (Claimed w q)
 -- a worker answers with the verdict of the filters that were read on these copies, if they are complete
 abbrev pub answer_entry : Input → State → ℕ → ℕ → Option Snapshot → Option Entry
 answer_entry i st w q None = None
-answer_entry i st w q (Some s) = Some (Answered w s (verdict (read_for i s.policy s.rule) s) (is_live st q))
+answer_entry i st w q (Some s) = Some (Answered w s (verdict (read_at i st s.policy s.rule) s) (is_live st q))
 
 -- a worker copies the next word, looks up the next name, finds a fault, or answers
 abbrev pub working_entry : Input → State → ℕ → ℕ → Progress → Option Entry

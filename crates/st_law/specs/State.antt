@@ -191,17 +191,17 @@ is_waiting st q = is_live st q && not (st.messages q).claimed
 
 -- ---- filters
 
--- the filters that were read for a policy and a rule
-abbrev pub read_for : Input → List ℕ → Rule → List FilterValue
-read_for i policy rule = read_filters i.policies policy rule
+-- the filters that are in force for a policy and a rule in a state, without the session's; they are those that were read, in every state
+abbrev pub read_at : Input → State → List ℕ → Rule → List FilterValue
+read_at i st policy rule = read_filters i.policies policy rule
 
 -- the decision of the filters read on these copies, otherwise of the session's
 abbrev pub decision_in : Input → State → Snapshot → Verdict
-decision_in i st s = decision (read_for i s.policy s.rule) (session_filters st.session s.policy s.rule) s
+decision_in i st s = decision (read_at i st s.policy s.rule) (session_filters st.session s.policy s.rule) s
 
 -- the kernel's own answer for a rule under a policy
 abbrev pub answer_for : Input → State → List ℕ → Rule → FastAnswer
-answer_for i st policy rule = fast (read_for i policy rule ++ session_filters st.session policy rule)
+answer_for i st policy rule = fast (read_at i st policy rule ++ session_filters st.session policy rule)
 
 -- the kernel's own answer for a call of a process
 abbrev pub answer_in : Input → State → Process → SysCall → List ℕ → FastAnswer
@@ -209,7 +209,7 @@ answer_in i st process call regs = answer_for i st process.policy (rule_of call 
 
 -- how many filters the policy and the rule of these copies have, read and of the session
 abbrev pub filter_count : Input → State → Snapshot → ℕ
-filter_count i st s = length (read_for i s.policy s.rule ++ session_filters st.session s.policy s.rule)
+filter_count i st s = length (read_at i st s.policy s.rule ++ session_filters st.session s.policy s.rule)
 
 -- ---- questions
 

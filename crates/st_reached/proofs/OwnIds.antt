@@ -40,7 +40,7 @@ use Rattle.st_law.specs.Lawful.{IsLawful, IsLawfulBack, IsUsed, IsUsedHeld}
 use Rattle.st_law.specs.Machine.{history, state_after, state_of_run}
 use Rattle.st_law.specs.Messages.{Head}
 use Rattle.st_law.specs.Sessions.{SessionFilter, is_kept_for, is_reply_for, learnt_by, replied_by, session_filters, verdict_or}
-use Rattle.st_law.specs.State.{State, decision_in, process_in, progress_in, read_for, snapshot_in, snapshot_of_progress, snapshot_with}
+use Rattle.st_law.specs.State.{State, decision_in, process_in, progress_in, read_at, snapshot_in, snapshot_of_progress, snapshot_with}
 use Rattle.st_law.specs.Threads.{History}
 use Rattle.st_law.proofs.Laws.{all_at, lawful_history}
 use Rattle.st_law.proofs.ShortArguments.{HasRule}
@@ -182,9 +182,9 @@ module _ (i : Input) (ungranted : SetIdsUngranted i.policies) (st : State) (sess
   -- the decision on copies with a rule that sets ids permits under the ids of the copies
   copies_own : (s : Snapshot) (k : ℕ) (ids : Ids) → sets_ids_by s.rule ≡ true → decision_in i st s ≡ Permit k ids → ids ≡ s.ids
   copies_own s k ids sets e =
-      either_permits (verdict (read_for i s.policy s.rule) s) (verdict_from (suc (length (read_for i s.policy s.rule))) (session_filters st.session s.policy s.rule) s) k ids s.ids
+      either_permits (verdict (read_at i st s.policy s.rule) s) (verdict_from (suc (length (read_at i st s.policy s.rule))) (session_filters st.session s.policy s.rule) s) k ids s.ids
       (λ is. filters_own s s.rule sets (policy_of i.policies s.policy) (policy_ungranted i.policies s.policy ungranted) 1 k ids is)
-      (λ is. session_permits s s.policy s.rule sets st.session session (suc (length (read_for i s.policy s.rule))) k ids is) e
+      (λ is. session_permits s s.policy s.rule sets st.session session (suc (length (read_at i st s.policy s.rule))) k ids is) e
 
   module _ (rules : (q : ℕ) → HasRule i (st.messages q).head) where
     held_own : (t q : ℕ) (call : SysCall) (regs : List ℕ) (args : List ArgText) (ids : Ids) (result : CallResult) (changes : List Change) → IsUsedHeld i st t q call regs args ids result changes → sets_ids call ≡ true → ids ≡ (process_in st t).ids

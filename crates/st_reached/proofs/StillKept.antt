@@ -27,7 +27,7 @@ use Rattle.st_law.specs.declared.input.Mode.TheVariants.{Enforce, Learn, AskText
 use Rattle.st_law.specs.Lawful.{IsLawful, IsLearned, IsReplied, IsUsed}
 use Rattle.st_law.specs.Machine.{entry_of, state_after, thread_entry}
 use Rattle.st_law.specs.Sessions.{decision, is_reply_for, learnt_by, learnt_filter, least_from, replied_by, session_filters}
-use Rattle.st_law.specs.State.{State, held_from, operator_decides, is_live, is_open_question, is_undecided, read_for, request_of, snapshot_in, system_of, thread_count}
+use Rattle.st_law.specs.State.{State, held_from, operator_decides, is_live, is_open_question, is_undecided, read_at, request_of, snapshot_in, system_of, thread_count}
 use Rattle.st_law.specs.Threads.{child_of_next, thread_of}
 use Rattle.st_law.proofs.HeldCalls.{IsHolder, own_of}
 use Rattle.st_law.proofs.Invariant.{IsOpen}
@@ -100,7 +100,7 @@ asked_by i st new replied s AskText = λ k. is_some (least_from (λ n. is_reply_
 
 open_by : (i : Input) (st new : State) → new.session ≡ st.session → new.replied ≡ st.replied → (s : Snapshot) → is_open_question i new (Some s) ≡ is_open_question i st (Some s)
 open_by i st new session replied s =
-    λ k. is_undecided (decision (read_for i s.policy s.rule) (session_filters (session k) s.policy s.rule) s) && asked_by i st new replied s i.options.mode k
+    λ k. is_undecided (decision (read_at i new s.policy s.rule) (session_filters (session k) s.policy s.rule) s) && asked_by i st new replied s i.options.mode k
 
 module _ (i : Input) (st : State) (reached : Reached i st) (t : ℕ) where
   abbrev number : ℕ

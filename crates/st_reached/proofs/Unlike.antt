@@ -21,7 +21,7 @@ use Rattle.st_law.specs.declared.input.Mode.{Mode}
 use Rattle.st_law.specs.declared.input.Mode.TheVariants.{Enforce, Learn, AskText}
 use Rattle.st_law.specs.Messages.{Head}
 use Rattle.st_law.specs.Sessions.{SessionFilter, decision, is_kept_for, is_reply_for, kept_for, least_from, replied_by, session_filters}
-use Rattle.st_law.specs.State.{State, operator_decides, is_open_question, is_reply_left, is_undecided, progress_in, read_for, snapshot_in, snapshot_of_progress}
+use Rattle.st_law.specs.State.{State, operator_decides, is_open_question, is_reply_left, is_undecided, progress_in, read_at, snapshot_in, snapshot_of_progress}
 use Rattle.st_law.proofs.Growth.{session_append}
 use Rattle.st_reached.specs.Waiting.{are_alike}
 
@@ -120,7 +120,7 @@ module _ (i : Input) (st : State) (s other : Snapshot) (apart : are_of_one s oth
   open_on new given session asked =
       let filters : session_filters new.session other.policy other.rule ≡ session_filters st.session other.policy other.rule =
       ap (λ kept. session_filters kept other.policy other.rule) session ∙ others_kept st.session (kept_for given s) other.policy other.rule apart in
-      λ k. is_undecided (decision (read_for i other.policy other.rule) (filters k) other) && asked k
+      λ k. is_undecided (decision (read_at i new other.policy other.rule) (filters k) other) && asked k
 
   -- the replies left for it are the same as before the reply was given
   pub asked_on : (new : State) (r : ℕ) → new.replied ≡ (λ n. r == n || st.replied n) → is_reply_for s.policy s.rule (item_at_number i.replies r) ≡ true → (mode : Mode) → operator_decides i new other mode ≡ operator_decides i st other mode

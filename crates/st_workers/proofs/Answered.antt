@@ -15,7 +15,8 @@ use Rattle.st_messages.specs.Messages.{is_claimed, is_claimed_state, is_live_num
 use Rattle.st_messages.proofs.Whole.{states_moved, threads_moved}
 use Rattle.st_trace.specs.declared.entry.Entry.TheVariants as entry
 use Rattle.st_law.specs.declared.input.Input.{Input}
-use Rattle.st_law.specs.State.{progress_of_message, read_for, snapshot_of_message, Message, State}
+use Rattle.st_filter.specs.Policies.{read_filters}
+use Rattle.st_law.specs.State.{progress_of_message, snapshot_of_message, Message, State}
 use Rattle.st_workers.specs.Refinement.{at_work, AgreesWithMachine, HasMessageFlags, IsDead, RepresentsMessages, RepresentsMessagesAfter, IsLive, IsTurn, AreValidWorkers}
 use Rattle.st_workers.specs.UnderWay.{found_in, turn_of_worker, UnderWay}
 use Rattle.st_workers.specs.declared.turn.Turn.TheVariants.{Idle, Ready}
@@ -187,11 +188,11 @@ module _ (old new : UnderWay) (w : ℕ) (s : Snapshot) (v : Verdict) (delivered 
     same_answer : (a b : Verdict) → Answered a ≡ Answered b → a ≡ b
     same_answer a b e = cc
 
-    verdict_by : (i : Input) → v ≡ judging.verdict (read_for i s.policy s.rule) s → (b : Bool) → alive s.seq ≡ b → (x : Verdict) (t : Snapshot) → message_state new.calls s.seq ≡ Some (Answered x)
-        → snapshot_of_message s.seq (all_worked (entry.Answered w s v b) messages s.seq) ≡ Some t → x ≡ judging.verdict (read_for i t.policy t.rule) t
+    verdict_by : (i : Input) → v ≡ judging.verdict (read_filters i.policies s.policy s.rule) s → (b : Bool) → alive s.seq ≡ b → (x : Verdict) (t : Snapshot) → message_state new.calls s.seq ≡ Some (Answered x)
+        → snapshot_of_message s.seq (all_worked (entry.Answered w s v b) messages s.seq) ≡ Some t → x ≡ judging.verdict (read_filters i.policies t.policy t.rule) t
     verdict_by i is_verdict true e x t answered copies =
         let same : s ≡ t = same_Some s t (sym at.1 ∙ copies) in
-        sym (same_answer v x (same_Some (Answered v) (Answered x) (sym (state e) ∙ answered))) ∙ is_verdict ∙ ap (λ (u : Snapshot). judging.verdict (read_for i u.policy u.rule) u) same
+        sym (same_answer v x (same_Some (Answered v) (Answered x) (sym (state e) ∙ answered))) ∙ is_verdict ∙ ap (λ (u : Snapshot). judging.verdict (read_filters i.policies u.policy u.rule) u) same
     verdict_by i is_verdict false e x t answered copies =
         absurd (none-some (Answered x) (sym (ap (λ (c : HeldCalls). message_state c s.seq) (stale_calls e) ∙ (none_there e).state) ∙ answered))
 
@@ -213,7 +214,7 @@ module _ (old new : UnderWay) (w : ℕ) (s : Snapshot) (v : Verdict) (delivered 
   answered_workers whole = workers_by whole.messages whole.turns whole.alive whole.posted whole.agrees (whole.alive s.seq) refl
 
   -- the messages and workers represent the state after the entry
-  pub answered_kept : (i : Input) (st : State) (alive : ℕ → Bool) → RepresentsMessages i st alive old → v ≡ judging.verdict (read_for i s.policy s.rule) s → RepresentsMessagesAfter i st (entry.Answered w s v (alive s.seq)) alive new
+  pub answered_kept : (i : Input) (st : State) (alive : ℕ → Bool) → RepresentsMessages i st alive old → v ≡ judging.verdict (read_filters i.policies s.policy s.rule) s → RepresentsMessagesAfter i st (entry.Answered w s v (alive s.seq)) alive new
   answered_kept i st alive kept is_verdict = record {
     workers = workers_by st.messages st.turns alive st.posted kept.agrees (alive s.seq) refl ∙ kept.workers;
     agrees = answered_agrees st.messages st.turns alive st.posted kept.agrees;

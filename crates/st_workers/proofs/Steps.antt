@@ -17,7 +17,8 @@ use Rattle.st_messages.specs.Messages.{HeldCalls, message_state, thread_of_numbe
 use Rattle.st_trace.specs.declared.entry.Entry.{Entry}
 use Rattle.st_law.specs.declared.input.Input.{Input}
 use Rattle.st_law.specs.Messages.{claimed_after, words_after, lookups_after, fault_after, answered_after, turn_after}
-use Rattle.st_law.specs.State.{Message, is_ready, progress_of_message, read_for, snapshot_of_message}
+use Rattle.st_filter.specs.Policies.{read_filters}
+use Rattle.st_law.specs.State.{Message, is_ready, progress_of_message, snapshot_of_message}
 use Rattle.st_workers.specs.Filling.{IsTurnFor}
 use Rattle.st_workers.specs.Refinement.{AgreesWithMachine, HasMessageFlags, IsDead, IsLive, IsSlotOf, IsState, IsTurn}
 use Rattle.st_workers.specs.UnderWay.{UnderWay, found_in, turn_of_worker}
@@ -112,9 +113,9 @@ module _ (messages after : ℕ → Message) (turns turned : ℕ → Option ℕ) 
 
 -- the verdicts of all other numbers are unchanged
 pub verdicts_kept : (i : Input) (messages after : ℕ → Message) (old new : HeldCalls) (p : ℕ) → ((q : ℕ) → q ≢ p → after q ≡ messages q) → ((q : ℕ) → q ≢ p → message_state new q ≡ message_state old q)
-    → ((v : Verdict) (s : Snapshot) → message_state new p ≡ Some (Answered v) → snapshot_of_message p (after p) ≡ Some s → v ≡ verdict (read_for i s.policy s.rule) s)
-    → ((q : ℕ) (v : Verdict) (s : Snapshot) → message_state old q ≡ Some (Answered v) → snapshot_of_message q (messages q) ≡ Some s → v ≡ verdict (read_for i s.policy s.rule) s)
-    → (q : ℕ) (v : Verdict) (s : Snapshot) → message_state new q ≡ Some (Answered v) → snapshot_of_message q (after q) ≡ Some s → v ≡ verdict (read_for i s.policy s.rule) s
+    → ((v : Verdict) (s : Snapshot) → message_state new p ≡ Some (Answered v) → snapshot_of_message p (after p) ≡ Some s → v ≡ verdict (read_filters i.policies s.policy s.rule) s)
+    → ((q : ℕ) (v : Verdict) (s : Snapshot) → message_state old q ≡ Some (Answered v) → snapshot_of_message q (messages q) ≡ Some s → v ≡ verdict (read_filters i.policies s.policy s.rule) s)
+    → (q : ℕ) (v : Verdict) (s : Snapshot) → message_state new q ≡ Some (Answered v) → snapshot_of_message q (after q) ≡ Some s → v ≡ verdict (read_filters i.policies s.policy s.rule) s
 verdicts_kept i messages after old new p others states here all q v s is copies = elim (cases_eq q p) [
   | inl e ↦ here v s (ap (message_state new) (sym e) ∙ is) (ap (λ (n : ℕ). snapshot_of_message n (after n)) (sym e) ∙ copies)
   | inr ne ↦ all q v s (sym (states q ne) ∙ is) (ap (snapshot_of_message q) (sym (others q ne)) ∙ copies)

@@ -17,7 +17,7 @@ use Rattle.st_trace.specs.declared.entry.Entry.TheVariants as entry
 use Rattle.st_law.specs.declared.input.Input.{Input}
 use Rattle.st_law.specs.Machine.{answer_entry, claimed_entry, least_waiting, turn_entry, worker_entry, working_entry}
 use Rattle.st_law.specs.Messages.{Head}
-use Rattle.st_law.specs.State.{Message, State, is_live, is_ready, is_waiting, is_worker, progress_in, read_for, seq_at_work, snapshot_of_progress, worker_at}
+use Rattle.st_law.specs.State.{Message, State, is_live, is_ready, is_waiting, is_worker, progress_in, read_at, seq_at_work, snapshot_of_progress, worker_at}
 use Rattle.st_law.proofs.Least.{least}
 use Rattle.st_workers.specs.Refinement.{at_work, AgreesWithMachine, HasMessageFlags, RepresentsMessages, IsLive, IsState, IsTurn, AreValidWorkers}
 use Rattle.st_workers.specs.Tasks.{idle_task, task_at, task_of, task_of_slot, task_of_turn, IsBusy, IsCopy, IsFault, IsLook, IsOfProcess, IsTask}
@@ -206,7 +206,7 @@ module _ (i : Input) (st : State) (kept : UnderWay) (w : ℕ) (is : RepresentsMe
   answer_by q (Look part name) s p_is ready e = absurd (true≢false (sym ready))
   answer_by q (Stuck errno) s p_is ready e = absurd (true≢false (sym ready))
 
-  pub ready_is : (s : Snapshot) → turn_of_worker kept w ≡ Some (Ready s) → worker_entry i st w ≡ Some (entry.Answered w s (verdict (read_for i s.policy s.rule) s) (is_live st s.seq))
+  pub ready_is : (s : Snapshot) → turn_of_worker kept w ≡ Some (Ready s) → worker_entry i st w ≡ Some (entry.Answered w s (verdict (read_at i st s.policy s.rule) s) (is_live st s.seq))
   ready_is s ready =
       let turn : IsTurn st.messages (is_live st) (st.turns w) (Ready s) = is.agrees.workers w (Ready s) ready in
       let whole : is_ready (progress_in st s.seq) ≡ true = sealed_ready s.seq (st.messages s.seq).head (progress_in st s.seq) s turn.1 in

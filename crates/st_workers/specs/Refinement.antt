@@ -16,7 +16,8 @@ use Rattle.st_trace.specs.declared.entry.Entry.{Entry}
 use Rattle.st_law.specs.declared.input.Input.{Input}
 use Rattle.st_law.specs.Machine.{message_after}
 use Rattle.st_law.specs.Messages.{Head, head_after_change, posted_after, turn_after}
-use Rattle.st_law.specs.State.{Message, State, is_live, is_ready, progress_of_message, read_for, snapshot_in, snapshot_of_message}
+use Rattle.st_filter.specs.Policies.{read_filters}
+use Rattle.st_law.specs.State.{Message, State, is_live, is_ready, progress_of_message, read_at, snapshot_in, snapshot_of_message}
 use Rattle.st_workers.specs.UnderWay.{Found, UnderWay, found_in}
 use Rattle.st_workers.specs.declared.turn.Turn.{Turn}
 use Rattle.st_workers.specs.declared.turn.Turn.TheVariants.{Idle, Working, Ready}
@@ -123,7 +124,7 @@ pub record AgreesWithMachine (messages : ℕ → Message) (turns : ℕ → Optio
 pub record RepresentsMachineMessages (i : Input) (messages : ℕ → Message) (turns : ℕ → Option ℕ) (alive : ℕ → Bool) (posted : ℕ) (kept : UnderWay) : Type 0 where
   pub workers : kept.calls.workers ≡ i.options.workers
   pub agrees : AgreesWithMachine messages turns alive posted (found_in kept)
-  pub verdicts : (q : ℕ) (v : Verdict) (s : Snapshot) → message_state kept.calls q ≡ Some (Answered v) → snapshot_of_message q (messages q) ≡ Some s → v ≡ verdict (read_for i s.policy s.rule) s
+  pub verdicts : (q : ℕ) (v : Verdict) (s : Snapshot) → message_state kept.calls q ≡ Some (Answered v) → snapshot_of_message q (messages q) ≡ Some s → v ≡ verdict (read_filters i.policies s.policy s.rule) s
 
 -- the same for a state of the law's machine
 abbrev pub RepresentsMessages : Input → State → (ℕ → Bool) → UnderWay → Type 0
@@ -147,7 +148,7 @@ abbrev pub IsMessageStateOf : Input → State → ℕ → Option MsgState → Ty
 IsMessageStateOf i st q None = is_live st q ≡ false
 IsMessageStateOf i st q (Some Waiting) = (is_live st q ≡ true) × HasMessageFlags (st.messages q) false None false
 IsMessageStateOf i st q (Some (Claimed worker)) = (is_live st q ≡ true) × HasMessageFlags (st.messages q) true None false
-IsMessageStateOf i st q (Some (Answered v)) = (is_live st q ≡ true) × HasMessageFlags (st.messages q) true None true × (s : Snapshot) × (snapshot_in st q ≡ Some s) × (v ≡ verdict (read_for i s.policy s.rule) s)
+IsMessageStateOf i st q (Some (Answered v)) = (is_live st q ≡ true) × HasMessageFlags (st.messages q) true None true × (s : Snapshot) × (snapshot_in st q ≡ Some s) × (v ≡ verdict (read_at i st s.policy s.rule) s)
 IsMessageStateOf i st q (Some (Faulted errno)) = (is_live st q ≡ true) × HasMessageFlags (st.messages q) true (Some errno) false
 
 -- a number is that of a call that this thread holds, or has held

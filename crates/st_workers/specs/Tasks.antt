@@ -13,7 +13,7 @@ use Rattle.st_trace.specs.declared.entry.Entry.TheVariants as entry
 use Rattle.st_law.specs.declared.input.Input.{Input}
 use Rattle.st_law.specs.Machine.{worker_entry}
 use Rattle.st_law.specs.Messages.{Head}
-use Rattle.st_law.specs.State.{State, is_live, read_for, word_for}
+use Rattle.st_law.specs.State.{State, is_live, read_at, word_for}
 use Rattle.st_workers.specs.UnderWay.{UnderWay, turn_of_worker}
 use Rattle.st_workers.specs.declared.task.Task.{Task}
 use Rattle.st_workers.specs.declared.task.Task.TheVariants.{Rest, Claim, Copy, Look as LookAt, Fault, Answer}
@@ -104,4 +104,4 @@ IsTask i st kept worker Claim = (q : ℕ) × (worker_entry i st worker ≡ Some 
 IsTask i st kept worker (Copy seq pid part place) = (worker_entry i st worker ≡ Some (entry.Copied seq part place (word_for st seq place))) × IsOfProcess st seq pid
 IsTask i st kept worker (LookAt seq part) = (name : Components) × (worker_entry i st worker ≡ Some (entry.Looked seq part name (look st.tree name)))
 IsTask i st kept worker (Fault seq errno) = worker_entry i st worker ≡ Some (entry.Faulted seq errno)
-IsTask i st kept worker Answer = (s : Snapshot) × (turn_of_worker kept worker ≡ Some (turn.Ready s)) × (worker_entry i st worker ≡ Some (entry.Answered worker s (verdict (read_for i s.policy s.rule) s) (is_live st s.seq)))
+IsTask i st kept worker Answer = (s : Snapshot) × (turn_of_worker kept worker ≡ Some (turn.Ready s)) × (worker_entry i st worker ≡ Some (entry.Answered worker s (verdict (read_at i st s.policy s.rule) s) (is_live st s.seq)))

@@ -5,7 +5,7 @@ ghost use Rattle.st_calls.specs.declared.call.SysCall.{SysCall};
 ghost use Rattle.st_filter.specs.Judging.{verdict as judged};
 ghost use Rattle.st_law.specs.Machine.{first_state, worker_entry};
 ghost use Rattle.st_law.specs.Messages.{new_head};
-ghost use Rattle.st_law.specs.State.{State, is_live as is_live_in, read_for, snapshot_in, Message};
+ghost use Rattle.st_law.specs.State.{State, is_live as is_live_in, read_at, snapshot_in, Message};
 ghost use Rattle.st_law.specs.declared.input.Input.{Input};
 ghost use Rattle.st_lookaside.specs.Need.{IsShort};
 ghost use Rattle.st_lookaside.specs.Slots.{slot_at};
@@ -294,7 +294,7 @@ impl Workers {
         ensures workers { self.new.calls.workers ≡ self.old.calls.workers }
         ensures calls { result.1 ≡ Applied → self.new.calls ≡ with_state self.old.calls result.0.seq (Answered verdict) }
         ensures stale { result.1 ≡ Stale → self.new.calls ≡ self.old.calls }
-        ensures kept { (i : Input) (st : State) (alive : ℕ → Bool) → RepresentsMessages i st alive self.old → verdict ≡ judged (read_for i result.0.policy result.0.rule) result.0 → RepresentsMessagesAfter i st (entry.Answered worker result.0 verdict (alive result.0.seq)) alive self.new }
+        ensures kept { (i : Input) (st : State) (alive : ℕ → Bool) → RepresentsMessages i st alive self.old → verdict ≡ judged (read_at i st result.0.policy result.0.rule) result.0 → RepresentsMessagesAfter i st (entry.Answered worker result.0 verdict (alive result.0.seq)) alive self.new }
     {
         let turn = std::mem::replace(&mut self.turns[worker as usize - 1], Turn::Idle);
         let Turn::Ready(snapshot) = turn else {
