@@ -8,6 +8,7 @@ use Rattle.std.proofs.lemmas.Bool.{cases_eq, cases_lt, eq-eqb, eqb-false, eqb-tr
 use Rattle.std.proofs.lemmas.List.{take-append-drop}
 use Rattle.std.proofs.lemmas.List.Edits.{get_or-insert_above, get_or-insert_at, get_or-insert_below, get_or-remove_above, get_or-remove_below, length-insert, length-remove}
 use Rattle.std.proofs.lemmas.List.Quantifiers.{all_pairs_remove}
+use Rattle.std.proofs.lemmas.Option.{same_Some, slice_get-get_or}
 use Rattle.st_lookaside.specs.Slots.{is_key_of, key_at, AreAscending, IsGap, IsKeyAt}
 use Rattle.st_lookaside.specs.declared.slots.SlotKey.{SlotKey}
 
@@ -156,6 +157,31 @@ module _ (keys : List SlotKey) (ascending : AreAscending keys) (seq i : ℕ) whe
           ])
         ]
       ]
+
+-- ---- the index at which a key is inserted
+
+-- any number is inserted into no keys
+pub gap_of_none : (keys : List SlotKey) (seq : ℕ) → (0 < length keys → ⊥) → IsGap keys seq 0
+gap_of_none keys seq none = record {
+  within = omega arith;
+  before = λ k d lt. absurd (omega (arith, lt));
+  following = λ k d ge within. absurd (none (omega (arith, within)));
+}
+
+-- a number that is greater than the last one is appended
+pub gap_at_end : (keys : List SlotKey) (seq : ℕ) (last : SlotKey) → AreAscending keys → last ≡ get_or keys (length keys - 1) last → last.seq < seq → IsGap keys seq (length keys)
+gap_at_end keys seq last ascending is above = record {
+  within = omega arith;
+  before = λ k d lt. (let at = number_last d (omega (arith, lt)) in elim (cases_lt k (length keys - 1)) [
+    | inl earlier ↦ (let less = ascending k (length keys - 1) d earlier (omega (arith, lt)) in omega (arith, less, at, above))
+    | inr ge ↦ (let same : k ≡ length keys - 1 = omega (arith, lt, ge) in let number = ap (λ (n : ℕ). (get_or keys n d).seq) same in omega (arith, number, at, above))
+  ]);
+  following = λ k d ge within. absurd (omega (arith, ge, within));
+} where
+  number_last : (d : SlotKey) → 0 < length keys → (get_or keys (length keys - 1) d).seq ≡ last.seq
+  number_last d some =
+      let inside : length keys - 1 < length keys = omega (arith, some) in
+      ap (λ (key : SlotKey). key.seq) (same_Some (get_or keys (length keys - 1) d) (get_or keys (length keys - 1) last) (sym (slice_get-get_or keys (length keys - 1) d inside) ∙ slice_get-get_or keys (length keys - 1) last inside) ∙ sym is)
 
 -- ---- the index that a search finds
 

@@ -212,11 +212,12 @@ module _ (slab : Slab Slot) (keys : List SlotKey) (now : List Slot) (kept : HasS
           ∙ ap (λ (slots : List (Option Slot)). slots_of (record slab { slots = slots }) keys) (ap (set slab.slots key) (sym here) ∙ set-get_or slab.slots key None)
           ∙ view
 
-  -- a number that has no slot has no index
-  pub taken : (i : ℕ) → IsKeyAt keys seq i → (d : SlotKey) → slot_at now seq ≡ None → ⊥
-  taken i at d none =
-      let found = found_at keys kept.ascending seq i at d in
-      true≢false (sym (subst IsSome none (subst IsSome (sym (now_is ∙ ap (under slab) found)) (is_used (get_or keys i d).key found))))
+  -- a number that has no slot has no key
+  pub is_free : slot_at now seq ≡ None → key_at keys seq ≡ None
+  is_free none = by (key_at keys seq) refl where
+    by : (o : Option ℕ) → key_at keys seq ≡ o → o ≡ None
+    by None found = refl
+    by (Some key) found = absurd (true≢false (sym (subst IsSome none (subst IsSome (sym (now_is ∙ ap (under slab) found)) (is_used key found)))))
 
   module _ (i : ℕ) (gap : IsGap keys seq i) (new : Slab Slot) (key : ℕ) (free : get slab key ≡ None) (slot : Slot) (updates : Updates slab new key (Some slot)) (number : slot.head.seq ≡ seq) where
     pub kept_insert : slab_len new ≡ slab_len slab + 1 → HasSlots new (insert keys i (record { seq = seq; key = key }))
@@ -289,8 +290,8 @@ module _ (slab : Slab Slot) (keys : List SlotKey) (now : List Slot) (kept : HasS
   others_ascending = ascending_remove keys kept.ascending seq i at
 
   -- a number that is free is none of theirs
-  pub free_of : (fresh j : ℕ) → IsKeyAt (remove keys i) fresh j → slot_at now fresh ≡ None → ⊥
-  free_of fresh j there free = taken (without slab key) (remove keys i) (slots_of (without slab key) (remove keys i)) kept_without refl fresh j there any (still_free now (slots_of (without slab key) (remove keys i)) seq fresh out free)
+  pub free_of : (fresh : ℕ) → slot_at now fresh ≡ None → key_at (remove keys i) fresh ≡ None
+  free_of fresh free = is_free (without slab key) (remove keys i) (slots_of (without slab key) (remove keys i)) kept_without refl fresh (still_free now (slots_of (without slab key) (remove keys i)) seq fresh out free)
 
   module _ (slot after : Slot) (here : get slab key ≡ Some slot) (fresh j : ℕ) (gap : IsGap (remove keys i) fresh j) (number : after.head.seq ≡ fresh) where
     comes : Updates (without slab key) (with_value slab key after) key (Some after)

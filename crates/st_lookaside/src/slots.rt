@@ -87,6 +87,36 @@ fn place_of(keys: &VecDeque<SlotKey>, seq: Seq) -> Result<usize, usize>
     }
 }
 
+// The index at which the key of a number without one is inserted, if it isn't the end.
+#[inline(never)]
+fn gap_within(keys: &VecDeque<SlotKey>, seq: Seq) -> usize
+    requires ascending { AreAscending keys.now.items }
+    requires free { key_at keys.now.items seq ≡ None }
+    ensures { IsGap keys.now.items seq result }
+{
+    let Err(place) = search_of(keys, seq) else {
+        unreachable!()
+    };
+    place
+}
+
+// The index at which the key of a number without one is inserted. The numbers of new messages ascend, so it usually is the end.
+#[inline]
+fn gap_of(keys: &VecDeque<SlotKey>, seq: Seq) -> usize
+    requires ascending { AreAscending keys.now.items }
+    requires free { key_at keys.now.items seq ≡ None }
+    ensures { IsGap keys.now.items seq result }
+{
+    let Some(last) = keys.back() else {
+        return 0;
+    };
+    if last.seq < seq {
+        keys.len()
+    } else {
+        gap_within(keys, seq)
+    }
+}
+
 // The key of the slot of a number that has one.
 #[inline]
 fn key_of(keys: &VecDeque<SlotKey>, seq: Seq) -> usize
@@ -143,9 +173,7 @@ impl Slots {
         ensures err { OnErr result (self.new ≡ self.old) }
     {
         let seq = head.seq;
-        let Err(place) = place_of(&self.keys, seq) else {
-            unreachable!()
-        };
+        let place = gap_of(&self.keys, seq);
         self.keys.reserve(1)?;
         let slot = Slot::new(alloc, head)?;
         let Ok(key) = self.slab.insert(slot) else {
@@ -257,9 +285,7 @@ impl Slots {
         let key = take_out(&mut self.keys, place);
         let slot = &mut self.slab[key];
         slot.renew(new, ids, cwd);
-        let Err(place) = place_of(&self.keys, new) else {
-            unreachable!()
-        };
+        let place = gap_of(&self.keys, new);
         put_in(&mut self.keys, place, new, key);
     }
 

@@ -1,11 +1,12 @@
 -- Which message is found under a number, after one gets another state, is removed or is appended.
 use Rattle.std.proofs.Common.{zero, suc, ◌≡◌, ◌≢◌, ℕ, ◌<◌, ◌≤◌, Bool, true, false, cond, ◌==◌, List, [], ◌∷◌, ◌++◌, length, get_or, set, Option, Some, None, inl, inr, refl, ap, sym, ◌∙◌, subst, arith}
-use Rattle.std.proofs.lemmas.Bool.{cases_eq, eq-eqb, ne_eqb, eqb-true, ltb-false, true≢false}
+use Rattle.std.proofs.lemmas.Bool.{cases_eq, cases_lt, eq-eqb, ne_eqb, eqb-true, le-ltb, lt-ltb, ltb-false, ltb-true, true≢false}
 use Rattle.std.proofs.lemmas.List.Folds.{find-append, find_at}
 use Rattle.std.proofs.lemmas.List.Quantifiers.{position-Some}
 use Rattle.std.proofs.lemmas.List.Sums.{position_or_len_is}
 use Rattle.std.proofs.lemmas.Option.{none-some, slice_get-get_or, slice_get_past}
-use Rattle.std.specs.List.{find, position, position_or_len}
+use Rattle.std.specs.List.{find, position, position_or_len, remove}
+use Rattle.std.specs.List.Sorted.{IsPartitionedBy, IsPartitionPoint}
 use Rattle.std.specs.Option.{option_map, option_or}
 use Rattle.std.specs.Prelude.{nat_lt, slice_get}
 use Rattle.st_messages.specs.declared.message.MsgState.{MsgState}
@@ -93,22 +94,64 @@ module _ (live : List Message) (from to i : ℕ) (m : Message) (are : AreBetween
   pub set-placed : (state : MsgState) → set live i (moved state m) ≡ with_state_in live m.seq state
   set-placed state = ap (λ (x : Message). set live i (moved state x)) m_is ∙ set-at live m.seq state i m inside here before
 
+-- ---- the index of a number
+
+module _ (live : List Message) (from to seq : ℕ) (are : AreBetween from live to) where
+  -- no smaller number comes after a greater one
+  pub parted : IsPartitionedBy (λ (m : Message). nat_lt m.seq seq) live
+  parted i j d le inside passes = elim (cases_lt i j) [
+    | inl lt ↦ (let less = numbers_go_up live from to j i d are inside lt in let top = ltb-true (get_or live j d).seq seq passes in lt-ltb (get_or live i d).seq seq (omega (arith, less, top)))
+    | inr ge ↦ (let same : i ≡ j = omega (arith, le, ge) in ap (λ (n : ℕ). nat_lt (get_or live n d).seq seq) same ∙ passes)
+  ]
+
+  abbrev index : ℕ → Option ℕ
+  index n = cond (nat_lt n (length live)) (Some n) None
+
+  -- a message with the number is at its index
+  pub position_there : (i : ℕ) (d : Message) → i < length live → (get_or live i d).seq ≡ seq → position (is_message_of seq) live ≡ Some i
+  position_there i d inside is =
+      let at = position_or_len_is (is_message_of seq) live i d (omega (arith, inside)) (λ k below. ne_eqb (get_or live k d).seq seq (λ e. omega (arith, e, is, numbers_go_up live from to i k d are inside below))) (λ _. eq-eqb (get_or live i d).seq seq is) in
+      ap index at ∙ rw (lt-ltb i (length live) inside) refl
+
+  -- no message has the number
+  position_nowhere : (d : Message) → ((k : ℕ) → k < length live → (get_or live k d).seq ≢ seq) → position (is_message_of seq) live ≡ None
+  position_nowhere d none =
+      let at = position_or_len_is (is_message_of seq) live (length live) d (omega arith) (λ k inside. ne_eqb (get_or live k d).seq seq (none k inside)) (λ inside. absurd (omega (arith, inside))) in
+      ap index at ∙ rw (le-ltb (length live) (length live) (omega arith)) refl
+
+  module _ (i : ℕ) (point : IsPartitionPoint (λ (m : Message). nat_lt m.seq seq ≡ true) (λ (m : Message). nat_lt m.seq seq ≡ false) live i) where
+    less : (k : ℕ) (d : Message) → k < i → (get_or live k d).seq ≢ seq
+    less k d before e = let lt = ltb-true (get_or live k d).seq seq (point.0 k d (omega arith) before) in omega (arith, lt, e)
+
+    -- all numbers are smaller
+    pub position_past : length live ≤ i → position (is_message_of seq) live ≡ None
+    position_past end = position_nowhere (waiting_message 0 0) (λ k inside. less k (waiting_message 0 0) (omega (arith, end, inside)))
+
+    -- the numbers are smaller or greater
+    pub position_between : (d : Message) → i < length live → (get_or live i d).seq ≢ seq → position (is_message_of seq) live ≡ None
+    position_between d inside apart = position_nowhere d (λ k within. elim (cases_lt k i) [
+      | inl lt ↦ less k d lt
+      | inr ge ↦ (let least = ltb-false (get_or live i d).seq seq (point.1 i d (omega arith) inside) in elim (cases_eq k i) [
+        | inl e ↦ (λ same. apart (ap (λ (n : ℕ). (get_or live n d).seq) (sym e) ∙ same))
+        | inr ne ↦ (let more = numbers_go_up live from to k i d are within (omega (arith, ge, ne)) in λ same. omega (arith, more, least, same))
+      ])
+    ])
+
 -- ---- a message is removed
 
-not_longer : (live : List Message) (seq : ℕ) → length (without_number live seq) ≤ length live
-not_longer [] seq = omega arith
-not_longer (m ∷ live) seq = elim (cases_eq m.seq seq) [
-  | inl e ↦ rw (eq-eqb m.seq seq e) (omega (arith, not_longer live seq))
-  | inr ne ↦ rw (ne_eqb m.seq seq ne) (omega (arith, not_longer live seq))
-]
+none_without : (live : List Message) (from to seq : ℕ) → AreBetween from live to → seq < from → without_number live seq ≡ live
+none_without [] from to seq are below = refl
+none_without (m ∷ live) from to seq are below =
+    rw (ne_eqb m.seq seq (λ e. omega (arith, e, are.0))) (ap (λ (ms : List Message). m ∷ ms) (none_without live (suc m.seq) to seq are.1 (omega (arith, are.0))))
 
--- the messages that are left after one is removed
-pub shorter : (live : List Message) (seq : ℕ) (message : Message) → message_in live seq ≡ Some message → length (without_number live seq) < length live
-shorter [] seq message is = absurd (none-some message is)
-shorter (m ∷ live) seq message is = elim (cases_eq m.seq seq) [
-  | inl e ↦ rw (eq-eqb m.seq seq e) (omega (arith, not_longer live seq))
-  | inr ne ↦ let apart = ne_eqb m.seq seq ne in rw apart (omega (arith, shorter live seq message (rw apart at is)))
-]
+-- the message of a number is removed at its index
+pub removed-at : (live : List Message) (from to seq i : ℕ) (d : Message) → AreBetween from live to → i < length live → (get_or live i d).seq ≡ seq → remove live i ≡ without_number live seq
+removed-at [] from to seq i d are inside is = absurd (omega (arith, inside))
+removed-at (m ∷ live) from to seq zero d are inside is =
+    rw (eq-eqb m.seq seq is) (sym (none_without live (suc m.seq) to seq are.1 (omega (arith, is))))
+removed-at (m ∷ live) from to seq (suc i) d are inside is =
+    let less = numbers_go_up (m ∷ live) from to (suc i) 0 d are inside (omega arith) in
+    rw (ne_eqb m.seq seq (λ e. omega (arith, e, is, less))) (ap (λ (ms : List Message). m ∷ ms) (removed-at live (suc m.seq) to seq i d are.1 (omega (arith, inside)) is))
 
 found_without-by : (m : Message) (live : List Message) (seq other : ℕ) (a b : Bool) → (m.seq == seq) ≡ a → (m.seq == other) ≡ b
     → message_in (without_number live seq) other ≡ cond (other == seq) None (message_in live other)

@@ -1,42 +1,67 @@
-ghost use Rattle.std.specs.Prelude.{◌≡◌, ◌<◌, ℕ, IfSome, Some, true, is_some, find, vec_len, vec_capacity};
+ghost use Rattle.std.specs.Prelude.{◌≡◌, ◌<◌, ℕ, IfSome, Some, true, is_some, find, length};
 ghost use Rattle.std.specs.List.{position};
+ghost use Rattle.std.specs.VecDeque.{deque_capacity};
 ghost use Rattle.st_messages.specs.Messages.{is_message_of, is_unclaimed, message_in, without_number, AreBetween};
 
 use crate::message::{Message, MsgState};
 use st_base::Seq;
+use std::collections::VecDeque;
 
-/// The index of the message of this number.
-pub fn place_of(live: &[Message], seq: Seq) -> Option<usize>
-    ensures { result ≡ position (is_message_of seq) live.now }
+// The index of the message of this number, if it is its number less that of the first message. Calls usually end in the order in which they
+// were entered, and then it is.
+#[inline]
+fn guess_of(live: &VecDeque<Message>, seq: Seq) -> Option<usize>
+    requires { (to : ℕ) × AreBetween 1 live.now.items to }
+    ensures { IfSome result (λ place. position (is_message_of seq) live.now.items ≡ Some place) }
 {
-    live.iter().position(|message| message.seq == seq)
-}
-
-// The message of this number, if its index is its number less that of the first message. Calls usually end in the order in which they were
-// entered, and then it is.
-fn guess_of(live: &[Message], seq: Seq) -> Option<Message>
-    requires { (to : ℕ) × AreBetween 1 live.now to }
-    ensures { IfSome result (λ message. message_in live.now seq ≡ Some message) }
-{
-    let first = live.first()?;
+    let first = live.front()?;
     let place = seq.checked_sub(first.seq)? as usize;
+    if place == 0 {
+        return Some(0);
+    }
     let message = live.get(place)?;
     if message.seq == seq {
-        Some(*message)
+        Some(place)
     } else {
         None
     }
 }
 
-/// The message of this number, if it is live.
-pub fn message_of(live: &[Message], seq: Seq) -> Option<Message>
-    requires { (to : ℕ) × AreBetween 1 live.now to }
-    ensures { result ≡ message_in live.now seq }
+// The same for any message, in logarithmic time.
+#[inline(never)]
+fn search_of(live: &VecDeque<Message>, seq: Seq) -> Option<usize>
+    requires { (to : ℕ) × AreBetween 1 live.now.items to }
+    ensures { result ≡ position (is_message_of seq) live.now.items }
+{
+    let place = live.partition_point(|message| message.seq < seq);
+    let message = live.get(place)?;
+    if message.seq == seq {
+        Some(place)
+    } else {
+        None
+    }
+}
+
+/// The index of the message of this number.
+#[inline]
+pub fn place_of(live: &VecDeque<Message>, seq: Seq) -> Option<usize>
+    requires { (to : ℕ) × AreBetween 1 live.now.items to }
+    ensures { result ≡ position (is_message_of seq) live.now.items }
 {
     match guess_of(live, seq) {
-        Some(message) => Some(message),
-        None => live.iter().copied().find(|message| message.seq == seq),
+        Some(place) => Some(place),
+        None => search_of(live, seq),
     }
+}
+
+/// The message of this number, if it is live.
+#[inline(always)]
+pub fn message_of(live: &VecDeque<Message>, seq: Seq) -> Option<Message>
+    requires { (to : ℕ) × AreBetween 1 live.now.items to }
+    ensures { result ≡ message_in live.now.items seq }
+{
+    let place = place_of(live, seq)?;
+    Some(live[place])
 }
 
 // Whether no worker has claimed a message.
@@ -47,30 +72,33 @@ fn is_waiting(message: &Message) -> bool
 }
 
 /// The index of the first waiting message.
-pub fn waiting_place(live: &[Message]) -> Option<usize>
-    ensures { result ≡ position is_unclaimed live.now }
+pub fn waiting_place(live: &VecDeque<Message>) -> Option<usize>
+    ensures { result ≡ position is_unclaimed live.now.items }
 {
     live.iter().position(is_waiting)
 }
 
 /// The first waiting message.
-pub fn first_waiting(live: &[Message]) -> Option<Message>
-    ensures { result ≡ find is_unclaimed live.now }
+pub fn first_waiting(live: &VecDeque<Message>) -> Option<Message>
+    ensures { result ≡ find is_unclaimed live.now.items }
 {
     live.iter().copied().find(|message| is_waiting(message))
 }
 
-/// Removes a live message and returns it, which leaves room for another.
-pub fn take(live: &mut Vec<Message>, seq: Seq) -> Message
+/// Removes a live message and returns it, which leaves room for another. The first to be posted usually ends first, and then no other is
+/// moved.
+pub fn take(live: &mut VecDeque<Message>, seq: Seq) -> Message
     requires there { is_some (message_in live.old.items seq) ≡ true }
     requires ordered { (to : ℕ) × AreBetween 1 live.old.items to }
     ensures message { message_in live.old.items seq ≡ Some result }
     ensures others { live.new.items ≡ without_number live.old.items seq }
-    ensures room { vec_len live.new < vec_capacity live.new }
+    ensures room { length live.new.items < deque_capacity live.new }
 {
-    let Some(message) = message_of(live, seq) else {
+    let Some(place) = place_of(live, seq) else {
         unreachable!()
     };
-    live.retain(|message| message.seq != seq);
+    let Some(message) = live.remove(place) else {
+        unreachable!()
+    };
     message
 }

@@ -9,6 +9,7 @@ use crate::message::{Delivered, Message, MsgState};
 use st_base::{Errno, Seq, Tid, Worker};
 use st_calls::Verdict;
 use std::alloc::{AllocError, Global};
+use std::collections::VecDeque;
 use std::marker::Model;
 
 /// The messages of held calls. Each has a number, from 1 in the order of posting, that is used once. The least waiting number is claimed
@@ -18,7 +19,7 @@ pub struct Messages {
     workers: u32,
     next: Seq,
     // In the order of their numbers. A thread has at most one, so there are few, however long the run is.
-    live: Vec<Message>,
+    live: VecDeque<Message>,
 }
 
 impl Model for Messages {
@@ -43,7 +44,7 @@ impl Messages {
         Messages {
             workers,
             next: 1,
-            live: Vec::new(alloc),
+            live: VecDeque::new(alloc),
         }
     }
 
@@ -114,7 +115,7 @@ impl Messages {
         ensures err { OnErr result (self.new ≡ self.old) }
     {
         let seq = self.next;
-        self.live.push(Message {
+        self.live.push_back(Message {
             seq,
             tid,
             state: MsgState::Waiting,
@@ -184,7 +185,7 @@ impl Messages {
         let message = live::take(&mut self.live, seq);
         let fresh = self.next;
         self.next = fresh + 1;
-        self.live.push_reserved(Message {
+        self.live.push_back_reserved(Message {
             seq: fresh,
             tid: message.tid,
             state: MsgState::Waiting,

@@ -1,16 +1,20 @@
-use Rattle.std.proofs.Common.{◌≡◌, ◌∙◌, ap, sym, length, not, arith, rules}
-use Rattle.st_messages.specs.Messages.{is_message_of, message_in, without_number}
-use Rattle.std.proofs.lemmas.Fn.{filter_same}
-use Rattle.st_messages.proofs.Lookups.{shorter}
+use Rattle.std.proofs.Common.{◌∙◌, Some, ap, sym}
+use Rattle.std.proofs.lemmas.Bool.{eqb-true, true≢false}
+use Rattle.std.proofs.lemmas.List.Quantifiers.{position-Some}
+use Rattle.std.specs.Prelude.{is_some}
+use Rattle.st_messages.specs.Messages.{is_message_of}
+use Rattle.st_messages.proofs.Lookups.{found_first, found_nowhere, removed-at}
 use Rattle.st_messages.proofs.live.take.Goals as goal
 
-left : (c : goal.After-retain) → c.retain.new.self.items ≡ without_number c.args.live.now.items c.args.seq
-left c = filter_same _ (λ message. not (is_message_of c.args.seq message)) _ (λ x b f' k. search rules) _ _ c.retain.ensures.filtered
+pub unreachable-requires : goal.unreachable-requires
+unreachable-requires c = true≢false (sym c.requires.there ∙ ap is_some (found_nowhere (is_message_of c.args.seq) c.args.live.now.items (sym c.place_of.ensures ∙ c.in_default.is)))
+
+pub returns-clause-message : goal.returns-clause-message
+returns-clause-message c =
+    found_first (is_message_of c.args.seq) c.args.live.now.items c.in-Some.place c.in-Some-remove.message (sym c.place_of.ensures ∙ c.in-Some.is) ∙ ap Some (sym c.in-Some-remove.ensures.value)
 
 pub returns-clause-others : goal.returns-clause-others
-returns-clause-others c = left c
-
-pub returns-clause-room : goal.returns-clause-room
-returns-clause-room c =
-    let fewer = shorter c.args.live.now.items c.args.seq c.in-Some.message (sym (c.message_of.ensures ∙ ap (λ live. message_in live c.args.seq) c.deref.ensures.value) ∙ c.in-Some.is) in
-    omega (arith, fewer, ap length (left c), c.args.live.now.ok.0, c.args.live.now.ok.1, c.retain.new.self.ok.0, c.retain.ensures.capacity)
+returns-clause-others c =
+    let live = c.args.live.now.items in
+    let at = position-Some (is_message_of c.args.seq) live c.in-Some.place c.in-Some-remove.message (sym c.place_of.ensures ∙ c.in-Some.is) in
+    c.in-Some-remove.ensures.items ∙ removed-at live 1 c.requires.ordered.0 c.args.seq c.in-Some.place c.in-Some-remove.message c.requires.ordered.1 at.0 (eqb-true _ c.args.seq at.1)

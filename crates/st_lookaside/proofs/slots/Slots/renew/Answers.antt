@@ -3,7 +3,7 @@ use Rattle.std.specs.List.{insert}
 use Rattle.slab.specs.Slab.{with_value}
 use Rattle.st_lookaside.specs.Slot as slot
 use Rattle.st_lookaside.specs.Slot.{renewed}
-use Rattle.st_lookaside.specs.Slots.{slots_of, AreAscending, HasSlots, IsGap, IsKeyAt, RenewsSlot}
+use Rattle.st_lookaside.specs.Slots.{key_at, slots_of, AreAscending, HasSlots, IsGap, RenewsSlot}
 use Rattle.st_lookaside.specs.declared.slots.SlotKey.{SlotKey}
 use Rattle.st_lookaside.proofs.Numbers.{free_of, gone, has_key, known_of, others_ascending, kept_renew, renewed_key, renews}
 use Rattle.st_lookaside.proofs.slots.Slots.renew.Goals as goal
@@ -14,20 +14,20 @@ unreachable-requires c = gone c.self.inside.slab c.self.inside.keys.items c.args
 pub index_mut-slot-requires : goal.index_mut-slot-requires
 index_mut-slot-requires c = has_key c.self.inside.slab c.self.inside.keys.items c.args.self.now c.self.invariant c.self.view_is c.args.old c.in-Ok.place c.in-Ok.ensures.found c.take_out-key.result c.take_out-key.ensures.value
 
-pub place_of-requires-2 : goal.place_of-requires-2
-place_of-requires-2 c = subst AreAscending (sym c.take_out-key.ensures.items) (others_ascending c.self.inside.slab c.self.inside.keys.items c.args.self.now c.self.invariant c.self.view_is c.args.old c.in-Ok.place c.in-Ok.ensures.found c.take_out-key.result c.take_out-key.ensures.value)
+pub gap_of-place-requires-clause-ascending : goal.gap_of-place-requires-clause-ascending
+gap_of-place-requires-clause-ascending c = subst AreAscending (sym c.take_out-key.ensures.items) (others_ascending c.self.inside.slab c.self.inside.keys.items c.args.self.now c.self.invariant c.self.view_is c.args.old c.in-Ok.place c.in-Ok.ensures.found c.take_out-key.result c.take_out-key.ensures.value)
 
-pub unreachable-requires-in_default-place_of : goal.unreachable-requires-in_default-place_of
-unreachable-requires-in_default-place_of c =
-    free_of c.self.inside.slab c.self.inside.keys.items c.args.self.now c.self.invariant c.self.view_is c.args.old c.in-Ok.place c.in-Ok.ensures.found c.take_out-key.result c.take_out-key.ensures.value c.args.new c.in_default-place_of.field-0
-    (subst (λ (keys : List SlotKey). IsKeyAt keys c.args.new c.in_default-place_of.field-0) c.take_out-key.ensures.items c.in_default-place_of.ensures.found) c.requires.free
+pub gap_of-place-requires-clause-free : goal.gap_of-place-requires-clause-free
+gap_of-place-requires-clause-free c =
+    ap (λ (keys : List SlotKey). key_at keys c.args.new) c.take_out-key.ensures.items
+    ∙ free_of c.self.inside.slab c.self.inside.keys.items c.args.self.now c.self.invariant c.self.view_is c.args.old c.in-Ok.place c.in-Ok.ensures.found c.take_out-key.result c.take_out-key.ensures.value c.args.new c.requires.free
 
 pub invariant_of-self : goal.invariant_of-self
 invariant_of-self c =
     let key : SlotKey = record { seq = c.args.new; key = c.take_out-key.result } in
     subst (λ (keys : List SlotKey). HasSlots (with_value c.self.inside.slab c.take_out-key.result c.renew.new.self) keys)
-    (sym (c.put_in.ensures ∙ ap (λ (keys : List SlotKey). insert keys c.in-Err.place key) c.take_out-key.ensures.items))
-    (kept_renew c.self.inside.slab c.self.inside.keys.items c.args.self.now c.self.invariant c.self.view_is c.args.old c.in-Ok.place c.in-Ok.ensures.found c.take_out-key.result c.take_out-key.ensures.value c.index_mut-slot.result.now c.renew.new.self c.index_mut-slot.ensures.value c.args.new c.in-Err.place (subst (λ (keys : List SlotKey). IsGap keys c.args.new c.in-Err.place) c.take_out-key.ensures.items c.in-Err.ensures.missing) (ap (λ (s : slot.Slot). s.head.seq) c.renew.ensures))
+    (sym (c.put_in.ensures ∙ ap (λ (keys : List SlotKey). insert keys c.gap_of-place.result key) c.take_out-key.ensures.items))
+    (kept_renew c.self.inside.slab c.self.inside.keys.items c.args.self.now c.self.invariant c.self.view_is c.args.old c.in-Ok.place c.in-Ok.ensures.found c.take_out-key.result c.take_out-key.ensures.value c.index_mut-slot.result.now c.renew.new.self c.index_mut-slot.ensures.value c.args.new c.gap_of-place.result (subst (λ (keys : List SlotKey). IsGap keys c.args.new c.gap_of-place.result) c.take_out-key.ensures.items c.gap_of-place.ensures) (ap (λ (s : slot.Slot). s.head.seq) c.renew.ensures))
 
 pub returns : goal.returns
 returns c =
@@ -37,5 +37,5 @@ returns c =
     (λ s. RenewsSlot c.args.self.now c.args.old c.args.new (renewed s c.args.new c.args.ids c.args.cwd) after)
     (subst (λ (s : slot.Slot). RenewsSlot c.args.self.now c.args.old c.args.new s after) c.renew.ensures
     (subst (λ (keys : List SlotKey). RenewsSlot c.args.self.now c.args.old c.args.new c.renew.new.self (slots_of (with_value c.self.inside.slab c.take_out-key.result c.renew.new.self) keys))
-    (sym (c.put_in.ensures ∙ ap (λ (keys : List SlotKey). insert keys c.in-Err.place key) c.take_out-key.ensures.items))
-    (renews c.self.inside.slab c.self.inside.keys.items c.args.self.now c.self.invariant c.self.view_is c.args.old c.in-Ok.place c.in-Ok.ensures.found c.take_out-key.result c.take_out-key.ensures.value c.index_mut-slot.result.now c.renew.new.self c.index_mut-slot.ensures.value c.args.new c.in-Err.place (subst (λ (keys : List SlotKey). IsGap keys c.args.new c.in-Err.place) c.take_out-key.ensures.items c.in-Err.ensures.missing) (ap (λ (s : slot.Slot). s.head.seq) c.renew.ensures))))
+    (sym (c.put_in.ensures ∙ ap (λ (keys : List SlotKey). insert keys c.gap_of-place.result key) c.take_out-key.ensures.items))
+    (renews c.self.inside.slab c.self.inside.keys.items c.args.self.now c.self.invariant c.self.view_is c.args.old c.in-Ok.place c.in-Ok.ensures.found c.take_out-key.result c.take_out-key.ensures.value c.index_mut-slot.result.now c.renew.new.self c.index_mut-slot.ensures.value c.args.new c.gap_of-place.result (subst (λ (keys : List SlotKey). IsGap keys c.args.new c.gap_of-place.result) c.take_out-key.ensures.items c.gap_of-place.ensures) (ap (λ (s : slot.Slot). s.head.seq) c.renew.ensures))))

@@ -5,34 +5,34 @@ use Rattle.st_lookaside.specs.Slot as slot
 use Rattle.st_lookaside.specs.Slot.{new_slot}
 use Rattle.st_lookaside.specs.Slots.{slots_of, ChangesSlot, HasSlots}
 use Rattle.st_lookaside.specs.declared.slots.SlotKey.{SlotKey}
-use Rattle.st_lookaside.proofs.Numbers.{kept_insert, kept_roomier, now_inserted, taken}
+use Rattle.st_lookaside.proofs.Numbers.{kept_insert, kept_roomier, is_free, now_inserted}
 use Rattle.st_lookaside.proofs.slots.Slots.reserve.Goals as goal
 
-pub unreachable-requires : goal.unreachable-requires
-unreachable-requires c = taken c.self.inside.slab c.self.inside.keys.items c.args.self.now c.self.invariant c.self.view_is c.args.head.seq c.in_default.field-0 c.in_default.ensures.found (record { seq = 0; key = 0 }) c.requires.free
+pub gap_of-place-requires-clause-free : goal.gap_of-place-requires-clause-free
+gap_of-place-requires-clause-free c = is_free c.self.inside.slab c.self.inside.keys.items c.args.self.now c.self.invariant c.self.view_is c.args.head.seq c.requires.free
 
-pub invariant_of-self-in_default-insert : goal.invariant_of-self-in_default-insert
-invariant_of-self-in_default-insert c =
-    subst (λ (slab : Slab slot.Slot). HasSlots slab c.reserve.new.self.items) (sym c.in_default-insert.ensures.err)
+pub invariant_of-self-in_default : goal.invariant_of-self-in_default
+invariant_of-self-in_default c =
+    subst (λ (slab : Slab slot.Slot). HasSlots slab c.reserve.new.self.items) (sym c.in_default.ensures.err)
     (subst (λ (keys : List SlotKey). HasSlots (record c.self.inside.slab { capacity = c.insert.new.self.capacity }) keys) (sym c.reserve.ensures.items)
     (kept_roomier c.self.inside.slab c.self.inside.keys.items c.insert.new.self.capacity c.self.invariant))
 
-pub returns-in_default-insert-clause-err : goal.returns-in_default-insert-clause-err
-returns-in_default-insert-clause-err c =
-    ap (λ (slab : Slab slot.Slot). slots_of slab c.reserve.new.self.items) c.in_default-insert.ensures.err
+pub returns-in_default-clause-err : goal.returns-in_default-clause-err
+returns-in_default-clause-err c =
+    ap (λ (slab : Slab slot.Slot). slots_of slab c.reserve.new.self.items) c.in_default.ensures.err
     ∙ ap (λ (keys : List SlotKey). slots_of c.self.inside.slab keys) c.reserve.ensures.items ∙ c.self.view_is
 
 pub invariant_of-self-2 : goal.invariant_of-self-2
 invariant_of-self-2 c =
     let key : SlotKey = record { seq = c.args.head.seq; key = c.in-Ok.key } in
     subst (λ (keys : List SlotKey). HasSlots c.insert.new.self keys)
-    (sym (c.put_in.ensures ∙ ap (λ (keys : List SlotKey). insert keys c.in-Err.place key) c.reserve.ensures.items))
-    (kept_insert c.self.inside.slab c.self.inside.keys.items c.args.self.now c.self.invariant c.self.view_is c.args.head.seq c.in-Err.place c.in-Err.ensures.missing c.insert.new.self c.in-Ok.key c.in-Ok.ensures.was_vacant c.in_ok-slot.slot c.in-Ok.ensures.updates (ap (λ (s : slot.Slot). s.head.seq) c.in_ok-slot.ensures) c.in-Ok.ensures.len)
+    (sym (c.put_in.ensures ∙ ap (λ (keys : List SlotKey). insert keys c.gap_of-place.result key) c.reserve.ensures.items))
+    (kept_insert c.self.inside.slab c.self.inside.keys.items c.args.self.now c.self.invariant c.self.view_is c.args.head.seq c.gap_of-place.result c.gap_of-place.ensures c.insert.new.self c.in-Ok.key c.in-Ok.ensures.was_vacant c.in_ok-slot.slot c.in-Ok.ensures.updates (ap (λ (s : slot.Slot). s.head.seq) c.in_ok-slot.ensures) c.in-Ok.ensures.len)
 
 pub returns-clause-ok : goal.returns-clause-ok
 returns-clause-ok c =
     let key : SlotKey = record { seq = c.args.head.seq; key = c.in-Ok.key } in
     subst (λ (keys : List SlotKey). ChangesSlot c.args.self.now c.args.head.seq (Some (new_slot c.args.head)) (slots_of c.insert.new.self keys))
-    (sym (c.put_in.ensures ∙ ap (λ (keys : List SlotKey). insert keys c.in-Err.place key) c.reserve.ensures.items))
-    (subst (λ (s : slot.Slot). ChangesSlot c.args.self.now c.args.head.seq (Some s) (slots_of c.insert.new.self (insert c.self.inside.keys.items c.in-Err.place key))) c.in_ok-slot.ensures
-    (now_inserted c.self.inside.slab c.self.inside.keys.items c.args.self.now c.self.invariant c.self.view_is c.args.head.seq c.in-Err.place c.in-Err.ensures.missing c.insert.new.self c.in-Ok.key c.in-Ok.ensures.was_vacant c.in_ok-slot.slot c.in-Ok.ensures.updates (ap (λ (s : slot.Slot). s.head.seq) c.in_ok-slot.ensures)))
+    (sym (c.put_in.ensures ∙ ap (λ (keys : List SlotKey). insert keys c.gap_of-place.result key) c.reserve.ensures.items))
+    (subst (λ (s : slot.Slot). ChangesSlot c.args.self.now c.args.head.seq (Some s) (slots_of c.insert.new.self (insert c.self.inside.keys.items c.gap_of-place.result key))) c.in_ok-slot.ensures
+    (now_inserted c.self.inside.slab c.self.inside.keys.items c.args.self.now c.self.invariant c.self.view_is c.args.head.seq c.gap_of-place.result c.gap_of-place.ensures c.insert.new.self c.in-Ok.key c.in-Ok.ensures.was_vacant c.in_ok-slot.slot c.in-Ok.ensures.updates (ap (λ (s : slot.Slot). s.head.seq) c.in_ok-slot.ensures)))

@@ -12,7 +12,7 @@ use Rattle.st_messages.proofs.messages.Messages.claim.Goals as goal
 none : (c : goal.After-from_residual) → find is_unclaimed c.args.self.now.live ≡ None
 none c =
     found_nowhere is_unclaimed c.args.self.now.live (
-    ap (λ (calls : HeldCalls). position is_unclaimed calls.live) (sym c.self.view_is) ∙ sym (c.waiting_place.ensures ∙ ap (position is_unclaimed) c.deref.ensures.value) ∙ c.in_err-place.was
+    ap (λ (calls : HeldCalls). position is_unclaimed calls.live) (sym c.self.view_is) ∙ sym c.waiting_place.ensures ∙ c.in_err-place.was
     )
 
 pub returns-in_err-place-clause-none : goal.returns-in_err-place-clause-none
@@ -28,7 +28,7 @@ first c = get_or c.args.self.now.live c.in_ok-place.place (waiting_message 0 0)
 found : (c : goal.After-set_state_at) → find is_unclaimed c.args.self.now.live ≡ Some (first c)
 found c =
     found_first is_unclaimed c.args.self.now.live c.in_ok-place.place (waiting_message 0 0) (
-    ap (λ (calls : HeldCalls). position is_unclaimed calls.live) (sym c.self.view_is) ∙ sym (c.waiting_place.ensures ∙ ap (position is_unclaimed) c.deref.ensures.value) ∙ c.in_ok-place.was
+    ap (λ (calls : HeldCalls). position is_unclaimed calls.live) (sym c.self.view_is) ∙ sym c.waiting_place.ensures ∙ c.in_ok-place.was
     )
 
 least : (c : goal.After-set_state_at) → IsLeastWaiting c.args.self.now c.set_state_at.result

@@ -7,11 +7,11 @@ use Rattle.st_messages.specs.declared.message.MsgState.TheVariants.{Waiting}
 use Rattle.st_messages.proofs.Whole.{next_none, states_posted, threads_posted, whole-posted}
 use Rattle.st_messages.proofs.messages.Messages.post.Goals as goal
 
-left : (c : goal.After-self-1) → record { workers = c.self.inside.workers; next = c.self.inside.next + 1; live = c.push.new.self.items } ≡ calls_after_post c.args.self.now c.args.tid
-left c = (λ i. record { workers = c.self.inside.workers; next = add-one c.self.inside.next i; live = c.in_ok-push.ensures.items i }) ∙ ap (λ (calls : HeldCalls). calls_after_post calls c.args.tid) c.self.view_is
+left : (c : goal.After-self-1) → record { workers = c.self.inside.workers; next = c.self.inside.next + 1; live = c.push_back.new.self.items } ≡ calls_after_post c.args.self.now c.args.tid
+left c = (λ i. record { workers = c.self.inside.workers; next = add-one c.self.inside.next i; live = c.in_ok-push_back.ensures.items i }) ∙ ap (λ (calls : HeldCalls). calls_after_post calls c.args.tid) c.self.view_is
 
-pub returns-in_err-push-clause-fresh : goal.returns-in_err-push-clause-fresh
-returns-in_err-push-clause-fresh c = ap (option_map (λ (message : Message). message.state)) (next_none c.args.self.now (subst AreValidCalls c.self.view_is c.self.invariant))
+pub returns-in_err-push_back-clause-fresh : goal.returns-in_err-push_back-clause-fresh
+returns-in_err-push_back-clause-fresh c = ap (option_map (λ (message : Message). message.state)) (next_none c.args.self.now (subst AreValidCalls c.self.view_is c.self.invariant))
 
 pub invariant_of-self-2 : goal.invariant_of-self-2
 invariant_of-self-2 c = subst AreValidCalls (sym (left c)) (whole-posted c.args.self.now c.args.tid (subst AreValidCalls c.self.view_is c.self.invariant) c.requires.thread)

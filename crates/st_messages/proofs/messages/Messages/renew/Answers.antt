@@ -5,16 +5,16 @@ use Rattle.st_messages.specs.declared.message.Message.{Message}
 use Rattle.st_messages.proofs.Whole.{next_none, states_renewed, thread_renewed, whole-renewed}
 use Rattle.st_messages.proofs.messages.Messages.renew.Goals as goal
 
-whole : (c : goal.After-push_reserved) → AreValidCalls c.args.self.now
+whole : (c : goal.After-push_back_reserved) → AreValidCalls c.args.self.now
 whole c = subst AreValidCalls c.self.view_is c.self.invariant
 
-found : (c : goal.After-push_reserved) → message_of_number c.args.self.now c.args.seq ≡ Some c.take-message.result
+found : (c : goal.After-push_back_reserved) → message_of_number c.args.self.now c.args.seq ≡ Some c.take-message.result
 found c = sym (ap (λ (calls : HeldCalls). message_of_number calls c.args.seq) c.self.view_is) ∙ c.take-message.ensures.message
 
-left : (c : goal.After-push_reserved) → record { workers = c.self.inside.workers; next = c.self.inside.next + 1; live = c.push_reserved.new.self.items } ≡ calls_after_renew c.args.self.now c.args.seq
+left : (c : goal.After-push_back_reserved) → record { workers = c.self.inside.workers; next = c.self.inside.next + 1; live = c.push_back_reserved.new.self.items } ≡ calls_after_renew c.args.self.now c.args.seq
 left c =
     let inside : HeldCalls = record { workers = c.self.inside.workers; next = c.self.inside.next; live = c.self.inside.live.items } in
-    let live = c.push_reserved.ensures.items ∙ ap (λ (live : List Message). live ++ waiting_message c.self.inside.next c.take-message.result.tid ∷ []) c.take-message.ensures.others in
+    let live = c.push_back_reserved.ensures.items ∙ ap (λ (live : List Message). live ++ waiting_message c.self.inside.next c.take-message.result.tid ∷ []) c.take-message.ensures.others in
     (λ i. record { workers = c.self.inside.workers; next = add-one c.self.inside.next i; live = live i })
     ∙ sym (ap (calls_after_renew_of inside c.args.seq) c.take-message.ensures.message)
     ∙ ap (λ (calls : HeldCalls). calls_after_renew calls c.args.seq) c.self.view_is

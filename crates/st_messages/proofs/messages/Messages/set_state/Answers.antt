@@ -11,7 +11,7 @@ use Rattle.st_messages.proofs.messages.Messages.set_state.Goals as goal
 number : (c : goal.After-set_state_at) → c.set_state_at.result ≡ c.args.seq
 number c =
     let default = waiting_message 0 0 in
-    let is = ap (λ (calls : HeldCalls). position (is_message_of c.args.seq) calls.live) (sym c.self.view_is) ∙ sym (c.place_of.ensures ∙ ap (position (is_message_of c.args.seq)) c.deref.ensures.value) ∙ c.in-Some.is in
+    let is = ap (λ (calls : HeldCalls). position (is_message_of c.args.seq) calls.live) (sym c.self.view_is) ∙ sym c.place_of.ensures ∙ c.in-Some.is in
     c.set_state_at.ensures.seq default ∙ eqb-true _ c.args.seq (position-Some (is_message_of c.args.seq) c.args.self.now.live c.in-Some.place default is).1
 
 pub returns-in-Some-clause-calls : goal.returns-in-Some-clause-calls
@@ -23,7 +23,7 @@ returns-in-Some-clause-states c = subst (λ seq. ChangesState c.args.self.now se
 -- a live number has an index
 nowhere : (c : goal.In_default) → ⊥
 nowhere c =
-    let none : message_in c.self.inside.live.items c.args.seq ≡ None = found_nowhere (is_message_of c.args.seq) c.self.inside.live.items (sym (c.place_of.ensures ∙ ap (position (is_message_of c.args.seq)) c.deref.ensures.value) ∙ c.in_default.is) in
+    let none : message_in c.self.inside.live.items c.args.seq ≡ None = found_nowhere (is_message_of c.args.seq) c.self.inside.live.items (sym c.place_of.ensures ∙ c.in_default.is) in
     true≢false (sym c.requires.live ∙ sym (ap (λ (calls : HeldCalls). is_live_number calls c.args.seq) c.self.view_is) ∙ ap is_some none)
 
 pub returns-in_default-clause-calls : goal.returns-in_default-clause-calls
