@@ -15,7 +15,7 @@ use Rattle.st_trace.specs.declared.entry.Entry.TheVariants.{Denied}
 use Rattle.st_law.specs.declared.input.Input.{Input}
 use Rattle.st_law.specs.Machine.{decided_entry}
 use Rattle.st_law.specs.Sessions.{SessionFilter, session_filters, verdict_or}
-use Rattle.st_law.specs.State.{State, decision_in, operator_decides, is_live, is_open_question, is_question, is_undecided, read_for, snapshot_in}
+use Rattle.st_law.specs.State.{State, decision_in, operator_decides, is_live, is_open_question, is_question, is_undecided, read_at, snapshot_in}
 use Rattle.st_law.proofs.Standing.{read_decides}
 use Rattle.st_learn.specs.Operator.{answers}
 use Rattle.st_learn.proofs.Replies.{asked_same}
@@ -32,25 +32,25 @@ use Rattle.st_decide.specs.declared.step.Step.TheVariants.{Wait, Deny}
 module _ (m : Running) (t q n : ℕ) where
   pub read_permits : (ids : Ids) (step : Step) → IsPermittedStep m t q ids step → IsDecidedStep m t q (Permit n ids) step
   read_permits ids step next st is s there read =
-      ap (decided_entry m.input st t q s) (read_decides (read_for m.input s.policy s.rule) (session_filters st.session s.policy s.rule) s (Permit n ids) read (λ e. cc)) ∙ next st is s there
+      ap (decided_entry m.input st t q s) (read_decides (read_at m.input st s.policy s.rule) (session_filters st.session s.policy s.rule) s (Permit n ids) read (λ e. cc)) ∙ next st is s there
 
   pub read_refuses : (errno : Errno) → IsDecidedStep m t q (Refuse n errno) (Deny (Some q) errno (Filter n))
   read_refuses errno st is s there read =
-      ap (decided_entry m.input st t q s) (read_decides (read_for m.input s.policy s.rule) (session_filters st.session s.policy s.rule) s (Refuse n errno) read (λ e. cc))
+      ap (decided_entry m.input st t q s) (read_decides (read_at m.input st s.policy s.rule) (session_filters st.session s.policy s.rule) s (Refuse n errno) read (λ e. cc))
 
 -- ---- the filters that were read don't decide
 
 module _ (m : Running) (st : State) (is : Refines m st) where
-  pub later_decides : (s : Snapshot) → verdict (read_for m.input s.policy s.rule) s ≡ Unmatched → decision_in m.input st s ≡ session_verdict m s
+  pub later_decides : (s : Snapshot) → verdict (read_at m.input st s.policy s.rule) s ≡ Unmatched → decision_in m.input st s ≡ session_verdict m s
   later_decides s read =
-      ap (λ (v : Verdict). verdict_or v (verdict_from (suc (length (read_for m.input s.policy s.rule))) (session_filters st.session s.policy s.rule) s)) read
-      ∙ ap (λ (session : List SessionFilter). verdict_from (suc (length (read_for m.input s.policy s.rule))) (session_filters session s.policy s.rule) s) is.operator.session
+      ap (λ (v : Verdict). verdict_or v (verdict_from (suc (length (read_at m.input st s.policy s.rule))) (session_filters st.session s.policy s.rule) s)) read
+      ∙ ap (λ (session : List SessionFilter). verdict_from (suc (length (read_at m.input st s.policy s.rule))) (session_filters session s.policy s.rule) s) is.operator.session
 
   -- a held call that they don't decide is a question iff the session doesn't decide either, and the operator would answer
   question_by : (q : ℕ) (copies : Snapshot) → IsMessageStateOf m.input st q (Some (Answered Unmatched)) → snapshot_in st q ≡ Some copies → is_question m.input st q ≡ (is_undecided (session_verdict m copies) && answers m.input m.operator copies)
   question_by q copies come there =
       let same : come.2 ≡ copies = same_Some come.2 copies (sym come.3 ∙ there) in
-      let read : verdict (read_for m.input copies.policy copies.rule) copies ≡ Unmatched = subst (λ (s : Snapshot). verdict (read_for m.input s.policy s.rule) s ≡ Unmatched) same (sym come.4) in
+      let read : verdict (read_at m.input st copies.policy copies.rule) copies ≡ Unmatched = subst (λ (s : Snapshot). verdict (read_at m.input st s.policy s.rule) s ≡ Unmatched) same (sym come.4) in
       (λ k. come.0 k && come.1.answered k && is_open_question m.input st (there k))
       ∙ (λ k. is_undecided (later_decides copies read k) && asked_same m.input st m.operator is.operator copies m.input.options.mode k)
 
@@ -60,7 +60,7 @@ module _ (m : Running) (t q : ℕ) (copies : Snapshot) (sealed : (i : Input) (st
   later_step v said step next st is s there read =
       let here : snapshot_in st q ≡ Some copies = sealed m.input st is.workers in
       let same : s ≡ copies = same_Some s copies (sym there ∙ here) in
-      let unmatched : verdict (read_for m.input copies.policy copies.rule) copies ≡ Unmatched = subst (λ (u : Snapshot). verdict (read_for m.input u.policy u.rule) u ≡ Unmatched) same read in
+      let unmatched : verdict (read_at m.input st copies.policy copies.rule) copies ≡ Unmatched = subst (λ (u : Snapshot). verdict (read_at m.input st u.policy u.rule) u ≡ Unmatched) same read in
       ap (λ (u : Snapshot). decided_entry m.input st t q u (decision_in m.input st u)) same
       ∙ ap (decided_entry m.input st t q copies) (later_decides m st is copies unmatched ∙ sym said)
       ∙ next st is here
@@ -103,7 +103,7 @@ module _ (m : Running) (st : State) (is : Refines m st) (q : ℕ) where
   decided : (v : Verdict) → v ≢ Unmatched → is_undecided v ≡ false → IsMessageStateOf m.input st q (Some (Answered v)) → is_question m.input st q ≡ false
   decided v some none come =
       (λ k. come.0 k && come.1.answered k && is_open_question m.input st (come.3 k))
-      ∙ (λ k. is_undecided (read_decides (read_for m.input come.2.policy come.2.rule) (session_filters st.session come.2.policy come.2.rule) come.2 v (sym come.4) some k) && operator_decides m.input st come.2 m.input.options.mode)
+      ∙ (λ k. is_undecided (read_decides (read_at m.input st come.2.policy come.2.rule) (session_filters st.session come.2.policy come.2.rule) come.2 v (sym come.4) some k) && operator_decides m.input st come.2 m.input.options.mode)
       ∙ ap (λ (b : Bool). b && operator_decides m.input st come.2 m.input.options.mode) none
 
   -- a message in any other state is no question

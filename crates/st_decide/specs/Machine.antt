@@ -1,13 +1,13 @@
 -- The parts of the machine that runs, and how it refines the law's machine.
 use Rattle.std.specs.Prelude.{◌≡◌, ℕ, List, length, Option, Some, None}
 use Rattle.st_base.specs.Numbered.{item_at_number}
-use Rattle.st_compile.specs.Table.{BinaryAnswers, IsTableOf}
 use Rattle.st_trace.specs.declared.entry.Choice.{Choice}
 use Rattle.st_trace.specs.declared.entry.Entry.{Entry}
 use Rattle.st_law.specs.declared.input.Input.{Input}
 use Rattle.st_law.specs.Inputs.{IsStartable}
 use Rattle.st_law.specs.Machine.{entry_of, state_after, state_of_run, thread_entry}
 use Rattle.st_law.specs.State.{State, is_live, thread_count}
+use Rattle.st_learn.specs.Answers.{Answers, AreAnswersIn}
 use Rattle.st_learn.specs.Operator.{Added, IsAdded}
 use Rattle.st_reached.specs.Grants.{RepliesUngranted, SetIdsUngranted}
 use Rattle.st_reached.specs.Scripts.{IsBounded}
@@ -20,14 +20,13 @@ use Rattle.st_decide.specs.Step.{step_entry}
 use Rattle.st_threads.specs.Thread.{ThreadRow, IsRowOf}
 use Rattle.st_decide.specs.declared.step.Step.{Step}
 
--- the machine that runs: the modelled system, the messages under way, and how far each thread of the script has come
+-- the machine that runs: the modelled system, the messages under way, how far each thread of the script has come, and what answers calls
 pub record Running : Type 0 where
   pub input : Input
   pub system : Parts
   pub workers : UnderWay
   pub threads : List ThreadRow
-  -- the kernel's own answers under the policies that were read
-  pub answers : List BinaryAnswers
+  pub answers : Answers
   -- what the operator has added
   pub operator : Added
 
@@ -47,7 +46,7 @@ pub record Refines (m : Running) (st : State) : Type 0 where
   pub workers : RepresentsMessages m.input st (is_live st) m.workers
   pub threads : (t : ℕ) → IsRowOf (item_at_number m.threads t) (st.threads t)
   pub count : length m.threads ≡ thread_count m.input
-  pub answers : IsTableOf m.input.policies m.answers
+  pub answers : AreAnswersIn m.input st m.answers
   pub operator : IsAdded m.input st m.operator
 
 -- the machine that runs represents some state of the law's machine

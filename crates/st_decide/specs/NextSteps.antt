@@ -15,7 +15,7 @@ use Rattle.st_messages.specs.declared.message.MsgState.TheVariants.{Waiting, Cla
 use Rattle.st_trace.specs.declared.entry.Cause.TheVariants.{Fault}
 use Rattle.st_trace.specs.declared.entry.Entry.TheVariants.{Denied}
 use Rattle.st_law.specs.Machine.{barred_entry, decided_entry, held_entry, pending_entry, permitted_entry, unheld_entry}
-use Rattle.st_law.specs.State.{State, answer_in, arguments_now, decision_in, link_now, process_in, read_for, snapshot_in}
+use Rattle.st_law.specs.State.{State, answer_in, arguments_now, decision_in, link_now, process_in, read_at, snapshot_in}
 use Rattle.st_law.specs.Threads.{PendingCall}
 use Rattle.st_system.specs.Fit.{AreFit, first_name}
 use Rattle.st_system.specs.System.{Parts}
@@ -63,7 +63,7 @@ IsHeldStep m t seq step = (st : State) → Refines m st → held_entry m.input s
 -- the step of a held call on whose copies the filters that were read have this verdict
 abbrev pub IsDecidedStep : Running → ℕ → ℕ → Verdict → Step → Type 0
 IsDecidedStep m t seq read step =
-    (st : State) → Refines m st → (s : Snapshot) → snapshot_in st seq ≡ Some s → verdict (read_for m.input s.policy s.rule) s ≡ read → decided_entry m.input st t seq s (decision_in m.input st s) ≡ step_entry m.input st t step
+    (st : State) → Refines m st → (s : Snapshot) → snapshot_in st seq ≡ Some s → verdict (read_at m.input st s.policy s.rule) s ≡ read → decided_entry m.input st t seq s (decision_in m.input st s) ≡ step_entry m.input st t step
 
 -- the step of a held call that is permitted under these ids
 abbrev pub IsPermittedStep : Running → ℕ → ℕ → Ids → Step → Type 0
@@ -78,7 +78,7 @@ IsStepOf m st t seq (Some Waiting) step = step_entry m.input st t step ≡ None
 IsStepOf m st t seq (Some (Claimed worker)) step = step_entry m.input st t step ≡ None
 IsStepOf m st t seq (Some (Faulted errno)) step = step_entry m.input st t step ≡ Some (Denied t (Some seq) errno Fault)
 IsStepOf m st t seq (Some (Answered read)) step =
-    (s : Snapshot) → snapshot_in st seq ≡ Some s → verdict (read_for m.input s.policy s.rule) s ≡ read → decided_entry m.input st t seq s (decision_in m.input st s) ≡ step_entry m.input st t step
+    (s : Snapshot) → snapshot_in st seq ≡ Some s → verdict (read_at m.input st s.policy s.rule) s ≡ read → decided_entry m.input st t seq s (decision_in m.input st s) ≡ step_entry m.input st t step
 
 -- ---- whether the call of a step can be made
 

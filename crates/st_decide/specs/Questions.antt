@@ -12,7 +12,8 @@ use Rattle.st_law.specs.declared.input.Input.{Input}
 use Rattle.st_learn.specs.Deciding.{lesser}
 use Rattle.st_law.specs.Machine.{least_question}
 use Rattle.st_law.specs.Sessions.{session_filters}
-use Rattle.st_law.specs.State.{State, is_live, is_question, read_for, snapshot_in}
+use Rattle.st_filter.specs.Policies.{read_filters}
+use Rattle.st_law.specs.State.{State, is_live, is_question, snapshot_in}
 use Rattle.st_decide.specs.Machine.{Refines, Running}
 use Rattle.st_threads.specs.Thread.{ThreadRow, number_held}
 
@@ -27,7 +28,7 @@ least_held rows = fold (λ least row. lesser least (number_held row)) None rows
 
 -- the verdict of the session's filters on copies; the filters are numbered on after those that were read
 abbrev pub session_verdict : Running → Snapshot → Verdict
-session_verdict m s = verdict_from (suc (length (read_for m.input s.policy s.rule))) (session_filters m.operator.filters s.policy s.rule) s
+session_verdict m s = verdict_from (suc (length (read_filters m.input.policies s.policy s.rule))) (session_filters m.operator.filters s.policy s.rule) s
 
 -- a number is a question with these copies, or it is no question
 abbrev pub IsQuestion : Running → ℕ → Option Snapshot → Type 0

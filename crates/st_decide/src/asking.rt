@@ -49,12 +49,18 @@ fn lesser_number(one: Option<Seq>, other: Option<Seq>) -> Option<Seq>
 }
 
 impl<'v, 'a> View<'v, 'a> {
+    // The verdict of the session's filters on a held call on which the filters that were read don't decide.
+    pub(crate) fn session_verdict(&self, copies: &Snapshot) -> Verdict
+        ensures { result ≡ session_verdict self.now copies.now }
+    {
+        self.operator.verdict(self.answers.compiled(), copies)
+    }
+
     // Whether the session doesn't decide on a call with these copies either, and the operator would answer it.
     fn is_asked(&self, copies: &Snapshot) -> bool
         ensures { result ≡ (is_undecided (session_verdict self.now copies.now) && answers self.now.input self.now.operator copies.now) }
     {
-        is_undecided(self.operator.verdict(&self.input.policies, copies))
-            && self.operator.answers(self.input, copies)
+        is_undecided(self.session_verdict(copies)) && self.operator.answers(self.input, copies)
     }
 
     // The copies of a number if it is a question: it is answered, no filter decides it, and the operator would answer it.

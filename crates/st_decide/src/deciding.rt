@@ -84,13 +84,7 @@ impl<'v, 'a> View<'v, 'a> {
     {
         let rule = Rule::of(call, regs, self.input.options.aliasing);
         let policy = self.system.policy(pid).get().bytes();
-        match self.answers.get(policy, rule) {
-            Some(answer) => answer,
-            None => self
-                .operator
-                .first_answer(policy, rule)
-                .unwrap_or(FastAnswer::Ask),
-        }
+        self.answers.own(policy, rule)
     }
 
     // A call that isn't held does its copies, its looks and its effect in one step.
@@ -210,7 +204,7 @@ impl<'v, 'a> View<'v, 'a> {
     {
         let shared = self.workers.snapshot(seq);
         let copies = shared.get();
-        match self.operator.verdict(&self.input.policies, copies) {
+        match self.session_verdict(copies) {
             Verdict::Permit(_, ids) => self.permitted_step(alloc, tid, seq, ids),
             Verdict::Refuse(number, errno) => Ok(deny(seq, errno, Cause::Filter(number))),
             Verdict::Unmatched if self.operator.answers(self.input, copies) => Ok(Step::Wait),

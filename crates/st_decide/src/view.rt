@@ -4,16 +4,15 @@ ghost use Rattle.st_law.specs.State.{thread_count};
 ghost use Rattle.st_decide.specs.Machine.{RefinesSomeState};
 
 use st_base::Tid;
-use st_compile::FastTable;
 use st_law::Input;
-use st_learn::Operator;
+use st_learn::{Answers, Operator};
 use st_system::System;
 use st_threads::Thread;
 use st_workers::Workers;
 use std::marker::Model;
 
 /// A view of the machine that runs in its current state: the modelled system, the messages under way with the workers that serve them, how
-/// far each thread has come, the kernel's own answers, and what the operator has added.
+/// far each thread has come, what answers calls, and what the operator has added.
 #[derive(Debug, Drop)]
 pub struct View<'v, 'a> {
     pub(crate) input: &'a Input,
@@ -21,7 +20,7 @@ pub struct View<'v, 'a> {
     pub(crate) workers: &'v Workers,
     // Thread t is at index t - 1.
     pub(crate) threads: &'v [Thread<'a>],
-    pub(crate) answers: &'v FastTable,
+    pub(crate) answers: &'v Answers<'a>,
     pub(crate) operator: &'v Operator<'a>,
 }
 
@@ -46,7 +45,7 @@ impl<'v, 'a> View<'v, 'a> {
         system: &'v System,
         workers: &'v Workers,
         threads: &'v [Thread<'a>],
-        answers: &'v FastTable,
+        answers: &'v Answers<'a>,
         operator: &'v Operator<'a>,
     ) -> Self
         requires { RefinesSomeState (record { input = input.now; system = system.now; workers = workers.now; threads = threads.now; answers = answers.now; operator = operator.now }) }

@@ -10,6 +10,7 @@ ghost use Rattle.st_kernel.specs.Kernel.{rested, state_in, trace_of, with_choice
 
 use crate::waking::woken_by;
 use st_base::Tid;
+use st_compile::Compiled;
 use st_law::Input;
 use st_learn::Session;
 use st_machine::Machine;
@@ -87,6 +88,13 @@ impl<'a> Kernel<'a> {
         ensures { result.now ≡ self.now.input }
     {
         self.machine.input()
+    }
+
+    /// The policies of the input, compiled.
+    pub fn compiled(&self) -> &Compiled<'a>
+        ensures { result.now ≡ self.now.input.policies }
+    {
+        self.machine.compiled()
     }
 
     /// The session after the choices that were made.
@@ -256,7 +264,7 @@ impl<'a> Kernel<'a> {
         let mut added = None;
         while self.make_next(alloc, &mut added)? {
             let Some(entry) = &added else { unreachable!() };
-            recorder.note(alloc, self.input(), self.session(), entry)?;
+            recorder.note(alloc, self.input(), self.compiled(), self.session(), entry)?;
         }
         Ok(())
     }

@@ -52,7 +52,7 @@ impl Kernel<'_> {
         for _ in 0..count {
             self.advance(alloc, choice, &mut added)?;
             let Some(entry) = &added else { unreachable!() };
-            recorder.note(alloc, self.input(), self.session(), entry)?;
+            recorder.note(alloc, self.input(), self.compiled(), self.session(), entry)?;
         }
         Ok(())
     }

@@ -4,7 +4,7 @@ mod Deciding
 pub mod Filters
 mod First
 mod FirstDeciding
-mod Leading
+pub mod InForce
 mod Numbers
 pub mod OperatorPlaces
 mod Permitting

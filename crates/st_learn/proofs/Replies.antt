@@ -14,15 +14,18 @@ use Rattle.st_calls.specs.declared.judged.Snapshot.{Snapshot}
 use Rattle.st_calls.specs.declared.rule.Rule.{Rule}
 use Rattle.st_filter.specs.Policies.{read_filters}
 use Rattle.st_filter.specs.declared.set.Reply.{Reply}
-use Rattle.st_trace.specs.declared.entry.Entry.TheVariants.{Replied}
+use Rattle.st_trace.specs.declared.entry.Entry.TheVariants.{Learned, Replied}
 use Rattle.st_law.specs.declared.input.Input.{Input}
 use Rattle.st_law.specs.declared.input.Mode.{Mode}
 use Rattle.st_law.specs.declared.input.Mode.TheVariants.{Enforce, Learn, AskText}
 use Rattle.st_law.specs.Machine.{question_entry, reply_entry, state_after}
-use Rattle.st_law.specs.Sessions.{is_reply_for, kept_for, replied_by, session_filters}
-use Rattle.st_law.specs.State.{State, filter_count, operator_decides, is_reply_left, next_reply, snapshot_in}
+use Rattle.st_law.specs.Sessions.{SessionFilter, is_reply_for, kept_for, learnt_by, learnt_filter, replied_by, session_filters}
+use Rattle.st_law.specs.State.{State, filter_count, operator_decides, is_reply_left, next_reply, read_at, snapshot_in}
+use Rattle.st_compile.specs.Answers.{AreAnswersUnder, InForce, with_appended}
 use Rattle.st_compile.specs.Places.{GainsPlace, LosesPlace, PolicyPlaces, policy_places}
+use Rattle.st_learn.specs.Answers.{Answers, AreAnswersIn}
 use Rattle.st_learn.specs.Operator.{Added, AreRepliesLeft, IsAdded, operator_answers, is_for_rule, is_left, is_reply_of, next_reply_left, places_among}
+use Rattle.st_learn.proofs.InForce.{answers_gain}
 use Rattle.st_learn.proofs.OperatorPlaces.{among_is, among_more, among_without, found_at, item_at, least_found, there_at}
 
 -- ---- the next reply
@@ -136,28 +139,48 @@ module _ (i : Input) (st : State) (added : Added) (is : IsAdded i st added) wher
   pub filters_same : (policy : List ℕ) (rule : Rule) → session_filters st.session policy rule ≡ session_filters added.filters policy rule
   filters_same policy rule = ap (λ session. session_filters session policy rule) is.session
 
-  number_same : (s : Snapshot) → suc (filter_count i st s) ≡ suc (length (read_filters i.policies s.policy s.rule ++ session_filters added.filters s.policy s.rule))
-  number_same s = ap (λ fs. suc (length (read_filters i.policies s.policy s.rule ++ fs))) (filters_same s.policy s.rule)
+  module _ (s : Snapshot) (there : snapshot_in st s.seq ≡ Some s) (before after : Answers) (are : AreAnswersIn i st before) (read : after.read ≡ before.read) (new : Added) (number : ℕ) (numbered : number ≡ suc (length (read_filters before.read s.policy s.rule ++ session_filters added.filters s.policy s.rule))) where
+    abbrev Gains : SessionFilter → Type 0
+    Gains kept = (filters : InForce) → AreAnswersUnder filters before.own → AreAnswersUnder (with_appended filters kept.policy kept.rule kept.filter) after.own
 
-  module _ (s : Snapshot) (there : snapshot_in st s.seq ≡ Some s) (new : Added) (number : ℕ) (numbered : number ≡ suc (length (read_filters i.policies s.policy s.rule ++ session_filters added.filters s.policy s.rule))) where
+    number_same : suc (filter_count i st s) ≡ number
+    number_same = ap (λ fs. suc (length (read_at i st s.policy s.rule ++ fs))) (filters_same s.policy s.rule) ∙ ap (λ ps. suc (length (read_filters ps s.policy s.rule ++ session_filters added.filters s.policy s.rule))) (sym are.read) ∙ sym numbered
+
+    -- a filter is learnt
+    pub is_learnt : new.filters ≡ added.filters ++ kept_for (learnt_filter s) s ∷ [] → new.replies ≡ added.replies → new.left ≡ added.left → Gains (kept_for (learnt_filter s) s)
+        → (question_entry i st s.seq s Learn ≡ Some (Learned s.seq number)) × IsAdded i (state_after i st (Learned s.seq number)) new × AreAnswersIn i (state_after i st (Learned s.seq number)) after
+    is_learnt filters replies left own = (
+      ap (λ k. Some (Learned s.seq k)) number_same,
+      record {
+        session = (λ k. is.session k ++ learnt_by (there k)) ∙ sym filters;
+        replies = replies ∙ is.replies;
+        left = λ policy. ap (λ rows. policy_places rows policy) left ∙ is.left policy;
+      },
+      answers_gain i st (state_after i st (Learned s.seq number)) (kept_for (learnt_filter s) s) (λ k. st.session ++ learnt_by (there k)) before after read own are,
+    )
+
     -- the next reply is given
     pub is_replied : (index place : ℕ) (reply : Reply) → next_reply_left added s.policy s.rule ≡ Some index → slice_get (policy_places added.left s.policy) index ≡ Some place → slice_get added.replies place ≡ Some reply
-        → new.filters ≡ added.filters ++ kept_for reply.filter s ∷ [] → new.replies ≡ added.replies → LosesPlace added.left s.policy index new.left
-        → (question_entry i st s.seq s AskText ≡ Some (Replied s.seq (place + 1) number)) × IsAdded i (state_after i st (Replied s.seq (place + 1) number)) new
-    is_replied index place reply next at is_reply filters replies loses = subst Step one (
+        → new.filters ≡ added.filters ++ kept_for reply.filter s ∷ [] → new.replies ≡ added.replies → LosesPlace added.left s.policy index new.left → Gains (kept_for reply.filter s)
+        → (question_entry i st s.seq s AskText ≡ Some (Replied s.seq (place + 1) number)) × IsAdded i (state_after i st (Replied s.seq (place + 1) number)) new × AreAnswersIn i (state_after i st (Replied s.seq (place + 1) number)) after
+    is_replied index place reply next at is_reply filters replies loses own = subst Step one (
       ap (reply_entry i st s.seq s) (next_same s.policy s.rule ∙ ap (λ o. option_map suc (item_at (policy_places added.left s.policy) o)) next ∙ ap (option_map suc) at)
-          ∙ ap (λ k. Some (Replied s.seq (suc place) k)) (number_same s ∙ sym numbered),
+          ∙ ap (λ k. Some (Replied s.seq (suc place) k)) number_same,
       record {
-        session = (λ k. is.session k ++ replied_by ((ap (λ all. slice_get all place) (sym is.replies) ∙ is_reply) k) (there k)) ∙ sym filters;
+        session = (λ k. is.session k ++ replied_by (given k) (there k)) ∙ sym filters;
         replies = replies ∙ is.replies;
         left = left_after i.replies st.replied place (length i.replies) index s.policy added.left new.left is.left at loses;
       },
+      answers_gain i st (state_after i st (Replied s.seq (suc place) number)) (kept_for reply.filter s) (λ k. st.session ++ replied_by (given k) (there k)) before after read own are,
     ) where
       Step : ℕ → Type 0
-      Step n = (question_entry i st s.seq s AskText ≡ Some (Replied s.seq n number)) × IsAdded i (state_after i st (Replied s.seq n number)) new
+      Step n = (question_entry i st s.seq s AskText ≡ Some (Replied s.seq n number)) × IsAdded i (state_after i st (Replied s.seq n number)) new × AreAnswersIn i (state_after i st (Replied s.seq n number)) after
 
       one : suc place ≡ place + 1
       one = omega arith
+
+      given : slice_get i.replies place ≡ Some reply
+      given = ap (λ all. slice_get all place) (sym is.replies) ∙ is_reply
 
 -- what was added represents each state that has the same session and the same replies given
 pub added_stands : (i : Input) (st new : State) (added : Added) → new.session ≡ st.session → new.replied ≡ st.replied → IsAdded i st added → IsAdded i new added

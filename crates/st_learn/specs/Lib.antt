@@ -1,3 +1,4 @@
+pub mod Answers
 pub mod Deciding
 pub mod Learnt
 pub mod Operator

@@ -7,11 +7,14 @@ use Rattle.st_calls.specs.declared.rule.Rule.{Rule}
 use Rattle.st_filter.specs.Policies.{is_for}
 use Rattle.st_filter.specs.declared.set.Reply.{Reply}
 use Rattle.st_law.specs.Sessions.{SessionFilter}
-use Rattle.st_law.specs.State.{State}
+use Rattle.st_law.specs.Machine.{question_entry, state_after}
+use Rattle.st_law.specs.State.{State, snapshot_in}
 use Rattle.st_law.specs.declared.input.Input.{Input}
 use Rattle.st_law.specs.declared.input.Mode.{Mode}
 use Rattle.st_law.specs.declared.input.Mode.TheVariants.{Enforce, Learn, AskText}
 use Rattle.st_compile.specs.Places.{PolicyPlaces, policy_places}
+use Rattle.st_trace.specs.declared.entry.Entry.{Entry}
+use Rattle.st_learn.specs.Answers.{Answers, AreAnswersIn}
 
 -- the filters of the session, the script's replies, and for each policy the indices of its replies that were not given yet
 pub record Added : Type 0 where
@@ -65,3 +68,8 @@ pub record IsAdded (i : Input) (st : State) (added : Added) : Type 0 where
   pub session : st.session ≡ added.filters
   pub replies : added.replies ≡ i.replies
   pub left : AreRepliesLeft i.replies st.replied (length i.replies) added.left
+
+-- this entry answers the question of a call with these copies; what was added, and the answers, represent the state after it
+abbrev pub IsAnsweredBy : Input → Mode → Snapshot → Added → Answers → Entry → Added → Answers → Type 0
+IsAnsweredBy i mode s old before e new after =
+    (st : State) → IsAdded i st old → AreAnswersIn i st before → snapshot_in st s.seq ≡ Some s → (question_entry i st s.seq s mode ≡ Some e) × IsAdded i (state_after i st e) new × AreAnswersIn i (state_after i st e) after

@@ -1,5 +1,5 @@
 -- A session: its filters in order.
-use Rattle.std.specs.Prelude.{◌≡◌, ◌<◌, ◌^◌, ◌++◌, ◌&&◌, ◌==◌, ℕ, suc, Bool, false, not, List, [], ◌∷◌, length, take, if◌then◌else◌, Option, Some, None}
+use Rattle.std.specs.Prelude.{◌≡◌, ◌<◌, ◌^◌, ◌++◌, ℕ, suc, Bool, false, not, List, [], ◌∷◌, length, take, if◌then◌else◌, Option, Some, None}
 use Rattle.std.specs.List.{list_any}
 use Rattle.std.specs.Str.{bytes_eq}
 use Rattle.st_calls.specs.declared.rule.Rule.{Rule}
@@ -35,17 +35,6 @@ abbrev pub is_first_at : List SessionFilter → ℕ → Option SessionFilter →
 is_first_at session place None = false
 is_first_at session place (Some kept) = not (list_any (is_filter_for kept.policy) (take place session))
 
--- the indices of those filters of a policy that are the first for their rule, in order, if the session begins with others
-abbrev pub firsts_after : List SessionFilter → List ℕ → List SessionFilter → List ℕ
-firsts_after front policy [] = []
-firsts_after front policy (kept ∷ back) =
-    if is_filter_for policy kept && (count_for front kept == 0) then length front ∷ firsts_after (front ++ kept ∷ []) policy back
-    else firsts_after (front ++ kept ∷ []) policy back
-
--- the same for a whole session
-abbrev pub firsts_of : List SessionFilter → List ℕ → List ℕ
-firsts_of session policy = firsts_after [] policy session
-
 -- the indices of the filters that ask for a text first
 abbrev pub places_asking : List SessionFilter → List ℕ → List ℕ
 places_asking session text = places_from (asks_first text) 0 session
@@ -57,12 +46,10 @@ abbrev pub numbers_after : List SessionFilter → List SessionFilter → List �
 numbers_after front [] = []
 numbers_after front (kept ∷ back) = count_for front kept ∷ numbers_after (front ++ kept ∷ []) back
 
--- the invariant of a session: the indices of each policy are those of its filters, and the first ones those of the first filters for their
--- rules; the indices of each text are those of the filters that ask for it first; if no filter is said to ask for no text, none does; each
--- filter has its number; and numbers fit in 32 bits
-pub record IsSession (filters : List SessionFilter) (numbers : List ℕ) (policies firsts texts : List PolicyPlaces) (has_textless : Bool) : Type 0 where
+-- the invariant of a session: the indices of each policy are those of its filters; the indices of each text are those of the filters that
+-- ask for it first; if no filter is said to ask for no text, none does; each filter has its number; and numbers fit in 32 bits
+pub record IsSession (filters : List SessionFilter) (numbers : List ℕ) (policies texts : List PolicyPlaces) (has_textless : Bool) : Type 0 where
   pub policies_are : (policy : List ℕ) → policy_places policies policy ≡ places_of filters policy
-  pub firsts_are : (policy : List ℕ) → policy_places firsts policy ≡ firsts_of filters policy
   pub texts_are : (text : List ℕ) → policy_places texts text ≡ places_asking filters text
   pub textless : has_textless ≡ false → places_asking filters [] ≡ []
   pub numbers_are : numbers ≡ numbers_after [] filters

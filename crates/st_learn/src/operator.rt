@@ -1,23 +1,22 @@
 ghost use Rattle.std.specs.Prelude.{◌≡◌, ◌++◌, ◌∷◌, [], suc, true, false, length, slice_get, None, Some, IfSome, IfOk, OnOk, OnErr};
 ghost use Rattle.std.specs.List.{position};
-ghost use Rattle.st_filter.specs.Fast.{first_answer};
 ghost use Rattle.st_filter.specs.Judging.{verdict_from};
 ghost use Rattle.st_filter.specs.Policies.{read_filters};
-ghost use Rattle.st_law.specs.Machine.{first_state, question_entry, state_after};
+ghost use Rattle.st_law.specs.Machine.{first_state};
 ghost use Rattle.st_law.specs.Sessions.{kept_for, session_filters};
-ghost use Rattle.st_law.specs.State.{State, snapshot_in};
 ghost use Rattle.st_law.specs.declared.input.Input.{Input};
 ghost use Rattle.st_law.specs.declared.input.Mode.TheVariants.{AskText, Learn};
-ghost use Rattle.st_trace.specs.declared.entry.Entry.TheVariants.{Learned, Replied};
+ghost use Rattle.st_compile.specs.Answers.{with_appended, AreAnswersUnder, InForce};
 ghost use Rattle.st_compile.specs.Places.{policy_row};
-ghost use Rattle.st_learn.specs.Operator.{answers, is_for_rule, next_reply_left, AreRepliesLeft, IsAdded};
+ghost use Rattle.st_learn.specs.Answers.{KeepsAll};
+ghost use Rattle.st_learn.specs.Operator.{answers, is_for_rule, next_reply_left, AreRepliesLeft, IsAdded, IsAnsweredBy};
 
-use crate::answering::read_count;
+use crate::answers::Answers;
 use crate::learnt::learnt_filter;
 use crate::session::Session;
-use st_calls::{FastAnswer, Rule, Snapshot, Verdict};
-use st_compile::Places;
-use st_filter::{Filter, PolicySet, Reply};
+use st_calls::{Rule, Snapshot, Verdict};
+use st_compile::{Compiled, Places};
+use st_filter::{Filter, Reply, fast_answer};
 use st_law::{Input, Mode};
 use st_trace::Entry;
 use std::alloc::{AllocError, Global};
@@ -86,19 +85,12 @@ impl<'a> Operator<'a> {
         &self.session
     }
 
-    /// The kernel's own answer by the session's first filter for a policy and a rule; none if the session has no such filter.
-    pub fn first_answer(&self, policy: &[u8], rule: Rule) -> Option<FastAnswer>
-        ensures { result ≡ first_answer (session_filters self.now.filters policy.now rule) }
-    {
-        self.session.first_answer(policy, rule)
-    }
-
     /// The verdict of the session's filters on a held call on which the filters that were read don't decide, by the copies of its
     /// arguments.
-    pub fn verdict(&self, policies: &PolicySet, copies: &Snapshot) -> Verdict
-        ensures { result ≡ verdict_from (suc (length (read_filters policies.now copies.now.policy copies.now.rule))) (session_filters self.now.filters copies.now.policy copies.now.rule) copies.now }
+    pub fn verdict(&self, compiled: &Compiled<'_>, copies: &Snapshot) -> Verdict
+        ensures { result ≡ verdict_from (suc (length (read_filters compiled.now copies.now.policy copies.now.rule))) (session_filters self.now.filters copies.now.policy copies.now.rule) copies.now }
     {
-        self.session.verdict(policies, copies)
+        self.session.verdict(compiled, copies)
     }
 
     // Whether the reply at an index is for a rule.
@@ -143,39 +135,46 @@ impl<'a> Operator<'a> {
         }
     }
 
-    // Keeps a filter for the policy and the rule of these copies, and returns its number. If memory runs out, nothing changes.
+    // Keeps a filter for the policy and the rule of these copies, and returns its number. If memory runs out, nothing changes, and calls are
+    // answered as before.
     fn keep(
         &mut self,
         alloc: Global,
-        policies: &PolicySet,
+        answering: &mut Answers<'_>,
         copies: &Snapshot,
         filter: Filter,
     ) -> Result<u32, AllocError>
-        ensures number { IfOk result (λ number. number ≡ suc (length (read_filters policies.now copies.now.policy copies.now.rule ++ session_filters self.old.filters copies.now.policy copies.now.rule))) }
+        ensures number { IfOk result (λ number. number ≡ suc (length (read_filters answering.old.read copies.now.policy copies.now.rule ++ session_filters self.old.filters copies.now.policy copies.now.rule))) }
         ensures filters { OnOk result (self.new.filters ≡ self.old.filters ++ kept_for filter copies.now ∷ []) }
         ensures replies { self.new.replies ≡ self.old.replies }
         ensures left { self.new.left ≡ self.old.left }
         ensures err { OnErr result (self.new ≡ self.old) }
+        ensures read { answering.new.read ≡ answering.old.read }
+        ensures own { OnOk result ((filters : InForce) → AreAnswersUnder filters answering.old.own → AreAnswersUnder (with_appended filters copies.now.policy copies.now.rule filter) answering.new.own) }
+        ensures kept { OnErr result (KeepsAll answering.old answering.new) }
     {
         let policy = copies.policy.get().bytes();
-        let before = self.session.add(alloc, policy, copies.rule, filter)?;
-        Ok(read_count(policies, policy, copies.rule) + before + 1)
+        let rule = copies.rule;
+        let row = answering.own.make_row(alloc, policy)?;
+        let answer = fast_answer(&filter);
+        let before = self.session.add(alloc, policy, rule, filter)?;
+        answering.own.appended(row, rule, answer);
+        Ok(answering.compiled.filter_count(policy, rule) + before + 1)
     }
 
     // Keeps the filter that is learnt from these copies.
     fn learn(
         &mut self,
         alloc: Global,
-        input: &Input,
+        answering: &mut Answers<'_>,
         copies: &Snapshot,
     ) -> Result<Entry, AllocError>
-        requires { input.now.options.mode ≡ Learn }
-        ensures law { IfOk result (λ entry. (st : State) → IsAdded input.now st self.old → snapshot_in st copies.now.seq ≡ Some copies.now →
-            (question_entry input.now st copies.now.seq copies.now Learn ≡ Some entry) × IsAdded input.now (state_after input.now st entry) self.new) }
+        ensures law { IfOk result (λ entry. (input : Input) → IsAnsweredBy input Learn copies.now self.old answering.old entry self.new answering.new) }
         ensures err { OnErr result (self.new ≡ self.old) }
+        ensures kept { OnErr result (KeepsAll answering.old answering.new) }
     {
         let filter = learnt_filter(alloc, copies)?;
-        let number = self.keep(alloc, &input.policies, copies, filter)?;
+        let number = self.keep(alloc, answering, copies, filter)?;
         Ok(Entry::Learned {
             seq: copies.seq,
             number,
@@ -187,20 +186,20 @@ impl<'a> Operator<'a> {
     fn reply(
         &mut self,
         alloc: Global,
-        input: &Input,
+        answering: &mut Answers<'_>,
         copies: &Snapshot,
         row: usize,
         index: usize,
     ) -> Result<Entry, AllocError>
         requires row { policy_row self.old.left copies.now.policy ≡ Some row }
         requires next { next_reply_left self.old copies.now.policy copies.now.rule ≡ Some index }
-        ensures law { IfOk result (λ entry. (st : State) → IsAdded input.now st self.old → snapshot_in st copies.now.seq ≡ Some copies.now →
-            (question_entry input.now st copies.now.seq copies.now AskText ≡ Some entry) × IsAdded input.now (state_after input.now st entry) self.new) }
+        ensures law { IfOk result (λ entry. (input : Input) → IsAnsweredBy input AskText copies.now self.old answering.old entry self.new answering.new) }
         ensures err { OnErr result (self.new ≡ self.old) }
+        ensures kept { OnErr result (KeepsAll answering.old answering.new) }
     {
         let place = self.left.at(row)[index];
         let filter = self.replies[place].filter.copy(alloc)?;
-        let number = self.keep(alloc, &input.policies, copies, filter)?;
+        let number = self.keep(alloc, answering, copies, filter)?;
         self.left.take_out_at(row, index);
         Ok(Entry::Replied {
             seq: copies.seq,
@@ -209,28 +208,29 @@ impl<'a> Operator<'a> {
         })
     }
 
-    /// Answers the question of the call with these copies, as the mode says, and returns the entry that this adds. If memory runs out,
-    /// nothing changes.
+    /// Answers the question of the call with these copies, as the mode says, and returns the entry that this adds. From then on calls are
+    /// answered by the filter, too. If memory runs out, nothing changes, and calls are answered as before.
     pub fn answer(
         &mut self,
         alloc: Global,
         input: &Input,
+        answering: &mut Answers<'_>,
         copies: &Snapshot,
     ) -> Result<Entry, AllocError>
         requires { answers input.now self.old copies.now ≡ true }
-        ensures law { IfOk result (λ entry. (st : State) → IsAdded input.now st self.old → snapshot_in st copies.now.seq ≡ Some copies.now →
-            (question_entry input.now st copies.now.seq copies.now input.now.options.mode ≡ Some entry) × IsAdded input.now (state_after input.now st entry) self.new) }
+        ensures law { IfOk result (λ entry. IsAnsweredBy input.now input.now.options.mode copies.now self.old answering.old entry self.new answering.new) }
         ensures err { OnErr result (self.new ≡ self.old) }
+        ensures kept { OnErr result (KeepsAll answering.old answering.new) }
     {
         match input.options.mode {
             Mode::Enforce => unreachable!(),
-            Mode::Learn => self.learn(alloc, input, copies),
+            Mode::Learn => self.learn(alloc, answering, copies),
             Mode::AskText => {
                 let policy = copies.policy.get().bytes();
                 let Some((row, index)) = self.next_left(policy, copies.rule) else {
                     unreachable!()
                 };
-                self.reply(alloc, input, copies, row, index)
+                self.reply(alloc, answering, copies, row, index)
             }
         }
     }

@@ -1,8 +1,7 @@
 ghost use Rattle.std.specs.Prelude.{◌≡◌, ℕ, List, ◌≤◌, ◌<◌, ◌^◌, ◌&&◌, [], ◌∷◌, ◌++◌, length, slice_get, Some, IfOk, OnOk, OnErr};
 ghost use Rattle.st_law.specs.Sessions.{session_filters};
 ghost use Rattle.st_learn.specs.Deciding.{asks_first, decides, first_at, lesser, NumberIs};
-ghost use Rattle.st_compile.specs.Places.{KeepsPlaces, MayGainPlace};
-ghost use Rattle.st_learn.specs.Sessions.{added, firsts_of, is_first_at, places_asking, places_of, session_with};
+ghost use Rattle.st_learn.specs.Sessions.{added, is_first_at, places_asking, places_of, session_with};
 
 use crate::added_filter::AddedFilter;
 use st_base::Text;
@@ -25,8 +24,6 @@ pub struct Session {
     numbers: Vec<u32>,
     // The indices of the filters of each policy,
     policies: Places,
-    // of those among them that are the first for their rule,
-    firsts: Places,
     // and of the filters that ask for each text first.
     texts: Places,
     // Whether some filter asks for no text.
@@ -44,7 +41,7 @@ impl Model for Session {
 
     ghost view = { λ s. session_with s.kept.items };
 
-    ghost invariant = { λ s. IsSession s.kept.items s.numbers.items s.policies s.firsts s.texts s.has_textless };
+    ghost invariant = { λ s. IsSession s.kept.items s.numbers.items s.policies s.texts s.has_textless };
 }
 
 // The lesser of two indices, or the only one that exists.
@@ -58,24 +55,6 @@ fn lesser(first: Option<usize>, other: Option<usize>) -> Option<usize>
     }
 }
 
-// Adds an index to those of a policy, if it is wanted there. If memory runs out, the abstract state is unchanged.
-fn add_if(
-    alloc: Global,
-    places: &mut Places,
-    is_wanted: bool,
-    policy: &[u8],
-    place: usize,
-) -> Result<(), AllocError>
-    ensures ok { OnOk result (MayGainPlace is_wanted places.old policy.now place places.new) }
-    ensures err { OnErr result (KeepsPlaces places.old places.new) }
-{
-    if is_wanted {
-        places.add(alloc, policy, place)
-    } else {
-        Ok(())
-    }
-}
-
 impl Session {
     /// No filters. It takes no memory.
     pub fn new(alloc: Global) -> Self
@@ -85,7 +64,6 @@ impl Session {
             kept: Vec::new(alloc),
             numbers: Vec::new(alloc),
             policies: Places::new(alloc),
-            firsts: Places::new(alloc),
             texts: Places::new(alloc),
             has_textless: false,
         }
@@ -116,7 +94,6 @@ impl Session {
         self.kept.reserve(1)?;
         self.numbers.reserve(1)?;
         let text_row = self.texts.reserve(alloc, text)?;
-        add_if(alloc, &mut self.firsts, number == 0, policy, place)?;
         self.policies.push_at(row, place);
         self.texts.push_at(text_row, place);
         self.has_textless |= text.is_empty();
@@ -147,13 +124,6 @@ impl Session {
         ensures is { result.now ≡ places_of self.now.filters policy.now }
     {
         self.policies.of(policy)
-    }
-
-    // The indices of those filters of a policy that are the first for their rule.
-    pub(crate) fn firsts_of(&self, policy: &[u8]) -> &[usize]
-        ensures { result.now ≡ firsts_of self.now.filters policy.now }
-    {
-        self.firsts.of(policy)
     }
 
     // The indices of the filters that ask for a text first.

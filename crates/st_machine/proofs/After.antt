@@ -12,6 +12,7 @@ use Rattle.st_workers.specs.UnderWay.{UnderWay}
 use Rattle.st_workers.proofs.Turns.{item_put, number_within}
 use Rattle.st_decide.specs.Machine.{Refines, Running}
 use Rattle.st_threads.specs.Thread.{ThreadRow, IsRow, IsRowOf}
+use Rattle.st_learn.proofs.InForce.{answers_stand}
 use Rattle.st_learn.proofs.Replies.{added_stands}
 use Rattle.st_decide.proofs.Reached.{reached_more}
 
@@ -68,6 +69,6 @@ module _ (m : Running) (st : State) (is : Refines m st) (c : Choice) (e : Entry)
     workers = is_kept;
     threads = are;
     count = same ∙ is.count;
-    answers = is.answers;
+    answers = answers_stand m.input st (state_after m.input st e) m.answers keeps is.answers;
     operator = added_stands m.input st (state_after m.input st e) m.operator keeps gives is.operator;
   }

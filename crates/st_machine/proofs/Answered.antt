@@ -10,8 +10,10 @@ use Rattle.st_law.specs.declared.input.Mode.{Mode}
 use Rattle.st_law.specs.declared.input.Mode.TheVariants.{Enforce, Learn, AskText}
 use Rattle.st_law.specs.Machine.{entry_of, question_entry, reply_entry, state_after}
 use Rattle.st_law.specs.State.{State, next_reply, snapshot_in}
-use Rattle.st_learn.specs.Operator.{Added, IsAdded}
-use Rattle.st_decide.specs.Machine.{Refines, IsStep, Running}
+use Rattle.st_learn.specs.Answers.{Answers, AreAnswersIn, KeepsAll}
+use Rattle.st_learn.specs.Operator.{Added, IsAdded, IsAnsweredBy}
+use Rattle.st_learn.proofs.InForce.{answers_keep}
+use Rattle.st_decide.specs.Machine.{Refines, IsStep, Running, SameState}
 use Rattle.st_decide.specs.Questions.{IsLeastFound}
 use Rattle.st_decide.proofs.Reached.{reached_more}
 use Rattle.st_machine.proofs.Served.{same_system}
@@ -31,13 +33,28 @@ operators i st q s e AskText is = by (next_reply i st s.policy s.rule) is where
   by None x = cc
   by (Some reply) x = subst IsOperators (same_Some _ e x) tt
 
--- the machine that runs, with what the operator has added
-abbrev pub with_operator : Running → Added → Running
-with_operator m operator = record { input = m.input; system = m.system; workers = m.workers; threads = m.threads; answers = m.answers; operator = operator }
+-- the machine that runs, with what the operator has added, and with what answers calls
+abbrev pub with_operator : Running → Added → Answers → Running
+with_operator m operator answers = record { input = m.input; system = m.system; workers = m.workers; threads = m.threads; answers = answers; operator = operator }
 
-module _ (m : Running) (st : State) (is : Refines m st) (new : Added) where
-  on_by : (e : Entry) → IsOperators e → entry_of m.input st Operator ≡ Some e → IsAdded m.input (state_after m.input st e) new → Refines (with_operator m new) (state_after m.input st e)
-  on_by (Learned q n) kind adds added = record {
+-- out of memory: calls are answered as before
+pub asked_in_vain : (m : Running) (answers : Answers) → KeepsAll m.answers answers → SameState m (with_operator m m.operator answers)
+asked_in_vain m answers kept st is = record {
+  reached = is.reached;
+  bounded = is.bounded;
+  ungranted = is.ungranted;
+  replies = is.replies;
+  system = is.system;
+  workers = is.workers;
+  threads = is.threads;
+  count = is.count;
+  answers = answers_keep m.input st m.answers answers kept is.answers;
+  operator = is.operator;
+}
+
+module _ (m : Running) (st : State) (is : Refines m st) (new : Added) (answers : Answers) where
+  on_by : (e : Entry) → IsOperators e → entry_of m.input st Operator ≡ Some e → IsAdded m.input (state_after m.input st e) new → AreAnswersIn m.input (state_after m.input st e) answers → Refines (with_operator m new answers) (state_after m.input st e)
+  on_by (Learned q n) kind adds added are = record {
     reached = reached_more m.input st is.reached Operator (Learned q n) adds;
     bounded = is.bounded;
     ungranted = is.ungranted;
@@ -46,10 +63,10 @@ module _ (m : Running) (st : State) (is : Refines m st) (new : Added) where
     workers = is.workers;
     threads = is.threads;
     count = is.count;
-    answers = is.answers;
+    answers = are;
     operator = added;
   }
-  on_by (Replied q reply n) kind adds added = record {
+  on_by (Replied q reply n) kind adds added are = record {
     reached = reached_more m.input st is.reached Operator (Replied q reply n) adds;
     bounded = is.bounded;
     ungranted = is.ungranted;
@@ -58,17 +75,15 @@ module _ (m : Running) (st : State) (is : Refines m st) (new : Added) where
     workers = is.workers;
     threads = is.threads;
     count = is.count;
-    answers = is.answers;
+    answers = are;
     operator = added;
   }
-  on_by _ kind adds added = absurd kind
+  on_by _ kind adds added are = absurd kind
 
 -- the operator has answered
-pub answered_on : (m : Running) (new : Added) (copies : Snapshot) (e : Entry) → IsLeastFound m (Some copies)
-    → ((st : State) → IsAdded m.input st m.operator → snapshot_in st copies.seq ≡ Some copies → (question_entry m.input st copies.seq copies m.input.options.mode ≡ Some e) × IsAdded m.input (state_after m.input st e) new)
-    → IsStep m Operator (Some e) (with_operator m new)
-answered_on m new copies e found law st is =
+pub answered_on : (m : Running) (new : Added) (answers : Answers) (copies : Snapshot) (e : Entry) → IsLeastFound m (Some copies) → IsAnsweredBy m.input m.input.options.mode copies m.operator m.answers e new answers → IsStep m Operator (Some e) (with_operator m new answers)
+answered_on m new answers copies e found law st is =
     let question = found st is in
-    let step = law st is.operator question.2 in
+    let step = law st is.operator is.answers question.2 in
     let adds : entry_of m.input st Operator ≡ Some e = entry_here m st is copies question.0 question.1 question.2 ∙ step.0 in
-    (adds, on_by m st is new e (operators m.input st copies.seq copies e m.input.options.mode step.0) adds step.1)
+    (adds, on_by m st is new answers e (operators m.input st copies.seq copies e m.input.options.mode step.0) adds step.1 step.2)

@@ -27,15 +27,25 @@ impl<'a> Machine<'a> {
         leave(added, Entry::Ended { tid });
     }
 
-    // Stores a word for a thread.
-    fn store(&mut self, tid: Tid, place: u32, word: u64, added: &mut Option<Entry>)
+    // Stores a word for a thread. If memory runs out for the copy of a shared page, nothing changes.
+    fn store(
+        &mut self,
+        alloc: Global,
+        tid: Tid,
+        place: u32,
+        word: u64,
+        added: &mut Option<Entry>,
+    ) -> Result<(), AllocError>
         requires { IsNextStep self.old tid (steps.Store place word) }
-        ensures step { IsStep self.old (Thread tid) added.new self.new }
+        ensures step { OnOk result (IsStep self.old (Thread tid) added.new self.new) }
+        ensures err { OnErr result (SameState self.old self.new) }
+        ensures place { OnErr result (added.new ≡ added.old) }
         ensures input { self.new.input ≡ self.old.input }
     {
-        self.system.store(tid, place, word);
+        self.system.store(alloc, tid, place, word)?;
         self.threads[tid as usize - 1].go_on();
         leave(added, Entry::Stored { tid, place, word });
+        Ok(())
     }
 
     // Lets a thread's call that isn't held fail before it is made.
@@ -159,10 +169,7 @@ impl<'a> Machine<'a> {
                 self.end(tid, added);
                 Ok(())
             }
-            Step::Store { place, word } => {
-                self.store(tid, place, word, added);
-                Ok(())
-            }
+            Step::Store { place, word } => self.store(alloc, tid, place, word, added),
             Step::Fail {
                 call,
                 regs,

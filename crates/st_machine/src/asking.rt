@@ -10,7 +10,7 @@ use std::alloc::{AllocError, Global};
 
 impl<'a> Machine<'a> {
     /// Lets the operator answer the least question. Stores the entry that this adds in `added`, or none if there is no question. If memory
-    /// runs out, nothing changes.
+    /// runs out, the abstract state is unchanged.
     pub fn ask(&mut self, alloc: Global, added: &mut Option<Entry>) -> Result<(), AllocError>
         ensures step { OnOk result (IsStep self.old Operator added.new self.new) }
         ensures err { OnErr result (SameState self.old self.new) }
@@ -22,10 +22,10 @@ impl<'a> Machine<'a> {
             return Ok(());
         };
         let copies = copies.share()?;
-        leave(
-            added,
-            self.operator.answer(alloc, self.input, copies.get())?,
-        );
+        let entry = self
+            .operator
+            .answer(alloc, self.input, &mut self.answers, copies.get())?;
+        leave(added, entry);
         Ok(())
     }
 }

@@ -1,17 +1,17 @@
 ghost use Rattle.std.specs.Prelude.{◌≡◌, IfOk, map};
 ghost use Rattle.st_law.specs.Machine.{first_state};
 ghost use Rattle.st_law.specs.State.{State, is_live};
-ghost use Rattle.st_compile.specs.Table.{IsTableOf};
+ghost use Rattle.st_learn.specs.Answers.{AreAnswersIn};
 ghost use Rattle.st_learn.specs.Operator.{IsAdded};
 ghost use Rattle.st_workers.specs.Refinement.{RepresentsMessages};
 ghost use Rattle.st_decide.specs.Machine.{Refines};
 ghost use Rattle.st_threads.specs.Thread.{first_row};
 ghost use Rattle.st_reached.specs.Runnable.{CanRun};
 
-use st_compile::FastTable;
+use st_compile::Compiled;
 use st_decide::View;
 use st_law::Input;
-use st_learn::{Operator, Session};
+use st_learn::{Answers, Operator, Session};
 use st_system::System;
 use st_threads::Thread;
 use st_trace::ThreadRow;
@@ -19,8 +19,8 @@ use st_workers::Workers;
 use std::alloc::{AllocError, Global};
 use std::marker::Model;
 
-/// The machine that runs: the modelled system, the messages under way with the workers that serve them, how far each thread has come, and
-/// what the operator has added.
+/// The machine that runs: the modelled system, the messages under way with the workers that serve them, how far each thread has come, what
+/// answers calls, and what the operator has added.
 #[derive(Debug, Drop)]
 pub struct Machine<'a> {
     pub(crate) input: &'a Input,
@@ -28,7 +28,7 @@ pub struct Machine<'a> {
     pub(crate) workers: Workers,
     // Thread t is at index t - 1.
     pub(crate) threads: Vec<Thread<'a>>,
-    pub(crate) answers: FastTable,
+    pub(crate) answers: Answers<'a>,
     pub(crate) operator: Operator<'a>,
 }
 
@@ -67,15 +67,15 @@ fn workers_and_threads<'a>(
     Ok((Workers::new(alloc, input.options.workers)?, threads))
 }
 
-// The kernel's own answers under the policies of an input, and what the operator has added before the first step.
+// What answers calls under the policies of an input, and what the operator has added before the first step.
 fn answers_and_operator<'a>(
     alloc: Global,
     input: &'a Input,
-) -> Result<(FastTable, Operator<'a>), AllocError>
-    ensures answers { IfOk result (λ both. IsTableOf input.now.policies both.0) }
+) -> Result<(Answers<'a>, Operator<'a>), AllocError>
+    ensures answers { IfOk result (λ both. AreAnswersIn input.now (first_state input.now) both.0) }
     ensures operator { IfOk result (λ both. IsAdded input.now (first_state input.now) both.1) }
 {
-    let answers = FastTable::build(alloc, &input.policies)?;
+    let answers = Answers::build(alloc, &input.policies)?;
     Ok((answers, Operator::new(alloc, input.replies.as_slice())?))
 }
 
@@ -84,14 +84,14 @@ fn answers_and_operator<'a>(
 struct Parts<'a> {
     workers: Workers,
     threads: Vec<Thread<'a>>,
-    answers: FastTable,
+    answers: Answers<'a>,
     operator: Operator<'a>,
 }
 
 fn parts_of<'a>(alloc: Global, input: &'a Input) -> Result<Parts<'a>, AllocError>
     ensures workers { IfOk result (λ parts. RepresentsMessages input.now (first_state input.now) (is_live (first_state input.now)) parts.workers) }
     ensures threads { IfOk result (λ parts. parts.threads.items ≡ map (λ row. first_row row.body) input.now.start.threads) }
-    ensures answers { IfOk result (λ parts. IsTableOf input.now.policies parts.answers) }
+    ensures answers { IfOk result (λ parts. AreAnswersIn input.now (first_state input.now) parts.answers) }
     ensures operator { IfOk result (λ parts. IsAdded input.now (first_state input.now) parts.operator) }
 {
     let (workers, threads) = workers_and_threads(alloc, input)?;
@@ -128,6 +128,13 @@ impl<'a> Machine<'a> {
         ensures { result.now ≡ self.now.input }
     {
         self.input
+    }
+
+    /// The policies of the input, compiled.
+    pub fn compiled(&self) -> &Compiled<'a>
+        ensures { result.now ≡ self.now.input.policies }
+    {
+        self.answers.compiled()
     }
 
     /// The session of each abstract state that the machine represents.

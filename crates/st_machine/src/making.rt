@@ -17,7 +17,7 @@ use crate::placing::leave;
 use st_base::{Pid, Tid};
 use st_decide::ReadyCall;
 use st_request::Outcome;
-use st_threads::{end_by_all, end_call};
+use st_threads::{CallingThread, end_by_all, end_call};
 use st_trace::Entry;
 use std::alloc::{AllocError, Global};
 
@@ -49,8 +49,7 @@ impl<'a> Machine<'a> {
             &mut self.threads,
             &mut self.workers,
             &self.system,
-            tid,
-            pid,
+            CallingThread { pid, tid },
             changes,
         );
         Ok(outcome)

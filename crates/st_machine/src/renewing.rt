@@ -16,7 +16,7 @@ use st_base::{Ids, Pid, Tid};
 use st_decide::ReadyCall;
 use st_procs::ids_after;
 use st_request::Outcome;
-use st_threads::{end_call, plan_renewals, renew_all};
+use st_threads::{CallingThread, NewIds, end_call, plan_renewals, renew_all};
 use std::alloc::{AllocError, Global};
 
 impl<'a> Machine<'a> {
@@ -42,13 +42,12 @@ impl<'a> Machine<'a> {
         ensures err { OnErr result (SameState self.old self.new) }
         ensures input { self.new.input ≡ self.old.input }
     {
+        let caller = CallingThread { pid, tid };
         let plan = plan_renewals(
             alloc,
             &self.threads,
             &self.system,
-            pid,
-            tid,
-            set,
+            NewIds { caller, ids: set },
             self.workers.next_seq(),
         )?;
         let request = self.view().request_with(tid, pid, ready);
@@ -59,8 +58,7 @@ impl<'a> Machine<'a> {
             &mut self.threads,
             &mut self.workers,
             &self.system,
-            pid,
-            tid,
+            caller,
             plan.cwds,
         );
         Ok(Outcome {

@@ -9,7 +9,6 @@ ghost use Rattle.st_workers.specs.declared.task.Task.TheVariants as tasks;
 use crate::machine::Machine;
 use crate::placing::{leave, leave_none};
 use st_base::{Errno, Pid, Seq, Worker};
-use st_filter::decide;
 use st_messages::Delivered;
 use st_trace::Entry;
 use st_workers::Task;
@@ -162,7 +161,7 @@ impl<'a> Machine<'a> {
         ensures input { self.new.input ≡ self.old.input }
     {
         let copies = self.workers.copies(worker);
-        let verdict = decide(self.input.policies.get(copies.policy.get().bytes()), copies);
+        let verdict = self.answers.compiled().decide(copies);
         let (snapshot, delivered) = self.workers.answer(worker, verdict);
         leave(
             added,

@@ -15,14 +15,14 @@ use Rattle.st_model.specs.Tree.{is_number}
 use Rattle.st_trace.specs.declared.entry.Change.{Change}
 use Rattle.st_trace.specs.declared.entry.Change.TheVariants.{Dying, Execed}
 use Rattle.st_law.specs.Messages.{Head}
-use Rattle.st_law.specs.State.{State, is_live}
+use Rattle.st_law.specs.State.{State}
 use Rattle.st_workers.specs.Refinement.{RepresentsMessages}
 use Rattle.st_workers.specs.UnderWay.{UnderWay}
 use Rattle.st_workers.proofs.Ended.{lives_as}
 use Rattle.st_workers.proofs.Turns.{item_put, number_within}
 use Rattle.st_threads.specs.Ending.{AreLiveNumbersHeld, EndsCall, HasNumber, HaveCalls, HaveEnded, IsNumberOf, is_end_of, is_ended_by, is_head_among, life_but, life_without_number, row_dying_if}
 use Rattle.st_threads.specs.Thread.{ThreadRow, number_held}
-use Rattle.st_threads.proofs.Rows.{holds, none_closed}
+use Rattle.st_threads.proofs.Rows.{none_closed}
 
 -- ---- a call ends
 

@@ -4,7 +4,7 @@ use Rattle.std.proofs.Common.{◌≡◌, ◌≢◌, ◌≤◌, ◌<◌, ◌+◌,
 use Rattle.std.proofs.lemmas.Bool.{ne_eqb}
 use Rattle.std.proofs.lemmas.List.{append_assoc, append-nil, drop-set-lt, get_or-replicate, length-replicate, take_more_set}
 use Rattle.std.proofs.Math.ListN.{drop_of_length-le}
-use Rattle.std.specs.Prelude.{IfSome}
+use Rattle.std.specs.Prelude.{All, IfSome}
 use Rattle.st_messages.specs.Messages as calls
 use Rattle.st_model.specs.Process.{Process}
 use Rattle.st_model.specs.Processes.{Processes, process_at}
@@ -27,6 +27,24 @@ pub last_of : {X : Type 0} (front : List X) (x : X) (all : List X) (item : X) �
 last_of front x all item split same =
     let count : length all ≡ length front + 1 = ap length split ∙ length-append front (x ∷ []) in
     sym (at_end front x x) ∙ ap (λ l. get_or l (length front) x) (sym split ∙ same) ∙ get_or-replicate (length all) (length front) item x (omega (arith, count))
+
+-- what all items fulfil, the last fulfils
+pub last_passes : {X : Type 0} (P : X → Type 0) (front : List X) (x : X) (all : List X) → all ≡ front ++ x ∷ [] → All P all → P x
+last_passes P front x all split pass =
+    let count : length all ≡ length front + 1 = ap length split ∙ length-append front (x ∷ []) in
+    subst P (ap (λ l. get_or l (length front) x) split ∙ at_end front x x) (pass (length front) x (omega (arith, count)))
+
+-- the items before the last of a list of one item
+pub front_same : {X : Type 0} (front : List X) (x : X) (all : List X) (item : X) → all ≡ front ++ x ∷ [] → all ≡ replicate (length all) item → front ≡ replicate (length front) item
+front_same {X} front x all item split same = by front (length all) (sym split ∙ same) where
+  by : (xs : List X) (n : ℕ) → xs ++ x ∷ [] ≡ replicate n item → xs ≡ replicate (length xs) item
+  by [] n is = refl
+  by (y ∷ xs) zero is = cc
+  by (y ∷ xs) (suc n) is = ap (λ (z : X). z ∷ xs) (ap (λ (l : List X). get_or l 0 y) is) ∙ ap (λ (l : List X). item ∷ l) (by xs n (ap (drop 1) is))
+
+-- a list of one item that passes
+pub all_same : {X : Type 0} (P : X → Type 0) (all : List X) (item : X) → all ≡ replicate (length all) item → P item → All P all
+all_same P all item same passes i d within = subst P (sym (ap (λ l. get_or l i d) same ∙ get_or-replicate (length all) i item d within)) passes
 
 -- ---- one number is renewed
 

@@ -4,6 +4,7 @@ ghost use Rattle.st_threads.specs.Ending.{EndsCall, HaveCalls, HaveEnded, ends_w
 ghost use Rattle.st_threads.specs.Thread.{number_held};
 ghost use Rattle.st_messages.specs.Messages.{is_live_number};
 
+use crate::caller::CallingThread;
 use crate::thread::Thread;
 use st_base::{Pid, Seq, Tid};
 use st_system::System;
@@ -62,17 +63,16 @@ fn end_by(
     threads: &mut [Thread<'_>],
     workers: &mut Workers,
     system: &System,
-    caller: Tid,
-    pid: Pid,
+    caller: CallingThread,
     change: &Change,
 )
     requires calls { HaveCalls threads.old workers.old }
     requires few { length threads.old < 2 ^ 31 }
-    ensures { HaveEnded (λ t. is_end_of system.now.processes caller pid t change.now) threads.old workers.old threads.new workers.new }
+    ensures { HaveEnded (λ t. is_end_of system.now.processes caller.tid caller.pid t change.now) threads.old workers.old threads.new workers.new }
 {
     match change {
         Change::Dying(dying) => end_threads(threads, workers, system, *dying, 0),
-        Change::Execed { .. } => end_threads(threads, workers, system, pid, caller),
+        Change::Execed { .. } => end_threads(threads, workers, system, caller.pid, caller.tid),
         _ => {}
     }
 }
@@ -82,15 +82,14 @@ pub fn end_by_all(
     threads: &mut [Thread<'_>],
     workers: &mut Workers,
     system: &System,
-    caller: Tid,
-    pid: Pid,
+    caller: CallingThread,
     changes: &[Change],
 )
     requires calls { HaveCalls threads.old workers.old }
     requires few { length threads.old < 2 ^ 31 }
-    ensures { HaveEnded (is_ended_by system.now.processes caller pid changes.now) threads.old workers.old threads.new workers.new }
+    ensures { HaveEnded (is_ended_by system.now.processes caller.tid caller.pid changes.now) threads.old workers.old threads.new workers.new }
 {
     for change in changes {
-        end_by(threads, workers, system, caller, pid, change);
+        end_by(threads, workers, system, caller, change);
     }
 }

@@ -1,10 +1,12 @@
 //! Keeps how far each thread has come, and ends or renews the calls that threads hold.
 #![tactic(auto)]
 
+mod caller;
 mod ending;
 mod renewing;
 mod thread;
 
+pub use caller::{CallingThread, NewIds};
 pub use ending::{end_by_all, end_call};
 pub use renewing::{RenewalPlan, plan_renewals, renew_all};
 pub use thread::{PendingCall, Thread};

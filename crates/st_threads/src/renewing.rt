@@ -1,32 +1,33 @@
 // Gives held calls new numbers after a call that sets ids of their process.
-ghost use Rattle.std.specs.Prelude.{◌≡◌, ◌≢◌, ◌<◌, ◌+◌, ◌-◌, ◌^◌, true, [], ◌∷◌, ◌++◌, length, replicate, IfSome, IfOk, OnOk};
+ghost use Rattle.std.specs.Prelude.{◌≡◌, ◌≢◌, ◌<◌, ◌+◌, ◌-◌, ◌^◌, true, [], ◌∷◌, ◌++◌, All, length, replicate, IfSome, IfOk, OnOk};
 ghost use Rattle.st_lookaside.specs.Need.{IsShort};
 ghost use Rattle.st_threads.specs.Renewing.{next_after, number_renewed, numbers_from, renewals_from, row_renewed, with_number, CanRenew, HaveRenewed, RenewsIf};
 ghost use Rattle.st_messages.specs.Messages.{is_live_number};
+ghost use Rattle.st_model.specs.Process.{Process};
 ghost use Rattle.st_model.specs.Processes.{process_at, IsPid};
+ghost use Rattle.st_names.specs.Name.{Components};
 ghost use Rattle.st_trace.specs.declared.entry.Change.TheVariants.{SetIds};
 
-use crate::ending::end_call;
+use crate::caller::{CallingThread, NewIds};
 use crate::thread::Thread;
-use st_base::{Ids, Pid, Seq, Sequence, Shared, Tid};
+use st_base::{Ids, Seq, Sequence, Shared, Tid};
 use st_names::AbsName;
 use st_system::System;
 use st_trace::Change;
 use st_workers::Workers;
 use std::alloc::{AllocError, Global};
 
-// The number of a thread's held call, if it is renewed: the thread is one of the process, and isn't the caller.
+// The number of a thread's held call, if it is renewed: the thread is one of the caller's process, and isn't the caller.
 fn number_renewed(
     thread: &Thread<'_>,
     system: &System,
-    pid: Pid,
-    caller: Tid,
+    caller: CallingThread,
     tid: Tid,
 ) -> Option<Seq>
-    ensures { result ≡ number_renewed system.now.processes pid caller tid thread.now }
+    ensures { result ≡ number_renewed system.now.processes caller.pid caller.tid tid thread.now }
 {
     let owner = system.pid_of(tid).unwrap_or(0);
-    if owner == pid && tid != caller {
+    if owner == caller.pid && tid != caller.tid {
         thread.number_held()
     } else {
         None
@@ -77,27 +78,26 @@ impl RenewalPlan {
     }
 }
 
-/// Plans new numbers, from the next one on, for the held calls of a process except the caller's. All memory is taken here.
+/// Plans new numbers, from the next one on, for the held calls of the caller's process except its own, after its call sets these ids. All
+/// memory is taken here.
 pub fn plan_renewals(
     alloc: Global,
     threads: &[Thread<'_>],
     system: &System,
-    pid: Pid,
-    caller: Tid,
-    set: Ids,
+    set: NewIds,
     next: Seq,
 ) -> Result<RenewalPlan, AllocError>
-    requires there { IsPid system.now.processes pid }
+    requires there { IsPid system.now.processes set.caller.pid }
     requires few { length threads.now < 2 ^ 31 }
     requires room { next + length threads.now < 2 ^ 64 }
-    ensures changes { IfOk result (λ plan. plan.changes ≡ SetIds set ∷ renewals_from next (numbers_from system.now.processes pid caller 1 threads.now)) }
-    ensures cwds { IfOk result (λ plan. plan.cwds.items ≡ replicate (length (numbers_from system.now.processes pid caller 1 threads.now)) (process_at system.now.processes pid).cwd) }
-    ensures short { IfOk result (λ plan. IsShort (process_at system.now.processes pid).cwd) }
+    ensures changes { IfOk result (λ plan. plan.changes ≡ SetIds set.ids ∷ renewals_from next (numbers_from system.now.processes set.caller.pid set.caller.tid 1 threads.now)) }
+    ensures cwds { IfOk result (λ plan. plan.cwds.items ≡ replicate (length (numbers_from system.now.processes set.caller.pid set.caller.tid 1 threads.now)) (process_at system.now.processes set.caller.pid).cwd) }
+    ensures short { IfOk result (λ plan. IsShort (process_at system.now.processes set.caller.pid).cwd) }
 {
-    let cwd = system.cwd(pid);
-    let mut plan = RenewalPlan::new(alloc, set, next)?;
+    let cwd = system.cwd(set.caller.pid);
+    let mut plan = RenewalPlan::new(alloc, set.ids, next)?;
     for i in 0..threads.len() {
-        let seq = number_renewed(&threads[i], system, pid, caller, i as Tid + 1);
+        let seq = number_renewed(&threads[i], system, set.caller, i as Tid + 1);
         plan.add(seq, cwd)?;
     }
     Ok(plan)
@@ -105,54 +105,51 @@ pub fn plan_renewals(
 
 // ---- what takes no memory, after the ids are set
 
-// Gives the call that a thread holds the next number, if it is renewed.
+// Gives the call that a thread holds the next number, if it is renewed, with these ids and one of these copies of a directory.
 fn renew_call(
     thread: &mut Thread<'_>,
     workers: &mut Workers,
-    system: &System,
-    pid: Pid,
     seq: Option<Seq>,
+    ids: Ids,
     cwds: &mut Vec<Shared<AbsName>>,
 )
-    requires there { IsPid system.now.processes pid }
     requires live { IfSome seq (λ q. is_live_number workers.old.calls q ≡ true) }
     requires room { IfSome seq (λ q. workers.old.calls.next < 2 ^ 64 - 1) }
     requires cwds { IfSome seq (λ q. cwds.old.items ≢ []) }
-    requires same { cwds.old.items ≡ replicate (length cwds.old.items) (process_at system.now.processes pid).cwd }
-    requires short { IsShort (process_at system.now.processes pid).cwd }
+    requires short { All IsShort cwds.old.items }
     ensures thread { thread.new ≡ row_renewed workers.old.calls.next seq thread.old }
-    ensures kept { RenewsIf (process_at system.now.processes pid) seq workers.old workers.new }
+    ensures kept { (process : Process) → process.ids ≡ ids → cwds.old.items ≡ replicate (length cwds.old.items) process.cwd → RenewsIf process seq workers.old workers.new }
     ensures count { length cwds.old.items ≡ length (with_number seq []) + length cwds.new.items }
-    ensures same { cwds.new.items ≡ replicate (length cwds.new.items) (process_at system.now.processes pid).cwd }
+    ensures same { (cwd : Components) → cwds.old.items ≡ replicate (length cwds.old.items) cwd → cwds.new.items ≡ replicate (length cwds.new.items) cwd }
 {
     if let Some(seq) = seq {
         let Some(cwd) = cwds.pop() else {
             unreachable!()
         };
-        thread.renew(workers.renew(seq, system.ids(pid), cwd));
+        thread.renew(workers.renew(seq, ids, cwd));
     }
 }
 
-/// Gives the held calls of a process except the caller's new numbers, in the order of threads. Each takes one of these copies of the
+/// Gives the held calls of the caller's process except its own new numbers, in the order of threads. Each takes one of these copies of the
 /// process's directory.
 pub fn renew_all(
     threads: &mut [Thread<'_>],
     workers: &mut Workers,
     system: &System,
-    pid: Pid,
-    caller: Tid,
+    caller: CallingThread,
     mut cwds: Vec<Shared<AbsName>>,
 )
-    requires there { IsPid system.now.processes pid }
+    requires there { IsPid system.now.processes caller.pid }
     requires few { length threads.old < 2 ^ 31 }
-    requires calls { CanRenew workers.old (numbers_from system.now.processes pid caller 1 threads.old) }
+    requires calls { CanRenew workers.old (numbers_from system.now.processes caller.pid caller.tid 1 threads.old) }
     requires room { workers.old.calls.next + length threads.old < 2 ^ 64 }
-    requires cwds { cwds.items ≡ replicate (length (numbers_from system.now.processes pid caller 1 threads.old)) (process_at system.now.processes pid).cwd }
-    requires short { IsShort (process_at system.now.processes pid).cwd }
-    ensures { HaveRenewed system.now.processes pid caller threads.old workers.old threads.new workers.new }
+    requires cwds { cwds.items ≡ replicate (length (numbers_from system.now.processes caller.pid caller.tid 1 threads.old)) (process_at system.now.processes caller.pid).cwd }
+    requires short { IsShort (process_at system.now.processes caller.pid).cwd }
+    ensures { HaveRenewed system.now.processes caller.pid caller.tid threads.old workers.old threads.new workers.new }
 {
+    let ids = system.ids(caller.pid);
     for i in 0..threads.len() {
-        let seq = number_renewed(&threads[i], system, pid, caller, i as Tid + 1);
-        renew_call(&mut threads[i], workers, system, pid, seq, &mut cwds);
+        let seq = number_renewed(&threads[i], system, caller, i as Tid + 1);
+        renew_call(&mut threads[i], workers, seq, ids, &mut cwds);
     }
 }

@@ -14,14 +14,14 @@ pub loop-change-preserved : goal.loop-change-preserved
 loop-change-preserved c = (
   calls_after _ c.loop-change.threads c.loop-change.workers c.end_by.new.threads c.end_by.new.workers c.end_by.ensures c.loop-change.invariant.0,
   λ new left later. c.loop-change.invariant.1 new left
-      (subst (λ (changes : List Change). HaveEnded (is_ended_by c.args.system.now.processes c.args.caller c.args.pid changes) c.loop-change.threads c.loop-change.workers new left)
+      (subst (λ (changes : List Change). HaveEnded (is_ended_by c.args.system.now.processes c.args.caller.tid c.args.caller.pid changes) c.loop-change.threads c.loop-change.workers new left)
       (sym (drop_more c.args.changes.now c.loop-change.change-index c.change-item.result c.loop-change-test.true ∙ ap (λ (change : Change). change ∷ drop (c.loop-change.change-index + 1) c.args.changes.now) (sym c.change-item.is)))
-      (next_change c.args.system.now.processes c.args.caller c.args.pid c.change-item.result (drop (c.loop-change.change-index + 1) c.args.changes.now) c.loop-change.threads c.loop-change.workers c.end_by.new.threads c.end_by.new.workers new left c.end_by.ensures later)),
+      (next_change c.args.system.now.processes c.args.caller.tid c.args.caller.pid c.change-item.result (drop (c.loop-change.change-index + 1) c.args.changes.now) c.loop-change.threads c.loop-change.workers c.end_by.new.threads c.end_by.new.workers new left c.end_by.ensures later)),
 )
 
 pub returns : goal.returns
 returns c =
     let over : length c.args.changes.now ≤ c.loop-change.change-index = let end = c.loop-change-test.false in omega (arith, end) in
     c.loop-change.invariant.1 c.loop-change.threads c.loop-change.workers
-    (subst (λ (changes : List Change). HaveEnded (is_ended_by c.args.system.now.processes c.args.caller c.args.pid changes) c.loop-change.threads c.loop-change.workers c.loop-change.threads c.loop-change.workers)
+    (subst (λ (changes : List Change). HaveEnded (is_ended_by c.args.system.now.processes c.args.caller.tid c.args.caller.pid changes) c.loop-change.threads c.loop-change.workers c.loop-change.threads c.loop-change.workers)
     (sym (drop_of_length-le c.args.changes.now over)) (none_ended c.loop-change.threads c.loop-change.workers))

@@ -2,4 +2,4 @@ use Rattle.st_threads.proofs.Renewed.{RenewedSoFar}
 use Rattle.st_threads.proofs.renewing.renew_all.Given as goal
 
 abbrev pub invariant-loop-i : goal.invariant-loop-i
-invariant-loop-i l = RenewedSoFar l.fn.system.processes l.fn.pid l.fn.caller l.fn.threads l.fn.workers l.i l.threads l.workers l.cwds.items
+invariant-loop-i l = RenewedSoFar l.fn.system.processes l.fn.caller.pid l.fn.caller.tid l.fn.threads l.fn.workers l.i l.threads l.workers l.cwds.items

@@ -1,14 +1,13 @@
-use Rattle.std.proofs.Common.{◌≡◌, ◌∙◌, ◌++◌, ◌==◌, [], ◌∷◌, List, ℕ, ap, arith, length, sym, subst}
+use Rattle.std.proofs.Common.{◌≡◌, ◌∙◌, ◌++◌, [], ◌∷◌, List, ℕ, ap, arith, length, sym, subst}
 use Rattle.std.proofs.lemmas.Bool.{or_parts}
 use Rattle.std.specs.Str.{bytes_eq}
 use Rattle.st_law.specs.Sessions.{SessionFilter, session_filters}
 use Rattle.st_compile.specs.Asked.{asked_text}
 use Rattle.st_learn.specs.Deciding.{count_for}
-use Rattle.st_compile.specs.Places.{GainsPlace, MayGainPlace}
-use Rattle.st_learn.specs.Sessions.{Session, firsts_of, numbers_after, places_asking, places_of}
+use Rattle.st_compile.specs.Places.{GainsPlace}
+use Rattle.st_learn.specs.Sessions.{Session, numbers_after, places_asking, places_of}
 use Rattle.st_compile.proofs.Indices.{added_places, one_longer}
 use Rattle.st_learn.proofs.Filters.{some_text, still_texts}
-use Rattle.st_learn.proofs.Leading.{firsts_added}
 use Rattle.st_learn.proofs.Numbers.{number_added}
 use Rattle.st_learn.proofs.session.Session.add.Goals as goal
 use Rattle.st_learn.proofs.session.Session.add.Goals.{After-push_reserved-2}
@@ -37,7 +36,6 @@ count_at-number-requires c = (c.args.policy.now, places_are c)
 pub invariant_of-self-2 : goal.invariant_of-self-2
 invariant_of-self-2 c = record {
   policies_are = λ wanted. c.reserve.ensures.kept.places wanted ∙ c.self.invariant.policies_are wanted;
-  firsts_are = c.self.invariant.firsts_are;
   texts_are = c.self.invariant.texts_are;
   textless = c.self.invariant.textless;
   numbers_are = c.self.invariant.numbers_are;
@@ -62,10 +60,6 @@ invariant_of-self-3 c = record {
       (λ other. c.reserve.ensures.kept.places other ∙ c.self.invariant.policies_are other)
       (subst (λ policy. GainsPlace c.reserve.new.self policy c.len-place.result c.push_at.new.self) (policy_is c) (c.push_at.ensures c.args.policy.now c.in_ok-row.ensures.room)) (place_is c) wanted
       ∙ ap (λ (session : List SessionFilter). places_of session wanted) (sym (items_are c));
-  firsts_are = λ wanted.
-      firsts_added (c.count_at-number.result == 0) c.self.inside.firsts c.add_if.new.places c.self.inside.kept.items c.new.result c.len-place.result c.self.invariant.firsts_are
-      (subst (λ policy. MayGainPlace (c.count_at-number.result == 0) c.self.inside.firsts policy c.len-place.result c.add_if.new.places) (policy_is c) c.in_ok-add_if.ensures.ok) (place_is c) (ap (λ n. n == 0) (sym (number_is c))) wanted
-      ∙ ap (λ (session : List SessionFilter). firsts_of session wanted) (sym (items_are c));
   texts_are = λ wanted.
       added_places (λ (kept : SessionFilter). asked_text kept.filter.formula) c.reserve-4.new.self c.push_at-2.new.self c.self.inside.kept.items c.new.result c.len-place.result
       (λ other. c.reserve-4.ensures.kept.places other ∙ c.self.invariant.texts_are other)

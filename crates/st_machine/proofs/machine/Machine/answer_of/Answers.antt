@@ -5,9 +5,8 @@ use Rattle.st_decide.specs.Machine.{HasTask, IsStep, Running}
 use Rattle.st_machine.proofs.Served.{answered, applied_as, left_as, running_step, same_copies, with_workers}
 use Rattle.st_workers.specs.declared.task.Task.TheVariants as tasks
 use Rattle.st_calls.specs.declared.judged.Snapshot.{Snapshot}
-use Rattle.st_filter.specs.Formula.{FilterValue}
-use Rattle.st_filter.specs.Judging.{verdict}
-use Rattle.st_filter.specs.Policies.{filters_of, policy_of}
+use Rattle.st_filter.specs.Judged.{verdict_under}
+use Rattle.st_filter.specs.declared.set.BinaryPolicy.{BinaryPolicy}
 use Rattle.st_messages.specs.Messages.{is_live_number}
 use Rattle.st_machine.proofs.machine.Machine.answer_of.Goals as goal
 
@@ -18,14 +17,13 @@ task : (c : goal.After-leave) → HasTask (old c) c.args.worker tasks.Answer
 task c = subst (λ (m : Running). HasTask m c.args.worker (tasks.Answer)) (sym c.self.view_is) c.requires.task
 
 -- the copies that were judged are those of the answer
-judged : (c : goal.After-leave) → c.decide-verdict.result ≡ verdict (filters_of c.answer-snapshot.result.0.rule (policy_of c.self.inside.input.now.policies c.answer-snapshot.result.0.policy)) c.answer-snapshot.result.0
+judged : (c : goal.After-leave) → c.decide-verdict.result ≡ verdict_under c.self.inside.input.now.policies c.answer-snapshot.result.0
 judged c =
-    let policies = c.self.inside.input.now.policies in
     let copies : Snapshot = c.copies-copies.result.now in
     let same : copies ≡ c.answer-snapshot.result.0 = same_copies c.self.inside.workers c.args.worker copies c.answer-snapshot.result.0 c.copies-copies.ensures c.answer-snapshot.ensures.copies in
     c.decide-verdict.ensures
-    ∙ ap (λ (filters : List FilterValue). verdict (filters_of copies.rule filters) copies) (c.get-2.ensures.is ∙ ap (policy_of policies) (c.bytes.ensures ∙ c.get.ensures))
-    ∙ ap (λ (s : Snapshot). verdict (filters_of s.rule (policy_of policies s.policy)) s) same
+    ∙ ap (λ (policies : List BinaryPolicy). verdict_under policies copies) (c.compiled.ensures ∙ c.self.invariant.is.answers.read)
+    ∙ ap (verdict_under c.self.inside.input.now.policies) same
 
 step : (c : goal.After-leave) → IsStep (old c) (choice.Worker c.args.worker) (Some (entry.Answered c.args.worker c.answer-snapshot.result.0 c.decide-verdict.result c.is_applied.result)) (with_workers (old c) c.answer-snapshot.new.self)
 step c = answered (old c) c.args.worker c.answer-snapshot.new.self c.answer-snapshot.result.0 c.decide-verdict.result c.is_applied.result c.answer-snapshot.ensures.copies (judged c)

@@ -22,12 +22,12 @@ invariant_of-self-2 c =
     let m : Running = record { input = c.self.inside.input.now; system = c.self.inside.system; workers = c.self.inside.workers; threads = c.self.inside.threads.items; answers = c.self.inside.answers; operator = c.self.inside.operator } in
     let copies : Snapshot = c.get.result.now in
     let x : IsLeastFound m (Some copies) = subst (λ (k : Running). IsLeastFound k (Some copies)) (sym c.self.view_is) (subst (λ (k : Running). IsLeastFound k (Some copies)) c.view.ensures (subst (λ (s : Snapshot). IsLeastFound c.view.result (Some s)) (sym (c.get.ensures ∙ c.in_ok-copies.ensures)) c.in-Some.ensures)) in
-    running_step m (with_operator m c.answer.new.self) Operator c.in_ok-answer.field-0 c.self.invariant (answered_on m c.answer.new.self copies c.in_ok-answer.field-0 x c.in_ok-answer.ensures.law)
+    running_step m (with_operator m c.answer.new.self c.answer.new.answering) Operator c.in_ok-entry.entry c.self.invariant (answered_on m c.answer.new.self c.answer.new.answering copies c.in_ok-entry.entry x c.in_ok-entry.ensures.law)
 
 pub returns-clause-step : goal.returns-clause-step
 returns-clause-step c = left_as _ _ Operator _ _ c.leave.ensures
     (let m : Running = record { input = c.self.inside.input.now; system = c.self.inside.system; workers = c.self.inside.workers; threads = c.self.inside.threads.items; answers = c.self.inside.answers; operator = c.self.inside.operator } in
     let copies : Snapshot = c.get.result.now in
     let x : IsLeastFound m (Some copies) = subst (λ (k : Running). IsLeastFound k (Some copies)) (sym c.self.view_is) (subst (λ (k : Running). IsLeastFound k (Some copies)) c.view.ensures (subst (λ (s : Snapshot). IsLeastFound c.view.result (Some s)) (sym (c.get.ensures ∙ c.in_ok-copies.ensures)) c.in-Some.ensures)) in
-    subst (λ (k : Running). IsStep k Operator (Some c.in_ok-answer.field-0) (with_operator m c.answer.new.self)) c.self.view_is
-    (answered_on m c.answer.new.self copies c.in_ok-answer.field-0 x c.in_ok-answer.ensures.law))
+    subst (λ (k : Running). IsStep k Operator (Some c.in_ok-entry.entry) (with_operator m c.answer.new.self c.answer.new.answering)) c.self.view_is
+    (answered_on m c.answer.new.self c.answer.new.answering copies c.in_ok-entry.entry x c.in_ok-entry.ensures.law))

@@ -3,12 +3,13 @@ use Rattle.st_base.specs.Numbered.{item_at_number}
 use Rattle.st_trace.specs.declared.entry.Choice.TheVariants as choice
 use Rattle.st_trace.specs.declared.entry.Entry.TheVariants as entry
 use Rattle.st_workers.proofs.Turns.{number_within, read_is}
-use Rattle.st_decide.specs.Machine.{IsNextStep, IsStep, Running}
+use Rattle.st_decide.specs.Machine.{IsNextStep, IsStep, Running, SameState}
+use Rattle.st_system.specs.System.{Parts}
 use Rattle.st_threads.specs.Thread.{ThreadRow}
 use Rattle.st_decide.specs.declared.step.Step.TheVariants as steps
 use Rattle.st_machine.proofs.After.{with_parts}
 use Rattle.st_machine.proofs.Moving.{stored_inside, stored_started, stored_step, row_here}
-use Rattle.st_machine.proofs.Served.{left_as, running_step}
+use Rattle.st_machine.proofs.Served.{left_as, on_err, running_stands, running_step}
 use Rattle.st_machine.proofs.machine.Machine.store.Goals as goal
 
 pub overflow_sub-tid : goal.overflow_sub-tid
@@ -42,10 +43,10 @@ put : (c : goal.After-leave) → c.go_on.new.self ≡ record (row c).0 { left = 
 put c = c.go_on.ensures ∙ ap (λ (r : ThreadRow). record r { left = drop 1 r.left }) (read_is (old c).threads c.args.tid (row c).0 c.index_mut.result.now (row c).1 c.index_mut.ensures.value)
 
 step : (c : goal.After-leave) → IsStep (old c) (choice.Thread c.args.tid) (Some (entry.Stored c.args.tid c.args.place c.args.word)) (new c c.go_on.new.self)
-step c = subst (λ (r : ThreadRow). IsStep (old c) (choice.Thread c.args.tid) (Some (entry.Stored c.args.tid c.args.place c.args.word)) (new c r)) (sym (put c)) (stored_step (old c) c.args.tid c.args.place c.args.word (next c) c.store.new.self (row c).0 (row c).1 c.store.ensures.system)
+step c = subst (λ (r : ThreadRow). IsStep (old c) (choice.Thread c.args.tid) (Some (entry.Stored c.args.tid c.args.place c.args.word)) (new c r)) (sym (put c)) (stored_step (old c) c.args.tid c.args.place c.args.word (next c) c.store.new.self (row c).0 (row c).1 c.in_ok-store.ensures.system)
 
-pub invariant_of-self : goal.invariant_of-self
-invariant_of-self c = running_step (old c) (new c c.go_on.new.self) (choice.Thread c.args.tid) (entry.Stored c.args.tid c.args.place c.args.word) c.self.invariant (step c)
+pub invariant_of-self-2 : goal.invariant_of-self-2
+invariant_of-self-2 c = running_step (old c) (new c c.go_on.new.self) (choice.Thread c.args.tid) (entry.Stored c.args.tid c.args.place c.args.word) c.self.invariant (step c)
 
 pub returns-clause-step : goal.returns-clause-step
 returns-clause-step c = left_as _ _ (choice.Thread c.args.tid) _ _ c.leave.ensures (subst (λ (k : Running). IsStep k (choice.Thread c.args.tid) (Some (entry.Stored c.args.tid c.args.place c.args.word)) (new c c.go_on.new.self)) c.self.view_is (step c))
@@ -59,3 +60,20 @@ pub store-requires-clause-started : goal.store-requires-clause-started
 store-requires-clause-started c =
     let m : Running = record { input = c.self.inside.input.now; system = c.self.inside.system; workers = c.self.inside.workers; threads = c.self.inside.threads.items; answers = c.self.inside.answers; operator = c.self.inside.operator } in
     stored_started m c.args.tid c.args.place c.args.word (subst (λ (k : Running). IsNextStep k c.args.tid (steps.Store c.args.place c.args.word)) (sym c.self.view_is) c.requires) c.self.invariant.state c.self.invariant.is
+
+-- out of memory
+
+abbrev before : goal.After-from_residual → Running
+before c = record { input = c.self.inside.input.now; system = c.self.inside.system; workers = c.self.inside.workers; threads = c.self.inside.threads.items; answers = c.self.inside.answers; operator = c.self.inside.operator }
+
+abbrev refused : goal.After-from_residual → Running
+refused c = with_parts (before c) c.store.new.self (before c).workers (before c).threads
+
+stands : (c : goal.After-from_residual) → SameState (before c) (refused c)
+stands c = subst (λ (s : Parts). SameState (before c) (with_parts (before c) s (before c).workers (before c).threads)) (sym c.in_err-store.ensures.err) (λ st is. is)
+
+pub invariant_of-self : goal.invariant_of-self
+invariant_of-self c = running_stands (before c) (refused c) c.self.invariant (stands c)
+
+pub returns-in_err-store-clause-err : goal.returns-in_err-store-clause-err
+returns-in_err-store-clause-err c = on_err c.from_residual.result (subst (λ (m : Running). SameState m (refused c)) c.self.view_is (stands c))
