@@ -1,5 +1,5 @@
 -- What the entries of a lawful history record of held calls is what looking back says of them.
-use Rattle.std.proofs.Common.{◌≡◌, ℕ, suc, Bool, true, false, cond, ◌==◌, ◌&&◌, ◌||◌, List, [], ◌∷◌, ◌++◌, length, Option, Some, None, option_map, reverse, refl, sym, ap, subst, ◌∙◌}
+use Rattle.std.proofs.Common.{◌≡◌, ℕ, Bool, true, false, cond, ◌==◌, ◌&&◌, ◌||◌, List, [], ◌∷◌, ◌++◌, Option, Some, None, option_map, reverse, refl, sym, ap, subst, ◌∙◌}
 use Rattle.std.proofs.lemmas.Bool.{and_parts, eqb-true, or_parts, true≢false}
 use Rattle.std.specs.List.{fold}
 use Rattle.st_base.specs.declared.errno.Errno.{Errno}
@@ -8,7 +8,7 @@ use Rattle.st_calls.specs.declared.argument.ArgText.{ArgText}
 use Rattle.st_calls.specs.declared.call.SysCall.{SysCall}
 use Rattle.st_calls.specs.declared.judged.Snapshot.{Snapshot}
 use Rattle.st_calls.specs.declared.judged.Verdict.{Verdict}
-use Rattle.st_filter.specs.Judging.{verdict, verdict_from}
+use Rattle.st_filter.specs.Judging.{verdict}
 use Rattle.st_model.specs.Tree.{is_number}
 use Rattle.st_trace.specs.declared.entry.CallResult.{CallResult}
 use Rattle.st_trace.specs.declared.entry.CallResult.TheVariants.{Failed}
@@ -22,15 +22,16 @@ use Rattle.st_law.specs.History.{looking_back, session_at}
 use Rattle.st_law.specs.Inputs.{IsStartable}
 use Rattle.st_law.specs.Lawful.{IsDeniedHeld, IsJudged, IsLawfulBack, IsUsedHeld, Lawful}
 use Rattle.st_law.specs.Messages.{Head, is_answered_at, is_closed_at, is_renewed_by}
-use Rattle.st_law.specs.Sessions.{session_filters, verdict_or}
-use Rattle.st_law.specs.State.{State, is_live, is_live_by, read_for, snapshot_in}
+use Rattle.st_filter.specs.Policies.{read_filters}
+use Rattle.st_law.specs.State.{State, decision_in, is_live, is_live_by, snapshot_in}
 use Rattle.st_law.specs.Threads.{History, owner_at}
 use Rattle.st_law.proofs.MessageHistory.{closed_stays}
 use Rattle.st_law.proofs.Standing.{Stands, answer_stands}
 use Rattle.st_audit.specs.AuditText.{audit, audit_back, call_line, denied_line, ending_text, audit_line}
-use Rattle.st_audit.specs.How.{Decided, args_used, decided_by, decided_in, decided_on, how_denied, how_used, is_logged, deciding_number, parts_of, seq_of_decision}
+use Rattle.st_audit.specs.How.{Decided, args_used, decided_by, decided_in, decided_on, deciding_number, how_denied, how_used, is_logged, parts_of, seq_of_decision}
 use Rattle.st_audit.specs.Rows.{entered_at, row_at}
-use Rattle.st_audit.specs.FromHistory.{applied_answer, answer_with, audit_from_history, decided_from_history, text_from_history, line_from_history}
+use Rattle.st_audit.specs.FromHistory.{applied_answer, answer_with, audit_from_history, decided_after, decided_from_history, text_from_history, line_from_history}
+use Rattle.st_audit.proofs.Deciding.{decided_alike}
 
 -- ---- answers
 
@@ -108,7 +109,7 @@ open_by None closed dying live = cc
 open_by (Some head) false dying live = refl
 open_by (Some head) true dying live = cc
 
-verdict_of_answer : (i : Input) (later earlier : History) (w : ℕ) (s : Snapshot) (v : Verdict) → IsLawfulBack i (later ++ Answered w s v true ∷ earlier) → v ≡ verdict (read_for i s.policy s.rule) s
+verdict_of_answer : (i : Input) (later earlier : History) (w : ℕ) (s : Snapshot) (v : Verdict) → IsLawfulBack i (later ++ Answered w s v true ∷ earlier) → v ≡ verdict (read_filters i.policies s.policy s.rule) s
 verdict_of_answer i [] earlier w s v lawful = lawful.0.verdict_is
 verdict_of_answer i (e ∷ later) earlier w s v lawful = verdict_of_answer i later earlier w s v lawful.1
 
@@ -118,7 +119,7 @@ record IsRecordedOf (i : Input) (h : History) (q : ℕ) : Type 0 where
   given : Verdict
   newest : applied_answer h q ≡ Some (answer_with copies given)
   there : snapshot_in (looking_back i h) q ≡ Some copies
-  says : given ≡ verdict (read_for i copies.policy copies.rule) copies
+  says : given ≡ verdict (read_filters i.policies copies.policy copies.rule) copies
 
 module _ (i : Input) (startable : IsStartable i) where
   is_open : (h : History) (q : ℕ) → is_live (looking_back i h) q ≡ true → is_closed_at h q ≡ false
@@ -139,22 +140,19 @@ module _ (i : Input) (startable : IsStartable i) where
 
   -- ---- what decides
 
-  -- what an audit says of a held call with these copies, by the verdict of the filters that were read
-  abbrev said_of : History → Snapshot → Verdict → Decided
-  said_of h s v =
-      decided_by i (session_at i h) s (deciding_number (verdict_or v (verdict_from (suc (length (read_for i s.policy s.rule))) (session_filters (session_at i h) s.policy s.rule) s)))
-
-  same_decided : (h : History) (q : ℕ) → IsLawfulBack i h → is_answered_at h q ≡ true → is_live (looking_back i h) q ≡ true → decided_from_history i (session_at i h) (applied_answer h q) ≡ decided_in i (looking_back i h) q
+  same_decided : (h : History) (q : ℕ) → IsLawfulBack i h → is_answered_at h q ≡ true → is_live (looking_back i h) q ≡ true
+      → decided_from_history i.policies (session_at i h) (applied_answer h q) ≡ decided_in i (looking_back i h) q
   same_decided h q lawful answered live = let x : IsRecordedOf i h q = printed h q lawful answered live in
-      ap (decided_from_history i (session_at i h)) x.newest
-      ∙ (λ k. Some (said_of h x.copies (x.says k)))
-      ∙ sym (ap (λ o. option_map (λ s. said_of h s (verdict (read_for i s.policy s.rule) s)) o) x.there)
+      ap (decided_from_history i.policies (session_at i h)) x.newest
+      ∙ (λ k. Some (decided_after i.policies (session_at i h) x.copies (x.says k)))
+      ∙ ap Some (decided_alike i.policies (session_at i h) x.copies)
+      ∙ sym (ap (option_map (λ s. decided_by i.policies (session_at i h) s (deciding_number (decision_in i (looking_back i h) s)))) x.there)
 
   -- ---- lines
 
   -- what the entries say of held calls, and what the law says
   abbrev by_entries : History → ℕ → Option Decided
-  by_entries h q = decided_from_history i (session_at i h) (applied_answer h q)
+  by_entries h q = decided_from_history i.policies (session_at i h) (applied_answer h q)
 
   abbrev by_law : History → ℕ → Option Decided
   by_law h q = decided_in i (looking_back i h) q

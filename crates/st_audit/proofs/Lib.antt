@@ -1,4 +1,5 @@
 pub mod Answered
+pub mod Deciding
 pub mod Following
 pub mod Growth
 pub mod Rows

@@ -6,6 +6,7 @@ use Rattle.st_calls.specs.Call.{name_of_rule, rule_of}
 use Rattle.st_calls.specs.declared.argument.ArgText.{ArgText}
 use Rattle.st_calls.specs.declared.call.SysCall.{SysCall}
 use Rattle.st_calls.specs.declared.rule.Rule.{Rule}
+use Rattle.st_calls.specs.Emulation.{emulation_prefix}
 use Rattle.st_lex.specs.Quote.{quoted}
 use Rattle.st_trace.specs.declared.entry.CallResult.{CallResult}
 use Rattle.st_trace.specs.declared.entry.CallResult.TheVariants.{Failed}
@@ -28,7 +29,7 @@ printed_arg arg = codes " " ++ name_of_label arg.label ++ index_text arg.index +
 
 -- PID.TID "POLICY" native-RULE
 abbrev pub caller_text : ℕ → ℕ → List ℕ → Rule → List ℕ
-caller_text pid tid policy rule = decimal pid ++ codes "." ++ decimal tid ++ codes " " ++ quoted policy ++ codes " native-" ++ name_of_rule rule
+caller_text pid tid policy rule = decimal pid ++ codes "." ++ decimal tid ++ codes " " ++ quoted policy ++ codes " " ++ emulation_prefix ++ name_of_rule rule
 
 -- the mark, if the filter that decided asks for it
 abbrev pub log_text : Bool → List ℕ

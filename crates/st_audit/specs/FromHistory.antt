@@ -1,17 +1,20 @@
 -- What the entries themselves record of held calls: their applied answers.
 use Rattle.std.specs.Prelude.{ℕ, suc, Bool, true, false, ◌==◌, ◌&&◌, if◌then◌else◌, List, [], ◌∷◌, ◌++◌, reverse, length, Option, Some, None, option_map}
+use Rattle.st_base.specs.Numbered.{item_at_number}
 use Rattle.st_calls.specs.declared.judged.Snapshot.{Snapshot}
 use Rattle.st_calls.specs.declared.judged.Verdict.{Verdict}
+use Rattle.st_calls.specs.declared.judged.Verdict.TheVariants.{Permit, Refuse, Unmatched}
 use Rattle.st_filter.specs.Judging.{verdict_from}
+use Rattle.st_filter.specs.Policies.{read_filters}
+use Rattle.st_filter.specs.declared.set.BinaryPolicy.{BinaryPolicy}
 use Rattle.st_model.specs.Tree.{is_number}
 use Rattle.st_trace.specs.declared.entry.Entry.{Entry}
 use Rattle.st_trace.specs.declared.entry.Entry.TheVariants.{Stored, Entered, Claimed, Copied, Looked, Faulted, Answered, Used, Denied, Ended, Replied, Learned}
 use Rattle.st_law.specs.declared.input.Input.{Input}
 use Rattle.st_law.specs.History.{session_at}
-use Rattle.st_law.specs.Sessions.{SessionFilter, session_filters, verdict_or}
-use Rattle.st_law.specs.State.{read_for}
+use Rattle.st_law.specs.Sessions.{SessionFilter, session_filters}
 use Rattle.st_law.specs.Threads.{History, owner_at}
-use Rattle.st_audit.specs.How.{Decided, decided_by, deciding_number}
+use Rattle.st_audit.specs.How.{Decided, decided_by, decided_with, deciding_number, marks_of}
 use Rattle.st_audit.specs.AuditText.{line_by}
 use Rattle.st_audit.specs.Rows.{entered_at, row_at}
 
@@ -57,18 +60,28 @@ applied_answer (e ∷ h) q = answer_after e q (applied_answer h q)
 
 -- ---- what decided
 
--- what the filters that were read decide by an answer, otherwise what those of the session decide
-abbrev pub decision_from_history : Input → List SessionFilter → Answer → Verdict
-decision_from_history i session a =
-    verdict_or a.verdict (verdict_from (suc (length (read_for i a.snapshot.policy a.snapshot.rule))) (session_filters session a.snapshot.policy a.snapshot.rule) a.snapshot)
+-- a held call with these copies, decided by the filter with this number among those that were read
+abbrev pub decided_by_read : List BinaryPolicy → Snapshot → ℕ → Decided
+decided_by_read policies s n = decided_with s.parts n (marks_of (item_at_number (read_filters policies s.policy s.rule) n))
+
+-- a held call with these copies, decided by the session's filters, which are numbered after those that were read
+abbrev pub decided_by_session : List BinaryPolicy → List SessionFilter → Snapshot → Decided
+decided_by_session policies session s =
+    decided_by policies session s (deciding_number (verdict_from (suc (length (read_filters policies s.policy s.rule))) (session_filters session s.policy s.rule) s))
+
+-- a held call with these copies, decided as the filters that were read say, otherwise by those of the session
+abbrev pub decided_after : List BinaryPolicy → List SessionFilter → Snapshot → Verdict → Decided
+decided_after policies session s (Permit n ids) = decided_by_read policies s n
+decided_after policies session s (Refuse n errno) = decided_by_read policies s n
+decided_after policies session s Unmatched = decided_by_session policies session s
 
 -- what an audit says of the held call of an answer
-abbrev pub decided_from_history : Input → List SessionFilter → Option Answer → Option Decided
-decided_from_history i session answer = option_map (λ a. decided_by i session a.snapshot (deciding_number (decision_from_history i session a))) answer
+abbrev pub decided_from_history : List BinaryPolicy → List SessionFilter → Option Answer → Option Decided
+decided_from_history policies session answer = option_map (λ a. decided_after policies session a.snapshot a.verdict) answer
 
 -- what an entry prints, by what the entries before it record and by the session after them
 abbrev pub line_from_history : Input → History → Entry → List ℕ
-line_from_history i h e = line_by i (owner_at i h) (row_at i h) (entered_at i h) (λ q. decided_from_history i (session_at i h) (applied_answer h q)) e
+line_from_history i h e = line_by i (owner_at i h) (row_at i h) (entered_at i h) (λ q. decided_from_history i.policies (session_at i h) (applied_answer h q)) e
 
 -- the audit of a history, by what its entries record and by the session at each
 abbrev pub text_from_history : Input → History → List ℕ

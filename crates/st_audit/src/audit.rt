@@ -11,13 +11,15 @@ ghost use Rattle.st_audit.specs.Recording.{IsAuditOf};
 ghost use Rattle.st_audit.specs.FromHistory.{audit_from_history};
 
 use crate::concern::concerns_call;
+use crate::decided::{Decided, RunFilters};
 use crate::entered::EnteredCall;
 use crate::how::How;
-use crate::ledger::{Decided, Ledger};
+use crate::ledger::Ledger;
 use crate::line::{Caller, Ending, append_call_line};
 use crate::process::{owner_of, row_of};
 use st_base::{Seq, Text, Tid};
 use st_calls::{ArgText, Rule};
+use st_compile::Compiled;
 use st_law::Input;
 use st_learn::Session;
 use st_report::Recorder;
@@ -94,11 +96,11 @@ fn append_line(
     alloc: Global,
     text: &mut Text,
     input: &Input,
-    session: &Session,
+    filters: &RunFilters<'_, '_>,
     ledger: &Ledger,
     entry: &Entry,
 ) -> Result<(), AllocError>
-    ensures { OnOk result (text.new ≡ text.old ++ kept_line input.now session.now.filters ledger.now entry.now) }
+    ensures { OnOk result (text.new ≡ text.old ++ kept_line input.now filters.now.read.now filters.now.session.now.filters ledger.now entry.now) }
 {
     match entry {
         Entry::Used {
@@ -111,7 +113,7 @@ fn append_line(
             result: outcome,
             ..
         } => {
-            let decided = ledger.decided(input, session, *seq);
+            let decided = ledger.decided(filters, *seq);
             let ending = Ending {
                 args: args_used(*seq, args.as_slice()),
                 how: How::used(*seq, &decided, *ids),
@@ -131,7 +133,7 @@ fn append_line(
             cause,
         } => match ledger.entered.get(tid) {
             Some(called) => {
-                let decided = ledger.decided(input, session, seq_printed(*seq, cause));
+                let decided = ledger.decided(filters, seq_printed(*seq, cause));
                 let ending = Ending {
                     args: parts_of(&decided),
                     how: How::denied(alloc, *seq, cause)?,
@@ -182,13 +184,18 @@ impl Recorder for AuditRecorder {
         &mut self,
         alloc: Global,
         input: &Input,
+        compiled: &Compiled<'_>,
         session: &Session,
         entry: &Entry,
     ) -> Result<(), AllocError> {
         if !concerns_call(entry) {
             return Ok(());
         }
-        append_line(alloc, &mut self.text, input, session, &self.ledger, entry)?;
+        let filters = RunFilters {
+            read: &*compiled,
+            session: &*session,
+        };
+        append_line(alloc, &mut self.text, input, &filters, &self.ledger, entry)?;
         self.ledger.note(alloc, input, entry)
     }
 }

@@ -2,7 +2,7 @@ ghost use Rattle.std.specs.Prelude.{◌≡◌, ◌++◌, codes, decimal, IfOk, O
 ghost use Rattle.st_lex.specs.Quote.{quoted};
 ghost use Rattle.st_audit.specs.How.{as_text, how_text, how_used, how_denied, permitted};
 
-use crate::ledger::Decided;
+use crate::decided::Decided;
 use st_base::{Ids, Seq, Text};
 use st_lex::quote;
 use st_trace::Cause;

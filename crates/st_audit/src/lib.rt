@@ -5,6 +5,7 @@
 mod answer;
 mod audit;
 mod concern;
+mod decided;
 mod entered;
 mod how;
 mod ledger;
@@ -12,8 +13,6 @@ mod line;
 mod marks;
 mod policies;
 mod process;
-mod read;
-mod session;
 
 pub use audit::{AuditRecorder, longer_runs_extend_the_audit};
 pub use policies::policies_text;

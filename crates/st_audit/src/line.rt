@@ -3,7 +3,7 @@ ghost use Rattle.st_audit.specs.AuditText.{caller_text, ending_text, log_text, p
 
 use crate::how::{How, append_how};
 use st_base::{Pid, Text, Tid};
-use st_calls::{ArgText, Rule, append_index};
+use st_calls::{ArgText, Rule, append_index, emulation_prefix};
 use st_lex::quote;
 use st_report::append_result;
 use st_trace::CallResult;
@@ -35,7 +35,8 @@ fn append_caller(text: &mut Text, caller: &Caller<'_>) -> Result<(), AllocError>
     text.append_number(u64::from(caller.tid))?;
     text.push(b' ')?;
     quote(caller.policy, text)?;
-    text.append(b" native-")?;
+    text.push(b' ')?;
+    text.append(emulation_prefix())?;
     text.append(caller.rule.word())
 }
 

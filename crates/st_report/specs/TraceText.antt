@@ -9,6 +9,7 @@ use Rattle.st_calls.specs.declared.call.SysCall.{SysCall}
 use Rattle.st_calls.specs.declared.judged.Snapshot.{Snapshot}
 use Rattle.st_calls.specs.declared.judged.Verdict.{Verdict}
 use Rattle.st_calls.specs.declared.judged.Verdict.TheVariants.{Permit, Refuse, Unmatched}
+use Rattle.st_calls.specs.Emulation.{emulation_prefix}
 use Rattle.st_names.specs.declared.seen.SeenText.{SeenText}
 use Rattle.st_names.specs.declared.seen.SeenText.TheVariants as seen
 use Rattle.st_trace.specs.declared.entry.CallResult.{CallResult}
@@ -85,7 +86,7 @@ judged_fields s = codes " pid" ++ number_fields (s.pid ∷ []) ++ ids_fields s.i
 
 -- the held call, by the copies of its arguments
 abbrev pub asked_fields : Snapshot → List ℕ
-asked_fields s = codes " rule native-" ++ name_of_rule s.rule ++ call_fields s.call s.regs ++ args_fields s.parts
+asked_fields s = codes " rule " ++ emulation_prefix ++ name_of_rule s.rule ++ call_fields s.call s.regs ++ args_fields s.parts
 
 -- ---- lines
 

@@ -9,7 +9,7 @@ use crate::fields::{
     append_ids, append_name, append_numbered, append_numbers, append_text, append_word,
 };
 use st_base::{Errno, Ids, Seq, Text, Tid};
-use st_calls::{ArgText, Snapshot, SysCall, Verdict};
+use st_calls::{ArgText, Snapshot, SysCall, Verdict, emulation_prefix};
 use st_names::{AbsName, SeenText};
 use st_trace::{CallResult, Cause, Change, Entry, Way};
 use std::alloc::{AllocError, Global};
@@ -143,7 +143,8 @@ fn append_judged(text: &mut Text, copies: &Snapshot) -> Result<(), AllocError>
 fn append_asked(text: &mut Text, copies: &Snapshot) -> Result<(), AllocError>
     ensures { OnOk result (text.new ≡ text.old ++ asked_fields copies.now) }
 {
-    text.append(b" rule native-")?;
+    text.append(b" rule ")?;
+    text.append(emulation_prefix())?;
     text.append(copies.rule.word())?;
     append_call(text, copies.call, &copies.regs)?;
     append_args(text, copies.parts.as_slice())

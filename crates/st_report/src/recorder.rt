@@ -3,6 +3,7 @@ ghost use Rattle.st_law.specs.History.{session_at};
 ghost use Rattle.st_law.specs.declared.input.Input.{Input};
 ghost use Rattle.st_trace.specs.declared.entry.Entry.{Entry};
 
+use st_compile::Compiled;
 use st_law::Input;
 use st_learn::Session;
 use st_trace::Entry;
@@ -13,14 +14,16 @@ pub trait Recorder {
     /// Whether exactly these entries of a run of this input were recorded, in order.
     ghost has_noted: { Self → Input → List Entry → Type 0 };
 
-    /// Records the next entry of a run of this input. The session is the one after that entry.
+    /// Records the next entry of a run of this input, whose policies are given compiled too. The session is the one after that entry.
     fn note(
         &mut self,
         alloc: Global,
         input: &Input,
+        compiled: &Compiled<'_>,
         session: &Session,
         entry: &Entry,
     ) -> Result<(), AllocError>
+        requires { compiled.now ≡ input.now.policies }
         ensures { OnOk result ((trace : List Entry) → session.now.filters ≡ session_at input.now (reverse (trace ++ entry.now ∷ [])) → has_noted self.old input.now trace → has_noted self.new input.now (trace ++ entry.now ∷ [])) };
 }
 
@@ -35,6 +38,7 @@ impl Recorder for NoRecorder {
         &mut self,
         _alloc: Global,
         _input: &Input,
+        _compiled: &Compiled<'_>,
         _session: &Session,
         _entry: &Entry,
     ) -> Result<(), AllocError> {

@@ -5,6 +5,7 @@ ghost use Rattle.st_trace.specs.declared.entry.Entry.{Entry};
 use crate::entry::append_entry;
 use crate::recorder::Recorder;
 use st_base::Text;
+use st_compile::Compiled;
 use st_law::Input;
 use st_learn::Session;
 use st_trace::Entry;
@@ -50,6 +51,7 @@ impl Recorder for TraceRecorder {
         &mut self,
         alloc: Global,
         _input: &Input,
+        _compiled: &Compiled<'_>,
         _session: &Session,
         entry: &Entry,
     ) -> Result<(), AllocError> {

@@ -3,6 +3,7 @@
 ghost use Rattle.std.specs.Prelude.{⊤};
 
 use st_base::{Seq, Tid, Worker};
+use st_compile::Compiled;
 use st_law::Input;
 use st_learn::Session;
 use st_report::Recorder;
@@ -134,6 +135,7 @@ impl Recorder for Threads {
         &mut self,
         _alloc: Global,
         _input: &Input,
+        _compiled: &Compiled<'_>,
         _session: &Session,
         entry: &Entry,
     ) -> Result<(), AllocError> {

@@ -8,12 +8,13 @@ use Rattle.st_audit.proofs.audit.AuditRecorderRecorder.note.Goals as goal
 pub returns-then-not-concerns_call : goal.returns-then-not-concerns_call
 returns-then-not-concerns_call c = λ trace same is.
     let i = c.args.input.now in
+    let policies = c.args.compiled.now in
     let session = c.args.session.now.filters in
     let e = c.args.entry.now in
     let ledger = c.args.self.now.ledger in
     let none : concerns_call e ≡ false = search rules in
     record {
-      text = audit_more i trace e session ledger c.args.self.now.text c.args.self.now.text same is.text is.kept (printed_still i session ledger e c.args.self.now.text none);
+      text = audit_more i trace e policies session ledger c.args.self.now.text c.args.self.now.text c.requires same is.text is.kept (printed_still i policies session ledger e c.args.self.now.text none);
       kept = kept_more i trace e ledger ledger is.kept (λ h. kept_still i ledger h e none);
     }
 
@@ -22,6 +23,6 @@ returns c =
     let i = c.args.input.now in
     let session = c.args.session.now.filters in
     on_ok_weaker c.note.result (λ noted trace same (is : IsAuditOf c.args.self.now i trace). record {
-      text = audit_more i trace c.args.entry.now session c.args.self.now.ledger c.args.self.now.text c.append_line.new.text same is.text is.kept c.in_ok-append_line.ensures;
+      text = audit_more i trace c.args.entry.now c.args.compiled.now session c.args.self.now.ledger c.args.self.now.text c.append_line.new.text c.requires same is.text is.kept c.in_ok-append_line.ensures;
       kept = kept_more i trace c.args.entry.now c.args.self.now.ledger c.note.new.self is.kept noted;
     }) c.note.ensures
