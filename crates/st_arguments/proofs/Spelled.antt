@@ -75,7 +75,7 @@ module _ (bytes : ℕ → ℕ) (kind : PartKind) (at : ℕ) where
         ∙ sym (spelled_is copied x);
   }
 
-  -- an argument whose value is in a register is spelled_words without a word
+  -- an argument whose value is in a register is spelled without a word
   pub spelled_plain : (text : List ℕ) → spell kind at [] ≡ Text text → IsSpelledBy bytes kind at (Text text)
   spelled_plain text e = record { is = end_within SPACE_WORDS [] (ap asked_word e) ∙ e }
 

@@ -12,7 +12,7 @@ use Rattle.st_command.specs.declared.given.Print.{Print}
 use Rattle.st_command.specs.declared.given.Print.TheVariants.{Audit, Trace, Schedule, Policy}
 use Rattle.st_command.proofs.Numbers.{AreIds, ids_in-decimal, ids_in-sound, AreWorkers, workers_in-decimal, workers_in-sound}
 
--- ---- what is option_words is read
+-- ---- what is spelled is read
 
 pub print_in-word : (print : Print) → print_in (print_word print) ≡ Some print
 print_in-word Audit = refl
@@ -103,7 +103,7 @@ all_options given word words within h =
     all_spelled_first given (word ∷ words) within ∙ ap (with_options given) (no_option_first word words h) ∙
     ap (λ (options : List GivenOption). let taken : TakenOptions = record { given = options; rest = word ∷ words } in taken) (append_nil given)
 
--- ---- what is read was option_words
+-- ---- what is read was spelled
 
 -- an option is within its bounds, and these are its words
 abbrev IsSpelled : List Word → GivenOption → Type 0

@@ -19,7 +19,7 @@ pub data GivenOption : Type 0 where
   WorkersAre : ℕ → GivenOption
   PrintIs : Print → GivenOption
 
--- ---- how options are option_words
+-- ---- how options are spelled
 
 abbrev pub mode_word : Mode → Word
 mode_word Enforce = codes "-a"

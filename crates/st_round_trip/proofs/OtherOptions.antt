@@ -103,7 +103,7 @@ module _ (sound : IsSound) (complete : IsComplete) (users groups : List NamedId)
 
 -- ---- scripts
 
--- a text that is whole has no script_lexical_fault fault
+-- a text that is whole has no lexical fault
 unbroken : (broken : Option LexFault) → is_some broken ≡ false → script_lexical_fault broken ≡ None
 unbroken None whole = refl
 unbroken (Some fault) whole = absurd (cc)

@@ -32,7 +32,7 @@ module _ (P : ReadScript → Type 0) (text : List ℕ) (options : Options)
       let same : script_with (whole_in text options).env (lines_in text) ≡ script = cc in
       subst P same (faultless (not_cut (lexed_text text).fault none.1) none.0)
 
-  -- a property holds of a script that is read, if it holds of every script of lines without a fault and without a script_lexical_fault fault after them
+  -- a property holds of a script that is read, if it holds of every script of lines without a fault and without a lexical fault after them
   pub read_has : (script : ReadScript) → script_in text options ≡ Ok script → P script
   read_has script is = by_fault (script_fault options (lexed_text text).fault (lines_in text)) refl script is
 

@@ -25,7 +25,7 @@ use Rattle.st_statements.specs.declared.statement.Statement.TheVariants as says
 
 -- what each row is read with, from the whole script
 pub record WholeScript : Type 0 where
-  -- whether a script_lexical_fault fault cuts the script off
+  -- whether a lexical fault cuts the script off
   pub is_cut : Bool
   -- the threads of all rows, and those that start in a process
   pub threads : List Name
@@ -197,7 +197,7 @@ whole_of is_cut options lines = record {
   env = environment_of options lines;
 }
 
--- the script_lexical_fault fault of a script
+-- the lexical fault of a script
 abbrev pub script_lexical_fault : Option LexFault → Option ScriptFault
 script_lexical_fault fault = option_map Lex fault
 
@@ -206,7 +206,7 @@ abbrev pub first_of : Option ScriptFault → Option ScriptFault → Option Scrip
 first_of (Some fault) other = Some fault
 first_of None other = other
 
--- the fault of a script: that of its first line that has one, otherwise the script_lexical_fault fault
+-- the fault of a script: that of its first line that has one, otherwise the lexical fault
 abbrev pub script_fault : Options → Option LexFault → List ScriptLine → Option ScriptFault
 script_fault options broken lines =
     first_of (first_fault (whole_of (is_some broken) options lines) no_names lines) (script_lexical_fault broken)
