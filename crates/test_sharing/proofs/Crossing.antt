@@ -1,4 +1,4 @@
--- Which types that hold expressions may cross threads. A compound expression holds expressions, so that these facts aren't made with the types.
+-- Which types that hold expressions may cross threads. Expressions hold expressions, and what holds a type of this kind has no derived proof.
 use denote.Param.Send.{IsSend, IsSync, sendable}
 use denote.Ref.{NamedLft}
 use Rattle.std.proofs.Crossing.{crosses}
@@ -28,6 +28,13 @@ use Rattle.st_learn.specs.contracts.added_filter.AddedFilter as AddedFilter
 use Rattle.st_learn.specs.contracts.answers.Answers as Answers
 use Rattle.st_learn.specs.contracts.operator.Operator as Operator
 use Rattle.st_learn.specs.contracts.session.Session as Session
+use Rattle.st_system.proofs.system.System.TheSendSync as system
+use Rattle.st_workers.proofs.workers.Workers.TheSendSync as workers
+use Rattle.st_threads.proofs.thread.Thread.TheSendSync as thread
+use Rattle.st_decide.specs.contracts.view.View as View
+use Rattle.st_report.proofs.schedule.Repeat.TheSendSync as repeat
+use Rattle.st_machine.specs.contracts.machine.Machine as Machine
+use Rattle.st_kernel.specs.contracts.kernel.Kernel as Kernel
 
 pub expr_sync : IsSync Expr.the_row
 expr_sync = search (expr.crosses, crosses, sendable) depth 60 fits 2000
@@ -118,3 +125,21 @@ answers_sync κ = search (compiled_sync, table.the_sync, crosses, sendable) dept
 
 pub answers_send : (κ : NamedLft) → IsSend (Answers.the_row κ)
 answers_send κ = search (compiled_send, table.the_send, crosses, sendable) depth 60 fits 2000
+
+pub view_sync : (ν κ : NamedLft) → IsSync (View.the_row ν κ)
+view_sync ν κ = search (input_sync, system.the_sync, workers.the_sync, thread.the_sync, answers_sync, operator_sync, crosses, sendable) depth 60 fits 2000
+
+pub view_send : (ν κ : NamedLft) → IsSend (View.the_row ν κ)
+view_send ν κ = search (input_sync, system.the_sync, workers.the_sync, thread.the_sync, answers_sync, operator_sync, crosses, sendable) depth 60 fits 2000
+
+pub machine_sync : (κ : NamedLft) → IsSync (Machine.the_row κ)
+machine_sync κ = search (input_sync, system.the_sync, workers.the_sync, thread.the_sync, answers_sync, operator_sync, crosses, sendable) depth 60 fits 2000
+
+pub machine_send : (κ : NamedLft) → IsSend (Machine.the_row κ)
+machine_send κ = search (input_sync, system.the_send, workers.the_send, thread.the_send, answers_send, operator_send, crosses, sendable) depth 60 fits 2000
+
+pub kernel_sync : (κ : NamedLft) → IsSync (Kernel.the_row κ)
+kernel_sync κ = search (machine_sync, repeat.the_sync, crosses, sendable) depth 60 fits 2000
+
+pub kernel_send : (κ : NamedLft) → IsSend (Kernel.the_row κ)
+kernel_send κ = search (machine_send, repeat.the_send, crosses, sendable) depth 60 fits 2000

@@ -2,6 +2,7 @@
 //! is the test.
 #![tactic(auto)]
 
+pub mod kernels;
 pub mod mediation;
 pub mod policies;
 pub mod runs;
