@@ -1,13 +1,13 @@
 -- What an argument needs next, by its progress.
-use Rattle.std.specs.Prelude.{◌≤◌, ◌<◌, Bool, true, false, List, [], length}
+use Rattle.std.specs.Prelude.{◌<◌, Bool, true, false, List, []}
 use Rattle.st_calls.specs.declared.argument.ArgSpec.{ArgSpec}
 use Rattle.st_effects.specs.Progress.{Progress, Word, Look, Stuck, Ready, progress_of_spelling}
 use Rattle.st_lookaside.specs.declared.need.Need.{Need}
 use Rattle.st_lookaside.specs.declared.need.Need.TheVariants as need
 use Rattle.st_model.specs.Spelling.{Spelled}
 use Rattle.st_model.specs.declared.limits.TheConstants.{SPACE_WORDS}
-use Rattle.st_names.specs.Name.{Components, printed_name}
-use Rattle.st_names.specs.declared.limits.TheConstants.{LONGEST_NAME}
+use Rattle.st_names.specs.Name.{Components}
+pub use Rattle.st_names.specs.Name.{IsShort}
 use Rattle.st_names.specs.declared.seen.SeenText.{SeenText}
 use Rattle.st_resolve.specs.declared.walk.WalkStep.{WalkStep}
 use Rattle.st_resolve.specs.declared.walk.WalkStep.TheVariants as step
@@ -28,10 +28,6 @@ abbrev pub need_of_walk : WalkStep → Need
 need_of_walk step.More = need.Look
 need_of_walk step.Name = need.Nothing
 need_of_walk (step.Fault errno) = need.Fault errno
-
--- a name that isn't too long
-abbrev pub IsShort : Components → Type 0
-IsShort name = length (printed_name name) ≤ LONGEST_NAME
 
 -- a word is needed
 abbrev pub IsWord : Need → Type 0

@@ -3,7 +3,7 @@ use Rattle.std.proofs.Common.{◌≡◌, ◌≤◌, ℕ, ◌+◌, Bool, true, fa
 use Rattle.std.proofs.lemmas.Bool.{ltb-false}
 use Rattle.st_base.specs.declared.errno.Errno.{Errno}
 use Rattle.st_base.specs.declared.errno.Errno.TheVariants.{ENOENT, ENOTDIR, ELOOP, ENAMETOOLONG}
-use Rattle.st_names.specs.Name.{Components, components_of, printed_name}
+use Rattle.st_names.specs.Name.{Components, IsShort, components_of, printed_name}
 use Rattle.st_model.specs.Walk.{WalkState, Name, Next, Fault, needs_lookup, walk, walk_components, name_after_parents, rest_after_ups, walk_end, start_of_name, is_last}
 use Rattle.st_names.specs.declared.seen.SeenText.{SeenText}
 use Rattle.st_names.specs.declared.seen.SeenText.TheVariants.{Missing, NotDir, Dir, File, Link}
@@ -45,15 +45,16 @@ walk_on_all P ends next fault done (part ∷ rest) n (Link text ∷ lookups) fol
     both P (is_last rest && not follow) _ _ (ends (done ++ part ∷ []))
     (both P (nat_eq n MOST_LINKS) _ _ (fault ELOOP) (walk_on_all P ends next fault (name_after_parents (start_of_name text done) (components_of text ++ rest)) (rest_after_ups (components_of text ++ rest)) (n + 1) lookups follow))
 
-abbrev IsShort : WalkState → Type 0
-IsShort (Name name) = length (printed_name name) ≤ LONGEST_NAME
-IsShort (Next name) = Unit {0}
-IsShort (Fault errno) = Unit {0}
+-- the name of a walk that has found one isn't too long
+abbrev pub IsShortWalk : WalkState → Type 0
+IsShortWalk (Name name) = IsShort name
+IsShortWalk (Next name) = Unit {0}
+IsShortWalk (Fault errno) = Unit {0}
 
-short_if : (b : Bool) (done : Components) → nat_lt LONGEST_NAME (length (printed_name done)) ≡ b → IsShort (if b then Fault ENAMETOOLONG else Name done)
+short_if : (b : Bool) (done : Components) → nat_lt LONGEST_NAME (length (printed_name done)) ≡ b → IsShortWalk (if b then Fault ENAMETOOLONG else Name done)
 short_if true done h = tt
 short_if false done h = ltb-false _ _ h
 
 pub walk_short : (done rest name : Components) (n : ℕ) (lookups : List SeenText) (follow : Bool) → walk done rest n lookups follow ≡ Name name → length (printed_name name) ≤ LONGEST_NAME
 walk_short done rest name n lookups follow e =
-    subst IsShort e (walk_on_all IsShort (λ ended. short_if _ ended refl) (λ next. tt) (λ errno. tt) (name_after_parents done rest) (rest_after_ups rest) n lookups follow)
+    subst IsShortWalk e (walk_on_all IsShortWalk (λ ended. short_if _ ended refl) (λ next. tt) (λ errno. tt) (name_after_parents done rest) (rest_after_ups rest) n lookups follow)

@@ -1,8 +1,8 @@
 -- Names as lists of components, and the texts that spell names.
-use Rattle.std.specs.Prelude.{◌≡◌, ◌<◌, ℕ, ◌+◌, ◌-◌, Bool, true, false, ◌==◌, ◌&&◌, not, nat_lt, List, [], ◌∷◌, length, slice_index_or, take, drop, codes, All, Option, None, Some}
+use Rattle.std.specs.Prelude.{◌≡◌, ◌≤◌, ◌<◌, ℕ, ◌+◌, ◌-◌, Bool, true, false, ◌==◌, ◌&&◌, not, nat_lt, List, [], ◌∷◌, length, slice_index_or, take, drop, codes, All, Option, None, Some}
 use Rattle.std.specs.List.{filter, flat_map, list_any, slice_split}
 use Rattle.std.specs.Str.{bytes_eq}
-use Rattle.st_names.specs.declared.limits.TheConstants.{LONGEST_PART}
+use Rattle.st_names.specs.declared.limits.TheConstants.{LONGEST_NAME, LONGEST_PART}
 
 -- a name: its components from the root, or the components that continue some other name
 abbrev pub Components : Type 0
@@ -61,6 +61,10 @@ IsNameText text = flat_map with_slash (parts_after text) ≡ text
 abbrev pub printed_name : Components → List ℕ
 printed_name [] = codes "/"
 printed_name (part ∷ rest) = flat_map with_slash (part ∷ rest)
+
+-- a name isn't too long
+abbrev pub IsShort : Components → Type 0
+IsShort name = length (printed_name name) ≤ LONGEST_NAME
 
 -- a name without its last component; the root stays the root
 abbrev pub parent : Components → Components

@@ -23,7 +23,7 @@ use Rattle.st_model.specs.Tree.{Tree, look}
 use Rattle.st_model.specs.Walk as walk
 use Rattle.st_model.specs.Walk.{WalkState, resolve_within, start_walk, walk_through}
 use Rattle.st_model.specs.declared.limits.TheConstants.{SPACE_WORDS}
-use Rattle.st_model.proofs.Walks.{walk_short}
+use Rattle.st_model.proofs.Walks.{IsShortWalk, walk_short}
 use Rattle.st_effects.specs.Progress.{ArgRequest, Progress, Word, Look, Stuck, Ready, progress, progress_from, progress_of_spelling, progress_of_walk}
 use Rattle.st_effects.specs.Sockets.{port_in}
 use Rattle.st_exec_sys.proofs.Ports.{port_of_address, two_bytes}
@@ -57,12 +57,6 @@ reprinted [] short = short
 reprinted (part ∷ rest) short = let low = slashed (part ++ flat_map with_slash rest) in omega (arith, low, short)
 
 -- ---- walks
-
--- the name of a walk that has found one isn't too long
-abbrev IsShortWalk : WalkState → Type 0
-IsShortWalk (walk.Name name) = IsShort name
-IsShortWalk (walk.Next name) = Unit {0}
-IsShortWalk (walk.Fault errno) = Unit {0}
 
 by_state : (w : WalkState) → ((name : Components) → w ≡ walk.Name name → IsShort name) → IsShortWalk w
 by_state (walk.Name name) f = f name refl

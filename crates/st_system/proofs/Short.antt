@@ -1,17 +1,12 @@
 -- The directories of processes have names that aren't too long, also after the changes of a call.
-use Rattle.std.proofs.Common.{◌≤◌, ℕ, Bool, true, false, cond, ◌==◌, List, [], ◌∷◌, length}
+use Rattle.std.proofs.Common.{ℕ, Bool, true, false, cond, ◌==◌, List, [], ◌∷◌}
 use Rattle.std.specs.List.{fold}
-use Rattle.st_names.specs.Name.{Components, printed_name}
-use Rattle.st_names.specs.declared.limits.TheConstants.{LONGEST_NAME}
+pub use Rattle.st_names.specs.Name.{IsShort}
 use Rattle.st_model.specs.Process.{Process}
 use Rattle.st_effects.specs.Changes.{process_after, process_after_change}
 use Rattle.st_trace.specs.declared.entry.Change.{Change}
 use Rattle.st_trace.specs.declared.entry.Change.TheVariants.{Made, Linked, Removed, Renamed, Written, Cut, Moded, Owned, Put, Forked, Execed, SetIds, Cwd, Dying, Renewed, Policy}
 use Rattle.st_exec_fs.proofs.Changed.{Each}
-
--- a name isn't too long
-abbrev pub IsShort : Components → Type 0
-IsShort name = length (printed_name name) ≤ LONGEST_NAME
 
 -- a directory that a change gives a process has such a name
 abbrev pub IsShortMove : Change → Type 0
