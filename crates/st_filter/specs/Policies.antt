@@ -2,7 +2,9 @@
 use Rattle.std.specs.Prelude.{ℕ, Bool, true, false, List, [], ◌∷◌, ◌++◌, filter, if◌then◌else◌, length, sum_by}
 use Rattle.std.specs.List.{list_any}
 use Rattle.std.specs.Str.{bytes_eq}
+use Rattle.st_calls.specs.Call.{sets_ids}
 use Rattle.st_calls.specs.declared.rule.Rule.{Rule}
+use Rattle.st_calls.specs.declared.rule.Rule.TheVariants.{Call, FsRead, FsWrite}
 use Rattle.st_calls.specs.Rules.{same_rule}
 use Rattle.st_filter.specs.declared.filter.FilterName.{FilterName}
 use Rattle.st_filter.specs.declared.filter.FilterName.TheVariants as name
@@ -18,6 +20,17 @@ policy_of (p ∷ ps) binary = if bytes_eq p.binary binary then p.filters else po
 abbrev pub is_for : Rule → FilterName → Bool
 is_for rule (name.Rule other) = same_rule other rule
 is_for rule (name.Other other) = false
+
+-- whether a rule judges calls that set ids
+abbrev pub sets_ids_by : Rule → Bool
+sets_ids_by (Call call) = sets_ids call
+sets_ids_by FsRead = false
+sets_ids_by FsWrite = false
+
+-- whether a filter of this name is for calls that set ids, to which no ids may be granted
+abbrev pub names_set_id_call : FilterName → Bool
+names_set_id_call (name.Rule rule) = sets_ids_by rule
+names_set_id_call (name.Other other) = false
 
 -- the filters of a rule, in order
 abbrev pub filters_of : Rule → List FilterValue → List FilterValue

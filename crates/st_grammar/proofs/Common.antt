@@ -4,7 +4,7 @@ pub use Rattle.st_base.specs.declared.errno.Errno.{Errno}
 pub use Rattle.st_base.specs.declared.errno.Errno.TheVariants.{EPERM}
 pub use Rattle.st_calls.specs.declared.rule.Rule.TheVariants.{Call, FsRead}
 pub use Rattle.st_filter.specs.Formula.{And, Conjunction, Disjunction, FilterValue, Formula, Level, Not, Operand, Or, Test, True}
-pub use Rattle.st_filter.specs.Policies.{add_filter, filters_in, has_policy, with_filter}
+pub use Rattle.st_filter.specs.Policies.{add_filter, filters_in, has_policy, names_set_id_call, with_filter}
 pub use Rattle.st_filter.specs.declared.filter.Action.{Action}
 pub use Rattle.st_filter.specs.declared.filter.Action.TheVariants.{Ask, Deny, Permit}
 pub use Rattle.st_filter.specs.declared.filter.Cmp.{Cmp}
@@ -21,7 +21,7 @@ pub use Rattle.st_grammar.specs.Grammar.{Always, AreNew, AreRows, Asks, binary_o
 pub use Rattle.st_grammar.specs.OneFilter.{filter_in, FilterResult}
 pub use Rattle.st_grammar.specs.Reading.{as_reading, binaries, ends_filter, fault_in, fault_of, filter_of, first_reading, is_between_rows, is_binary_place, new_policy, or_refused, policies_in, read_end, read_from, read_step, Reading, reading_after, reading_of, reading_step, refusal_in, refusal_of, Refusable, set_of, taken, unless_lexical}
 pub use Rattle.st_grammar.specs.Symbol.{Broken, Close, CloseBracket, Colon, Comma, Equal, Line, Open, OpenBracket, Quoted, Symbol, symbol_by, symbol_of, Word}
-pub use Rattle.st_grammar.specs.Words.{filter_name, id_in, index_in, is_label, may_test, may_test_label, names_for, op_named, names_set_id_call}
+pub use Rattle.st_grammar.specs.Words.{filter_name, id_in, index_in, is_label, may_test, may_test_label, names_for, op_named}
 pub use Rattle.st_grammar.specs.declared.env.Env.{Env}
 pub use Rattle.st_grammar.specs.declared.env.NamedId.{NamedId}
 pub use Rattle.st_grammar.specs.declared.fault.PolicyFault.{PolicyFault}

@@ -19,6 +19,7 @@ use Rattle.st_filter.specs.declared.filter.Op.TheVariants.{Eq}
 use Rattle.st_filter.specs.declared.filter.Predicate.{Predicate}
 use Rattle.st_filter.specs.declared.filter.Who.{Who}
 use Rattle.st_filter.specs.declared.set.TheConstants.{MOST_FILTERS}
+use Rattle.st_filter.specs.Policies.{names_set_id_call}
 use Rattle.st_grammar.specs.declared.env.Env.{Env}
 use Rattle.st_grammar.specs.declared.env.NamedId.{NamedId}
 use Rattle.st_grammar.specs.declared.fault.PolicyFault.{PolicyFault}
@@ -29,7 +30,7 @@ use Rattle.st_grammar.specs.declared.place.Place.TheVariants as place
 use Rattle.st_grammar.specs.Expression.{PendingOperand, Negation, Group, Reduced, reduced, close_group, with_pending, with_operand, without_either, joins_both, joins_either}
 use Rattle.st_grammar.specs.Grammar.{most_joins, binary_of, who_named, comparison}
 use Rattle.st_grammar.specs.Symbol.{Symbol, Word, Quoted, Colon, Comma, Open, Close, OpenBracket, CloseBracket, Line}
-use Rattle.st_grammar.specs.Words.{is_label, filter_name, may_test, may_test_label, names_set_id_call, op_named, index_in, id_in, names_for}
+use Rattle.st_grammar.specs.Words.{is_label, filter_name, may_test, may_test_label, op_named, index_in, id_in, names_for}
 
 -- how far the reader has come in the grammar
 pub record GrammarState : Type 0 where

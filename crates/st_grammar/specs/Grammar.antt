@@ -21,9 +21,9 @@ use Rattle.st_filter.specs.declared.filter.Who.{Who}
 use Rattle.st_filter.specs.declared.filter.Who.TheVariants.{User, Group}
 use Rattle.st_filter.specs.declared.set.BinaryPolicy.{BinaryPolicy}
 use Rattle.st_filter.specs.Formula.{Formula, True, Test, Not, And, Or, FilterValue, Level, Operand, Conjunction, Disjunction}
-use Rattle.st_filter.specs.Policies.{filters_in, has_policy, with_filter}
+use Rattle.st_filter.specs.Policies.{filters_in, has_policy, names_set_id_call, with_filter}
 use Rattle.st_grammar.specs.Symbol.{Symbol, Word, Quoted, Colon, Comma, Open, Close, OpenBracket, CloseBracket, Equal, NotEqual, Less, Greater, Line, symbol_of}
-use Rattle.st_grammar.specs.Words.{is_label, filter_name, may_test, names_set_id_call, op_named, index_in, id_in, names_for}
+use Rattle.st_grammar.specs.Words.{is_label, filter_name, may_test, op_named, index_in, id_in, names_for}
 use Rattle.st_filter.specs.declared.set.TheConstants.{MOST_FILTERS}
 
 -- ---- expressions

@@ -5,9 +5,8 @@ use Rattle.std.specs.List.{starts_with, list_any, list_all}
 use Rattle.std.specs.Str.{bytes_eq}
 use Rattle.st_base.specs.Number.{number_in, numeral_up_to}
 use Rattle.st_calls.specs.declared.rule.Rule.{Rule}
-use Rattle.st_calls.specs.declared.rule.Rule.TheVariants.{Call}
 use Rattle.st_calls.specs.Argument.{has_argument, has_label}
-use Rattle.st_calls.specs.Call.{rule_named, sets_ids}
+use Rattle.st_calls.specs.Call.{rule_named}
 use Rattle.st_calls.specs.Emulation.{emulation_prefix}
 use Rattle.st_grammar.specs.declared.env.Env.{Env}
 use Rattle.st_grammar.specs.declared.env.NamedId.{NamedId}
@@ -58,11 +57,6 @@ may_test (name.Other word) label index = true
 abbrev pub may_test_label : FilterName → List ℕ → Bool
 may_test_label (name.Rule rule) label = has_label rule label
 may_test_label (name.Other word) label = true
-
--- whether a filter is for a call that sets ids, to which no ids may be granted
-abbrev pub names_set_id_call : FilterName → Bool
-names_set_id_call (name.Rule (Call call)) = sets_ids call
-names_set_id_call _ = false
 
 -- ---- operators, indexes and ids
 

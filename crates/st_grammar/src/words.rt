@@ -1,8 +1,9 @@
 ghost use Rattle.std.specs.Prelude.{◌≡◌, ◌&&◌, nat_lt, length, find, option_copied, option_map};
 ghost use Rattle.std.specs.List.{list_all};
 ghost use Rattle.std.specs.Str.{bytes_eq};
+ghost use Rattle.st_filter.specs.Policies.{names_set_id_call};
 ghost use Rattle.st_grammar.specs.Grammar.{who_named};
-ghost use Rattle.st_grammar.specs.Words.{is_label, is_name_byte, native_name, name_by, may_test, may_test_label, names_set_id_call, op_named, index_in, is_id_named, id_in, names_for};
+ghost use Rattle.st_grammar.specs.Words.{is_label, is_name_byte, native_name, name_by, may_test, may_test_label, op_named, index_in, is_id_named, id_in, names_for};
 
 use crate::env::{Env, NamedId};
 use st_base::number::{number_of, numeral_up_to};

@@ -20,7 +20,7 @@ use Rattle.st_calls.proofs.Rules.{same_rule-Decides}
 use Rattle.st_effects.specs.Progress.{Progress, Word, Look, Stuck, Ready}
 use Rattle.st_filter.specs.Formula.{FilterValue}
 use Rattle.st_filter.specs.Judging.{holds, verdict, verdict_by, verdict_from}
-use Rattle.st_filter.specs.Policies.{filters_of, is_for, policy_of}
+use Rattle.st_filter.specs.Policies.{filters_of, is_for, names_set_id_call, policy_of, sets_ids_by}
 use Rattle.st_filter.specs.declared.filter.Action.{Action}
 use Rattle.st_filter.specs.declared.filter.Action.TheVariants as action
 use Rattle.st_filter.specs.declared.filter.FilterName.{FilterName}
@@ -46,7 +46,7 @@ use Rattle.st_law.proofs.Laws.{all_at, lawful_history}
 use Rattle.st_law.proofs.ShortArguments.{HasRule}
 use Rattle.st_law.proofs.ShortLinks.{short_of}
 use Rattle.st_law.proofs.Ties.{state-is}
-use Rattle.st_reached.specs.Grants.{IsUngrantedForSetting, RepliesUngranted, SetIdsUngranted, is_for_setting, sets_ids_by}
+use Rattle.st_reached.specs.Grants.{IsUngrantedForSetting, RepliesUngranted, SetIdsUngranted}
 use Rattle.st_reached.specs.Reached.{SetsOwnIds}
 
 -- ---- what filters without a grant permit
@@ -70,7 +70,7 @@ by_one n k grant own ids (action.Deny errno) none e = cc
 by_one n k grant own ids action.Ask none e = cc
 
 -- a filter that is for a rule that sets ids
-for_setting : (rule : Rule) (given : FilterName) → sets_ids_by rule ≡ true → is_for rule given ≡ true → is_for_setting given ≡ true
+for_setting : (rule : Rule) (given : FilterName) → sets_ids_by rule ≡ true → is_for rule given ≡ true → names_set_id_call given ≡ true
 for_setting rule (name.Rule other) sets same = ap sets_ids_by ((same_rule-Decides other rule).0 same) ∙ sets
 for_setting rule (name.Other other) sets same = absurd (true≢false (sym same))
 

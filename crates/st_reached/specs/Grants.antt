@@ -1,29 +1,14 @@
 -- What is required of policies and replies beyond a startable input: a filter of a call that sets ids has no grant.
-use Rattle.std.specs.Prelude.{◌≡◌, Bool, true, false, List, None}
+use Rattle.std.specs.Prelude.{◌≡◌, true, List, None}
 use Rattle.std.specs.List.{All}
-use Rattle.st_calls.specs.declared.rule.Rule.{Rule}
-use Rattle.st_calls.specs.declared.rule.Rule.TheVariants.{Call, FsRead, FsWrite}
 use Rattle.st_filter.specs.Formula.{FilterValue}
-use Rattle.st_filter.specs.declared.filter.FilterName.{FilterName}
-use Rattle.st_filter.specs.declared.filter.FilterName.TheVariants as name
+use Rattle.st_filter.specs.Policies.{names_set_id_call}
 use Rattle.st_filter.specs.declared.set.BinaryPolicy.{BinaryPolicy}
 use Rattle.st_filter.specs.declared.set.Reply.{Reply}
-use Rattle.st_calls.specs.Call.{sets_ids}
 
--- whether a rule judges calls that set ids
-abbrev pub sets_ids_by : Rule → Bool
-sets_ids_by (Call call) = sets_ids call
-sets_ids_by FsRead = false
-sets_ids_by FsWrite = false
-
--- whether a filter of this name is for a rule that judges calls that set ids
-abbrev pub is_for_setting : FilterName → Bool
-is_for_setting (name.Rule rule) = sets_ids_by rule
-is_for_setting (name.Other other) = false
-
--- a filter has no grant, if it is for a rule that judges calls that set ids
+-- a filter has no grant, if it is for calls that set ids
 abbrev pub IsUngrantedForSetting : FilterValue → Type 0
-IsUngrantedForSetting filter = is_for_setting filter.name ≡ true → filter.grant ≡ None
+IsUngrantedForSetting filter = names_set_id_call filter.name ≡ true → filter.grant ≡ None
 
 -- no filter of these policies grants ids for a call that sets ids
 abbrev pub SetIdsUngranted : List BinaryPolicy → Type 0

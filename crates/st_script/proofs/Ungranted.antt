@@ -1,30 +1,21 @@
 -- Policies that are read grant no ids to a call that sets ids.
-use Rattle.std.proofs.Common.{◌≡◌, ◌++◌, ◌∙◌, ℕ, Bool, true, false, List, [], ◌∷◌, Option, None, refl, sym, subst}
+use Rattle.std.proofs.Common.{◌≡◌, ◌∙◌, ℕ, Bool, true, false, List, [], ◌∷◌, Option, None, refl, sym, subst}
 use Rattle.std.proofs.lemmas.List.Elements.{All-append, All-from_recursion}
 use Rattle.std.specs.List.{All, AllByRecursion}
-use Rattle.st_calls.specs.declared.rule.Rule.TheVariants as rules
 use Rattle.st_filter.specs.Formula.{FilterValue}
-use Rattle.st_filter.specs.Policies.{with_filter}
+use Rattle.st_filter.specs.Policies.{names_set_id_call, with_filter}
 use Rattle.st_filter.specs.declared.filter.Action.{Action}
 use Rattle.st_filter.specs.declared.filter.Action.TheVariants as action
 use Rattle.st_filter.specs.declared.filter.FilterName.{FilterName}
-use Rattle.st_filter.specs.declared.filter.FilterName.TheVariants as name
 use Rattle.st_filter.specs.declared.filter.Grant.{Grant}
 use Rattle.st_filter.specs.declared.set.BinaryPolicy.{BinaryPolicy}
 use Rattle.st_base.proofs.Each.{each-append, each-parts}
 use Rattle.st_grammar.specs.Grammar.{AreRows, NoRow, Blank, Header, FilterRow, IsFilter, IsTail, Plain, Logs, Grants, GrantsAndLogs, LogsAndGrants, MayGrant, Reads}
 use Rattle.st_grammar.specs.Symbol.{Symbol}
-use Rattle.st_grammar.specs.Words.{names_set_id_call}
 use Rattle.st_grammar.specs.declared.env.Env.{Env}
-use Rattle.st_reached.specs.Grants.{IsUngrantedForSetting, SetIdsUngranted, is_for_setting}
+use Rattle.st_reached.specs.Grants.{IsUngrantedForSetting, SetIdsUngranted}
 
 -- ---- filters
-
-sets : (n : FilterName) → is_for_setting n ≡ true → names_set_id_call n ≡ true
-sets (name.Rule (rules.Call call)) is = is
-sets (name.Rule rules.FsRead) is = is
-sets (name.Rule rules.FsWrite) is = is
-sets (name.Other other) is = is
 
 may_not : (env : Env) (n : FilterName) (a : Action) → MayGrant env n a → names_set_id_call n ≡ true → ⊥
 may_not env n action.Permit may is = let clash : true ≡ false = sym is ∙ may.1 in cc
@@ -39,7 +30,7 @@ ungranted env n a (GrantsAndLogs may spelled) is = absurd (may_not env n a may i
 ungranted env n a (LogsAndGrants may spelled) is = absurd (may_not env n a may is)
 
 pub filter_ungranted : (env : Env) (row : List Symbol) (f : FilterValue) → IsFilter env row f → IsUngrantedForSetting f
-filter_ungranted env row f filter is = ungranted env f.name f.action filter.tail_is (sets f.name is)
+filter_ungranted env row f filter is = ungranted env f.name f.action filter.tail_is is
 
 -- ---- policies
 
