@@ -29,8 +29,6 @@ pub enum Unread {
     Directory,
     /// The host doesn't let it be read.
     Denied,
-    /// Its name isn't UTF-8, as each name of the host's files has to be.
-    NoText,
     /// Any other reason.
     Other,
 }
@@ -132,7 +130,7 @@ fn read_named<R: rt::Files>(
     ensures no_text { (IsUtf8 name.now → ⊥) → result ≡ Err FetchFault.Failed }
 {
     let Ok(path) = str::from_utf8(name.bytes()) else {
-        *reason = Unread::NoText;
+        *reason = Unread::Other;
         return Err(FetchFault::Failed);
     };
     match fs::open(rt, path) {

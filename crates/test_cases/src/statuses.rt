@@ -39,7 +39,6 @@ pub fn reason_of(number: u32) -> Unread {
     match number {
         0 => Unread::Directory,
         1 => Unread::Denied,
-        2 => Unread::NoText,
         _ => Unread::Other,
     }
 }
