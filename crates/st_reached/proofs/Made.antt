@@ -94,16 +94,20 @@ module _ (i : Input) (st : State) (u : ℕ) (regs : List ℕ) (args : List ArgTe
 
 makes_processes : (i : Input) → Spends one_each one_call i (λ st. st.next_process)
 makes_processes i = record {
+  entering = 0;
   entered = λ x later call regs way makes. omega arith;
-  still = λ st e none. ap (next_process_after st.next_process) none;
-  used = λ st u seq call regs args ids result changes entered pending y. one_process i st u regs args ids call changes (used_shape i st u call regs args ids result changes seq y);
+  enters = λ st u call regs way. omega arith;
+  still = λ st e none unentered. ap (next_process_after st.next_process) none;
+  used = λ st u seq call regs args ids result changes entered pending same y. one_process i st u regs args ids call changes (used_shape i st u call regs args ids result changes seq y);
 }
 
 makes_spaces : (i : Input) → Spends one_each one_call i (λ st. st.next_space)
 makes_spaces i = record {
+  entering = 0;
   entered = λ x later call regs way makes. omega arith;
-  still = λ st e none. ap (next_space_after st.next_space) none;
-  used = λ st u seq call regs args ids result changes entered pending y. one_space i st u regs args ids call changes (used_shape i st u call regs args ids result changes seq y);
+  enters = λ st u call regs way. omega arith;
+  still = λ st e none unentered. ap (next_space_after st.next_space) none;
+  used = λ st u seq call regs args ids result changes entered pending same y. one_space i st u regs args ids call changes (used_shape i st u call regs args ids result changes seq y);
 }
 
 module _ (i : Input) (startable : IsStartable i) (choices : List Choice) where

@@ -1,6 +1,6 @@
--- What the calls of a script spend: a number that each state has. If it grows only when a call is made, and by no more than the call is
--- worth, then it is never more than at first plus the worth of all instructions. Its value, plus the worth of the instructions and the
--- pending calls that all threads have left, never grows.
+-- What the calls of a script spend: a number that each state has. If it grows only when a call is entered or made, and by no more than
+-- the call's instruction is worth, then it is never more than at first plus the worth of all instructions. Its value, plus the worth of
+-- the instructions and the pending calls that all threads have left, never grows.
 use native.Mathlib.Omega.{arith}
 use Rattle.std.proofs.Common.{◌≡◌, ◌≢◌, ◌≤◌, ℕ, suc, ◌+◌, Bool, true, false, cond, ◌==◌, List, [], ◌∷◌, drop, length, reverse, Option, Some, None, refl, sym, ap, subst, ◌∙◌}
 use Rattle.std.proofs.lemmas.Bool.{eq-eqb, eqb-true}
@@ -35,6 +35,11 @@ use Rattle.st_law.proofs.Sums.{total, total_drop}
 use Rattle.st_law.proofs.Ties.{state-is}
 use Rattle.st_law.proofs.Whole.{whole_of}
 
+-- whether a call is entered
+abbrev pub enters_call : Entry → Bool
+enters_call (Entered u call regs way) = true
+enters_call _ = false
+
 module _ (worth : Instr → ℕ) (call_worth : PendingCall → ℕ) where
   -- ---- what instructions and pending calls are worth
 
@@ -53,13 +58,15 @@ module _ (worth : Instr → ℕ) (call_worth : PendingCall → ℕ) where
   abbrev pub all_of : List ThreadRow → ℕ
   all_of rows = sum_by (λ row. sum_by worth row.body) rows
 
-  -- what the calls of a script spend: a call is worth no more than its instruction; the number is unchanged by an entry without changes;
-  -- and a call that is made raises it by no more than the call is worth
+  -- what the calls of a script spend: a call is worth no more than its instruction, less what entering it spends; the number is unchanged
+  -- by any other entry without changes; and a call that is made raises it by no more than the call is worth
   pub record Spends (i : Input) (spent : State → ℕ) : Type 0 where
-    pub entered : (x : Instr) (later : List Instr) (call : SysCall) (regs : List ℕ) (way : Way) → IsCallOf x call regs → call_worth (record { call = call; regs = regs; way = way; child = child_of_next (x ∷ later) }) ≤ worth x
-    pub still : (st : State) (e : Entry) → changes_of e ≡ [] → spent (state_after i st e) ≡ spent st
+    pub entering : ℕ
+    pub entered : (x : Instr) (later : List Instr) (call : SysCall) (regs : List ℕ) (way : Way) → IsCallOf x call regs → call_worth (record { call = call; regs = regs; way = way; child = child_of_next (x ∷ later) }) + entering ≤ worth x
+    pub enters : (st : State) (u : ℕ) (call : SysCall) (regs : List ℕ) (way : Way) → spent (state_after i st (Entered u call regs way)) ≤ spent st + entering
+    pub still : (st : State) (e : Entry) → changes_of e ≡ [] → enters_call e ≡ false → spent (state_after i st e) ≡ spent st
     pub used : (st : State) (u : ℕ) (seq : Option ℕ) (call : SysCall) (regs : List ℕ) (args : List ArgText) (ids : Ids) (result : CallResult) (changes : List Change) (entered : PendingCall)
-        → (st.threads u).pending ≡ Some entered → IsUsed i st u seq call regs args ids result changes → spent (state_after i st (Used u seq call regs args ids result changes)) ≤ spent st + call_worth entered
+        → (st.threads u).pending ≡ Some entered → entered.call ≡ call → IsUsed i st u seq call regs args ids result changes → spent (state_after i st (Used u seq call regs args ids result changes)) ≤ spent st + call_worth entered
 
   -- ---- at first
 
@@ -102,7 +109,7 @@ module _ (worth : Instr → ℕ) (call_worth : PendingCall → ℕ) where
     stored_less true (x ∷ later) = let more = sum_by-cons worth x later in omega (arith, more)
 
     stored_bounded : (u place word : ℕ) → (st.threads u).owner ≢ 0 → Bounded (Stored u place word)
-    stored_bounded u place word started = bounded (Stored u place word) u 0 started (let same = spends.still st (Stored u place word) refl in omega (arith, same))
+    stored_bounded u place word started = bounded (Stored u place word) u 0 started (let same = spends.still st (Stored u place word) refl refl in omega (arith, same))
         (λ t. let less = stored_less (u == t) (st.threads t).left in omega (arith, less))
 
     denied_less : (b : Bool) (pending : Option PendingCall) → of_pending (cond b None pending) + cond b 0 0 ≤ of_pending pending
@@ -110,14 +117,14 @@ module _ (worth : Instr → ℕ) (call_worth : PendingCall → ℕ) where
     denied_less true pending = omega arith
 
     denied_bounded : (u : ℕ) (seq : Option ℕ) (errno : Errno) (cause : Cause) → (st.threads u).owner ≢ 0 → Bounded (Denied u seq errno cause)
-    denied_bounded u seq errno cause started = bounded (Denied u seq errno cause) u 0 started (let same = spends.still st (Denied u seq errno cause) refl in omega (arith, same))
+    denied_bounded u seq errno cause started = bounded (Denied u seq errno cause) u 0 started (let same = spends.still st (Denied u seq errno cause) refl refl in omega (arith, same))
         (λ t. let less = denied_less (u == t) (st.threads t).pending in omega (arith, less))
 
     -- ---- a call is entered
 
     module _ (u : ℕ) (call : SysCall) (regs : List ℕ) (way : Way) (y : IsEntered i st u call regs way) where
       abbrev Less : List Instr → Type 0
-      Less left = sum_by worth (drop 1 left) + call_worth (record { call = call; regs = regs; way = way; child = child_of_next left }) ≤ sum_by worth left
+      Less left = sum_by worth (drop 1 left) + call_worth (record { call = call; regs = regs; way = way; child = child_of_next left }) + spends.entering ≤ sum_by worth left
 
       own_less : Less (st.threads u).left
       own_less =
@@ -125,12 +132,12 @@ module _ (worth : Instr → ℕ) (call_worth : PendingCall → ℕ) where
           let least = spends.entered y.instruction y.later call regs way y.makes in
           subst Less (sym y.next) (omega (arith, more, least))
 
-      entered_less : (t : ℕ) (b : Bool) → (u == t) ≡ b → sum_by worth (cond b (drop 1 (st.threads t).left) (st.threads t).left) + of_pending (cond b (Some (record { call = call; regs = regs; way = way; child = child_of_next (st.threads t).left })) (st.threads t).pending) + cond b 0 0 ≤ of_thread (st.threads t)
+      entered_less : (t : ℕ) (b : Bool) → (u == t) ≡ b → sum_by worth (cond b (drop 1 (st.threads t).left) (st.threads t).left) + of_pending (cond b (Some (record { call = call; regs = regs; way = way; child = child_of_next (st.threads t).left })) (st.threads t).pending) + cond b spends.entering 0 ≤ of_thread (st.threads t)
       entered_less t true same = let own : Less (st.threads t).left = subst (λ n. Less (st.threads n).left) (eqb-true u t same) own_less in omega (arith, own)
       entered_less t false same = omega arith
 
       entered_bounded : Bounded (Entered u call regs way)
-      entered_bounded = bounded (Entered u call regs way) u 0 y.running.started (let same = spends.still st (Entered u call regs way) refl in omega (arith, same)) (λ t. let less = entered_less t (u == t) refl in omega (arith, less))
+      entered_bounded = bounded (Entered u call regs way) u spends.entering y.running.started (spends.enters st u call regs way) (λ t. entered_less t (u == t) refl)
 
     -- ---- a call is made
 
@@ -143,7 +150,7 @@ module _ (worth : Instr → ℕ) (call_worth : PendingCall → ℕ) where
     used_bounded : (u : ℕ) (seq : Option ℕ) (call : SysCall) (regs : List ℕ) (args : List ArgText) (ids : Ids) (result : CallResult) (changes : List Change) (way : Way) → (st.threads u).owner ≢ 0 → IsPending st u call regs way → IsUsed i st u seq call regs args ids result changes → Bounded (Used u seq call regs args ids result changes)
     used_bounded u seq call regs args ids result changes way started pending y =
         let entered : PendingCall = record { call = call; regs = regs; way = way; child = pending.0 } in
-        bounded (Used u seq call regs args ids result changes) u (call_worth entered) started (spends.used st u seq call regs args ids result changes entered pending.1 y)
+        bounded (Used u seq call regs args ids result changes) u (call_worth entered) started (spends.used st u seq call regs args ids result changes entered pending.1 refl y)
         (λ t. let less = used_less u entered pending.1 t (u == t) refl in omega (arith, less))
 
     -- ---- every entry
@@ -155,14 +162,14 @@ module _ (worth : Instr → ℕ) (call_worth : PendingCall → ℕ) where
     bounded_after (Used u (Some q) call regs args ids result changes) y = used_bounded u (Some q) call regs args ids result changes (Held y.held.first) y.running.started y.held.entered y
     bounded_after (Denied u None errno cause) y = denied_bounded u None errno cause y.running.started
     bounded_after (Denied u (Some q) errno cause) y = denied_bounded u (Some q) errno cause y.running.started
-    bounded_after (Claimed w q) y = let same = spends.still st (Claimed w q) refl in omega (arith, same)
-    bounded_after (Copied q part place word) y = let same = spends.still st (Copied q part place word) refl in omega (arith, same)
-    bounded_after (Looked q part name seen) y = let same = spends.still st (Looked q part name seen) refl in omega (arith, same)
-    bounded_after (Faulted q errno) y = let same = spends.still st (Faulted q errno) refl in omega (arith, same)
-    bounded_after (Answered w s v applied) y = let same = spends.still st (Answered w s v applied) refl in omega (arith, same)
-    bounded_after (Ended u) y = let same = spends.still st (Ended u) refl in omega (arith, same)
-    bounded_after (Learned q n) y = let same = spends.still st (Learned q n) refl in omega (arith, same)
-    bounded_after (Replied q reply n) y = let same = spends.still st (Replied q reply n) refl in omega (arith, same)
+    bounded_after (Claimed w q) y = let same = spends.still st (Claimed w q) refl refl in omega (arith, same)
+    bounded_after (Copied q part place word) y = let same = spends.still st (Copied q part place word) refl refl in omega (arith, same)
+    bounded_after (Looked q part name seen) y = let same = spends.still st (Looked q part name seen) refl refl in omega (arith, same)
+    bounded_after (Faulted q errno) y = let same = spends.still st (Faulted q errno) refl refl in omega (arith, same)
+    bounded_after (Answered w s v applied) y = let same = spends.still st (Answered w s v applied) refl refl in omega (arith, same)
+    bounded_after (Ended u) y = let same = spends.still st (Ended u) refl refl in omega (arith, same)
+    bounded_after (Learned q n) y = let same = spends.still st (Learned q n) refl refl in omega (arith, same)
+    bounded_after (Replied q reply n) y = let same = spends.still st (Replied q reply n) refl refl in omega (arith, same)
 
   -- ---- every run
 

@@ -99,19 +99,21 @@ module _ (c : ℕ) where
   -- ---- an instruction is worth what its call is
 
   module _ (there : c ≢ 0) where
-    none_worth : one_if (0 == c) ≤ 0
+    none_worth : one_if (0 == c) + 0 ≤ 0
     none_worth = let none : one_if (0 == c) ≡ 0 = ap one_if (ne_eqb 0 c (λ same. there (sym same))) in omega (arith, none)
 
-    entered_worth : (x : Instr) (later : List Instr) (call : SysCall) (regs : List ℕ) (way : Way) → IsCallOf x call regs → call_worth (record { call = call; regs = regs; way = way; child = child_of_next (x ∷ later) }) ≤ worth x
+    entered_worth : (x : Instr) (later : List Instr) (call : SysCall) (regs : List ℕ) (way : Way) → IsCallOf x call regs → call_worth (record { call = call; regs = regs; way = way; child = child_of_next (x ∷ later) }) + 0 ≤ worth x
     entered_worth (Store place word) later call regs way makes = absurd makes
     entered_worth (Call own own_regs) later call regs way makes = none_worth
     entered_worth (Fork child) later call regs way makes = omega arith
 
     starts_spent : (i : Input) → Spends worth call_worth i started
     starts_spent i = record {
+      entering = 0;
       entered = entered_worth;
-      still = λ st e none. ap (λ changes. started_by (owner_after c (st.threads c).owner changes)) none;
-      used = λ st u seq call regs args ids result changes entered pending y. shape_starts i st u regs args ids call entered pending changes (used_shape i st u call regs args ids result changes seq y);
+      enters = λ st u call regs way. omega arith;
+      still = λ st e none unentered. ap (λ changes. started_by (owner_after c (st.threads c).owner changes)) none;
+      used = λ st u seq call regs args ids result changes entered pending same y. shape_starts i st u regs args ids call entered pending changes (used_shape i st u call regs args ids result changes seq y);
     }
 
   -- ---- at first
