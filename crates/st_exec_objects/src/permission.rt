@@ -5,7 +5,7 @@ ghost use Rattle.st_base.specs.Errno.{error_if};
 ghost use Rattle.st_base.specs.declared.errno.Errno.TheVariants.{EINVAL};
 ghost use Rattle.st_effects.specs.Changes.{tree_after};
 ghost use Rattle.st_effects.specs.Descriptors.{low_mode};
-ghost use Rattle.st_effects.specs.Names.{access_outcome, chmod_outcome, chown_outcome, has_access, has_all_access, exceeds_ids, with_real_ids};
+ghost use Rattle.st_effects.specs.Names.{access_outcome, chmod_outcome, chown_outcome, has_all_access, exceeds_ids, with_real_ids};
 ghost use Rattle.st_effects.specs.System.{arg_name_at, register, success, System};
 ghost use Rattle.st_model.specs.Tree.{node_with_number};
 ghost use Rattle.st_tree.specs.Refusals.{IsObjectNumber};
@@ -38,14 +38,6 @@ fn with_real_ids(ids: Ids) -> Ids
     }
 }
 
-// Whether this bit of a mode doesn't ask for an access, or the ids have that access.
-fn has_access(tree: &Tree, ids: Ids, obj: Obj, mode: u64, bit: u64, want: Want) -> bool
-    requires { IsObjectNumber tree.now obj }
-    ensures { result ≡ has_access ids (node_with_number tree.now obj) mode bit want }
-{
-    mode & bit == 0 || tree.allowed(obj, ids.euid, ids.egid, want)
-}
-
 // Whether the ids have each access that a mode asks for.
 fn has_all_access(tree: &Tree, ids: Ids, obj: Obj, mode: u64) -> bool
     requires { IsObjectNumber tree.now obj }
@@ -56,9 +48,8 @@ fn has_all_access(tree: &Tree, ids: Ids, obj: Obj, mode: u64) -> bool
     } else {
         Want::Execute
     };
-    has_access(tree, ids, obj, mode, 4, Want::Read)
-        && has_access(tree, ids, obj, mode, 2, Want::Write)
-        && has_access(tree, ids, obj, mode, 1, last)
+    let may = |bit, want| mode & bit == 0 || tree.allowed(obj, ids.euid, ids.egid, want);
+    may(4, Want::Read) && may(2, Want::Write) && may(1, last)
 }
 
 // Checks that access(2) succeeds; otherwise gives the error of the call.
