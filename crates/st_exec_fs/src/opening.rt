@@ -27,7 +27,7 @@ ghost use Rattle.st_exec_objects.specs.Walking.{IsPlaceOfName};
 
 use st_base::{Errno, Ids, Obj, Text};
 use st_calls::{O_APPEND, O_CREAT, O_EXCL, O_TRUNC, has_flag};
-use st_exec_names::make_object;
+use st_exec_names::{make_object, owned_node};
 use st_exec_objects::walking::{self, Place};
 use st_fds::Fds;
 use st_model::{FileKind, LONGEST_FILE, MOST_OBJECTS, OpenFile};
@@ -224,7 +224,8 @@ fn make_file(
     ensures err { OnErr result (tree.new ≡ tree.old) }
 {
     let kind = NewKind::File(Text::new(alloc));
-    make_object(tree, alloc, request.ids, name, kind, request.mode(2), value)
+    let new = owned_node(request.ids, kind, request.mode(2));
+    make_object(tree, alloc, name, new, value)
 }
 
 // Changes the tree as open(2) does: makes a file, or truncates one that exists if the flags ask for it. Returns the outcome of a

@@ -6,5 +6,5 @@ mod making;
 mod renaming;
 
 pub use entries::{rmdir, unlink};
-pub use making::{link, make_object, mkdir, symlink};
+pub use making::{link, make_object, mkdir, owned_node, symlink};
 pub use renaming::rename;

@@ -6,7 +6,7 @@ ghost use Rattle.st_effects.specs.Changes.{tree_after};
 ghost use Rattle.st_effects.specs.Names.{already_exists, link_outcome, make_outcome, mkdir_outcome, symlink_outcome};
 ghost use Rattle.st_effects.specs.NameTests.{parent_not_writable, walk_error};
 ghost use Rattle.st_effects.specs.System.{arg_name_at, success, System};
-ghost use Rattle.st_model.specs.Tree.{node_of_kind, node_with_number};
+ghost use Rattle.st_model.specs.Tree.{node_of_new, node_with_number};
 ghost use Rattle.st_model.specs.declared.object.NewKind.{NewKind};
 ghost use Rattle.st_tree.specs.Refusals.{link_refused, IsObjectNumber};
 ghost use Rattle.st_model.specs.Adding.{add_refused, place_refused};
@@ -49,60 +49,63 @@ fn may_make(tree: &Tree, request: &Request<'_>, name: &AbsName) -> Result<(), Er
     Ok(())
 }
 
-/// Makes an object that isn't refused, and that belongs to the effective ids. Returns the outcome of a call whose result is this
-/// number. If memory runs out, nothing changes.
+/// An object to be made, of this kind and with this mode, that belongs to the effective ids.
+pub fn owned_node(ids: Ids, kind: NewKind, mode: u32) -> NewNode
+    ensures { result ≡ record { kind = kind; uid = ids.euid; gid = ids.egid; mode = mode } }
+{
+    NewNode {
+        kind,
+        uid: ids.euid,
+        gid: ids.egid,
+        mode,
+    }
+}
+
+/// Makes an object that isn't refused. Returns the outcome of a call whose result is this number. If memory runs out, nothing changes.
 pub fn make_object(
     tree: &mut Tree,
     alloc: Global,
-    ids: Ids,
     name: AbsName,
-    kind: NewKind,
-    mode: u32,
+    new: NewNode,
     value: u64,
 ) -> Result<Outcome, AllocError>
     requires { add_refused tree.old name ≡ None }
     ensures result { IfOk result (λ outcome. outcome.result ≡ CallResult.Value value) }
-    ensures changes { IfOk result (λ outcome. outcome.changes ≡ Change.Made name (length tree.old.objects + 1) kind ids.euid ids.egid mode ∷ []) }
+    ensures changes { IfOk result (λ outcome. outcome.changes ≡ Change.Made name (length tree.old.objects + 1) new.kind new.uid new.gid new.mode ∷ []) }
     ensures tree { IfOk result (λ outcome. tree.new ≡ tree_after tree.old outcome.changes) }
     ensures made { OnOk result (IsObjectNumber tree.new (length tree.old.objects + 1)) }
-    ensures node { OnOk result (node_with_number tree.new (length tree.old.objects + 1) ≡ node_of_kind kind ids.euid ids.egid mode) }
+    ensures node { OnOk result (node_with_number tree.new (length tree.old.objects + 1) ≡ node_of_new new) }
     ensures err { OnErr result (tree.new ≡ tree.old) }
 {
-    let (uid, gid) = (ids.euid, ids.egid);
     let change = Change::Made {
         name: name.copy(alloc)?,
         obj: tree.made() + 1,
-        kind: kind.copy(alloc)?,
-        uid,
-        gid,
-        mode,
+        kind: new.kind.copy(alloc)?,
+        uid: new.uid,
+        gid: new.gid,
+        mode: new.mode,
     };
     let outcome = Outcome::change(alloc, value, change)?;
-    let new = NewNode {
-        kind,
-        uid,
-        gid,
-        mode,
-    };
     unrefused(tree.add(alloc, &name, new))?;
     Ok(outcome)
 }
 
-// Makes an object, unless that is refused.
+// Makes an object that belongs to the effective ids of a request, unless that is refused.
 fn make(
     tree: &mut Tree,
     alloc: Global,
     request: &Request<'_>,
     name: AbsName,
-    kind: NewKind,
-    mode: u32,
+    new: NewNode,
 ) -> Result<Outcome, AllocError>
-    ensures outcome { IfOk result (λ outcome. (system : System) → outcome_of outcome system.descriptors ≡ make_outcome (with_tree system tree.old) request.now name kind mode) }
+    requires user { new.uid ≡ request.now.ids.euid }
+    requires group { new.gid ≡ request.now.ids.egid }
+    ensures outcome { IfOk result (λ outcome. (system : System) → outcome_of outcome system.descriptors ≡ make_outcome (with_tree system tree.old) request.now name new.kind new.mode) }
     ensures tree { IfOk result (λ outcome. tree.new ≡ tree_after tree.old outcome.changes) }
     ensures err { OnErr result (tree.new ≡ tree.old) }
 {
     match may_make(tree, request, &name) {
-        Ok(()) => make_object(tree, alloc, request.ids, name, kind, mode, 0),
+        Ok(()) => make_object(tree, alloc, name, new, 0),
         Err(errno) => Ok(Outcome::failure(alloc, errno)),
     }
 }
@@ -114,8 +117,8 @@ pub fn mkdir(tree: &mut Tree, alloc: Global, request: &Request<'_>) -> Result<Ou
     ensures err { OnErr result (tree.new ≡ tree.old) }
 {
     let name = request.name(alloc, 0)?;
-    let mode = request.mode(1);
-    make(tree, alloc, request, name, NewKind::Dir, mode)
+    let new = owned_node(request.ids, NewKind::Dir, request.mode(1));
+    make(tree, alloc, request, name, new)
 }
 
 /// symlink(text, name): makes a link whose target is the text.
@@ -130,7 +133,8 @@ pub fn symlink(tree: &mut Tree, alloc: Global, request: &Request<'_>) -> Result<
     }
     let kind = NewKind::Link(Text::of(alloc, target)?);
     let name = request.name(alloc, 1)?;
-    make(tree, alloc, request, name, kind, LINK_MODE)
+    let new = owned_node(request.ids, kind, LINK_MODE);
+    make(tree, alloc, request, name, new)
 }
 
 // The object that gets one more name by link(2), or the error of the call.
