@@ -17,6 +17,13 @@ use st_grammar::{Env, Place, PolicyFault, Symbol, Unsupported};
 use st_lex::unquote;
 use std::alloc::Global;
 
+// What may still follow an action: ids to grant, or `log`.
+#[derive(Clone, Copy)]
+struct Tail {
+    grant: bool,
+    log: bool,
+}
+
 // Rows and headers.
 impl<'a> Reader<'a> {
     fn step_start(&mut self, at: u32, symbol: &Symbol<'a>) -> Result<(), PolicyFault>
@@ -303,37 +310,38 @@ impl<'a> Reader<'a> {
     fn step_tail_word(
         &mut self,
         env: &Env,
-        grant: bool,
-        log: bool,
+        may: Tail,
         at: u32,
         word: &'a [u8],
     ) -> Result<(), PolicyFault>
-        ensures { IsStepped result self.new (step_tail env.now grant log self.old at (Word word.now)) }
+        ensures { IsStepped result self.new (step_tail env.now may.grant may.log self.old at (Word word.now)) }
     {
-        if is_keyword(word, b"as") && grant {
-            return self.step_as(env, at, log);
+        if is_keyword(word, b"as") && may.grant {
+            return self.step_as(env, at, may.log);
         }
-        if !(is_keyword(word, b"log") && log) {
+        if !(is_keyword(word, b"log") && may.log) {
             return Err(PolicyFault::Expected(at));
         }
         self.log = true;
-        self.go(Place::Tail { grant, log: false })
+        self.go(Place::Tail {
+            grant: may.grant,
+            log: false,
+        })
     }
 
     fn step_tail(
         &mut self,
         env: &Env,
-        grant: bool,
-        log: bool,
+        may: Tail,
         at: u32,
         symbol: &Symbol<'a>,
     ) -> Result<(), PolicyFault>
-        ensures { IsStepped result self.new (step_tail env.now grant log self.old at (seen symbol.now)) }
+        ensures { IsStepped result self.new (step_tail env.now may.grant may.log self.old at (seen symbol.now)) }
     {
         match *symbol {
             Symbol::Line => self.go(Place::Row),
             Symbol::Comma => self.go(Place::If),
-            Symbol::Word(word) => self.step_tail_word(env, grant, log, at, word),
+            Symbol::Word(word) => self.step_tail_word(env, may, at, word),
             _ => Err(PolicyFault::Expected(at)),
         }
     }
@@ -343,7 +351,15 @@ impl<'a> Reader<'a> {
     {
         match *symbol {
             Symbol::OpenBracket => self.go(Place::Error),
-            _ => self.step_tail(env, false, true, at, symbol),
+            _ => self.step_tail(
+                env,
+                Tail {
+                    grant: false,
+                    log: true,
+                },
+                at,
+                symbol,
+            ),
         }
     }
 
@@ -400,7 +416,7 @@ impl<'a> Reader<'a> {
     {
         match *symbol {
             Symbol::Colon => self.go(Place::Group { log }),
-            _ => self.step_tail(env, false, log, at, symbol),
+            _ => self.step_tail(env, Tail { grant: false, log }, at, symbol),
         }
     }
 
@@ -518,7 +534,7 @@ impl<'a> Reader<'a> {
                     log: true,
                 },
             ),
-            Place::Tail { grant, log } => self.step_tail(env, grant, log, at, symbol),
+            Place::Tail { grant, log } => self.step_tail(env, Tail { grant, log }, at, symbol),
             Place::Grant { log } => self.step_grant(env, log, at, symbol),
             Place::User { log } => self.step_user(env, log, at, symbol),
             Place::Group { log } => self.step_group(env, log, at, symbol),
