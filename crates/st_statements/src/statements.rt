@@ -8,7 +8,6 @@ use crate::lines::line_of_row;
 use crate::objects::{dir_row, file_row, link_row};
 use crate::statement::{ScriptLine, Statement};
 use crate::tasks::{process_row, reply_row, thread_row};
-use st_base::Sequence;
 use st_lex::{Token, next_row};
 use std::alloc::{AllocError, Global};
 
@@ -103,11 +102,11 @@ pub fn lines_of_tokens(
     alloc: Global,
     text: &[u8],
     tokens: &[Token],
-) -> Result<Sequence<ScriptLine>, AllocError>
+) -> Result<Vec<ScriptLine>, AllocError>
     requires { length text.now < 2 ^ 32 }
-    ensures { IfOk result (λ lines. lines ≡ script_lines_from text.now false (rows tokens.now)) }
+    ensures { IfOk result (λ lines. lines.items ≡ script_lines_from text.now false (rows tokens.now)) }
 {
-    let mut lines = Sequence::new(alloc);
+    let mut lines = Vec::new(alloc);
     let mut inside = false;
     let mut rest = tokens;
     while let Some((row, following)) = next_row(rest) {
