@@ -94,8 +94,8 @@ fn group_ids(alloc: Global, lines: &[ScriptLine]) -> Result<Sequence<NamedId>, A
     Ok(groups)
 }
 
-/// The process of a row, if it has one.
-pub fn process_of(says: &Option<Statement>) -> Option<&ScriptProcess>
+// The process of a row, if it has one.
+fn process_of(says: &Option<Statement>) -> Option<&ScriptProcess>
     ensures { option_copied result ≡ script_process says.now }
 {
     match says {

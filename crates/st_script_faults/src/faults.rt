@@ -1,9 +1,9 @@
 ghost use Rattle.std.specs.Prelude.{◌≡◌, ◌^◌, ◌≤◌, List, Some, None, Ok, [], IfOk, OnOk};
 ghost use Rattle.std.specs.List.{list_any};
-ghost use Rattle.st_script_faults.specs.Faults.{reply_filter, reply_for, reply_in, reply_said, replies_after, with_reply, is_end, ends_body, expects_other, is_unknown, is_started, is_duplicate, is_large, is_long_reply, HasBinaryOf, exceeds, is_too_many, row_fault, statement_fault, line_fault, first_fault, with_thread_name, threads_after, with_started, started_after, whole_of};
+ghost use Rattle.st_script_faults.specs.Faults.{reply_filter, reply_for, reply_in, reply_said, replies_after, with_reply, is_end, ends_body, expects_other, is_unknown, is_started, is_duplicate, is_large, is_long_reply, HasBinaryOf, exceeds, is_too_many, row_fault, first_fault, with_thread_name, threads_after, with_started, started_after, whole_of};
 ghost use Rattle.st_script_faults.specs.FirstFault.{IsFirstScriptFault};
 ghost use Rattle.st_script_faults.specs.Faults as spec;
-ghost use Rattle.st_script_faults.specs.Names.{no_names, with_says};
+ghost use Rattle.st_script_faults.specs.Names.{no_names, with_statement};
 ghost use Rattle.st_script_faults.specs.declared.fault.ScriptFault.{ScriptFault};
 ghost use Rattle.st_statements.specs.declared.statement.ScriptLine.{ScriptLine};
 ghost use Rattle.st_grammar.specs.OneFilter.{filter_in};
@@ -43,6 +43,16 @@ impl<'a> Model for Whole<'a> {
     ghost Value = { WholeScript };
 
     ghost view = { λ w. record { is_cut = w.is_cut; threads = w.threads; started = w.started; env = w.env } };
+}
+
+impl Whole<'_> {
+    /// The environment of the script's policies.
+    pub fn into_env(self) -> Env
+        ensures { result ≡ self.entry.env }
+    {
+        let Whole { env, .. } = self;
+        env
+    }
 }
 
 // A filter, unless it asks.
@@ -248,30 +258,36 @@ fn is_too_many(above: &NamesAbove, statement: &Statement, reply: &Option<Reply>)
     }
 }
 
+// A row of a script: the number of its line, what it says, and the lines below it.
+#[derive(Clone, Copy)]
+struct ScriptRow<'a> {
+    line: u32,
+    statement: &'a Statement,
+    below: &'a [ScriptLine],
+}
+
 // The fault of a row with its reply: the first kind that applies.
 fn fault_with(
     whole: &Whole,
     above: &NamesAbove,
-    below: &[ScriptLine],
-    line: u32,
-    statement: &Statement,
+    row: &ScriptRow,
     reply: &Option<Reply>,
 ) -> Option<ScriptFault>
     requires few { above.now.instructions ≤ MOST_INSTRUCTIONS }
-    requires reply { reply.now ≡ reply_said whole.now.env (Some statement.now) }
-    ensures { result ≡ row_fault whole.now above.now below.now line statement.now }
+    requires reply { reply.now ≡ reply_said whole.now.env (Some row.now.statement.now) }
+    ensures { result ≡ row_fault whole.now above.now row.now.below.now row.now.line row.now.statement.now }
 {
-    if expects_other(whole, below, statement, reply) {
-        return Some(ScriptFault::Expected(line));
+    if expects_other(whole, row.below, row.statement, reply) {
+        return Some(ScriptFault::Expected(row.line));
     }
-    if is_unknown(whole, above, statement) {
-        return Some(ScriptFault::UnknownName(line));
+    if is_unknown(whole, above, row.statement) {
+        return Some(ScriptFault::UnknownName(row.line));
     }
-    if is_duplicate(whole, above, statement) {
-        return Some(ScriptFault::Duplicate(line));
+    if is_duplicate(whole, above, row.statement) {
+        return Some(ScriptFault::Duplicate(row.line));
     }
-    if is_too_many(above, statement, reply) {
-        return Some(ScriptFault::TooMany(line));
+    if is_too_many(above, row.statement, reply) {
+        return Some(ScriptFault::TooMany(row.line));
     }
     None
 }
@@ -281,42 +297,36 @@ fn fault_of(
     alloc: Global,
     whole: &Whole,
     above: &NamesAbove,
-    below: &[ScriptLine],
-    line: u32,
-    statement: &Statement,
+    row: &ScriptRow,
     replies: &mut Sequence<Reply>,
 ) -> Result<Option<ScriptFault>, AllocError>
     requires { above.now.instructions ≤ MOST_INSTRUCTIONS }
-    ensures fault { IfOk result (λ fault. fault ≡ row_fault whole.now above.now below.now line statement.now) }
-    ensures replies { OnOk result (replies.new ≡ with_reply replies.old (reply_said whole.now.env (Some statement.now))) }
+    ensures fault { IfOk result (λ fault. fault ≡ row_fault whole.now above.now row.now.below.now row.now.line row.now.statement.now) }
+    ensures replies { OnOk result (replies.new ≡ with_reply replies.old (reply_said whole.now.env (Some row.now.statement.now))) }
 {
-    let reply = reply_said(alloc, &whole.env, statement)?;
-    let fault = fault_with(whole, above, below, line, statement, &reply);
+    let reply = reply_said(alloc, &whole.env, row.statement)?;
+    let fault = fault_with(whole, above, row, &reply);
     add_reply(replies, reply)?;
     Ok(fault)
 }
 
-// The fault of a line. If it has none, its names are added to those above, and its reply to these.
-fn take_line<'a>(
+// The fault of a row. If it has none, its names are added to those above, and its reply to these.
+fn take_row<'a>(
     alloc: Global,
     whole: &Whole,
     above: &mut NamesAbove<'a>,
-    below: &[ScriptLine],
-    line: &'a ScriptLine,
+    row: &ScriptRow<'a>,
     replies: &mut Sequence<Reply>,
 ) -> Result<Option<ScriptFault>, AllocError>
     requires { above.old.instructions ≤ MOST_INSTRUCTIONS }
-    ensures fault { IfOk result (λ fault. fault ≡ line_fault whole.now above.old below.now line.now) }
-    ensures names { IfOk result (λ fault. fault ≡ None → above.new ≡ with_says above.old line.now.says) }
+    ensures fault { IfOk result (λ fault. fault ≡ row_fault whole.now above.old row.now.below.now row.now.line row.now.statement.now) }
+    ensures names { IfOk result (λ fault. fault ≡ None → above.new ≡ with_statement above.old row.now.statement.now) }
     ensures few { IfOk result (λ fault. fault ≡ None → above.new.instructions ≤ MOST_INSTRUCTIONS) }
-    ensures replies { IfOk result (λ fault. fault ≡ None → replies.new ≡ with_reply replies.old (reply_said whole.now.env line.now.says)) }
+    ensures replies { IfOk result (λ fault. fault ≡ None → replies.new ≡ with_reply replies.old (reply_said whole.now.env (Some row.now.statement.now))) }
 {
-    let Some(statement) = &line.says else {
-        return Ok(Some(ScriptFault::Expected(line.number)));
-    };
-    let fault = fault_of(alloc, whole, above, below, line.number, statement, replies)?;
+    let fault = fault_of(alloc, whole, above, row, replies)?;
     if fault.is_none() {
-        above.add(statement)?;
+        above.add(row.statement)?;
     }
     Ok(fault)
 }
@@ -335,7 +345,15 @@ fn fault_among<'a>(
 {
     let mut rest = lines;
     while let Some((line, below)) = rest.split_first() {
-        let fault = take_line(alloc, whole, above, below, line, replies)?;
+        let Some(statement) = &line.says else {
+            return Ok(Some(ScriptFault::Expected(line.number)));
+        };
+        let row = ScriptRow {
+            line: line.number,
+            statement,
+            below,
+        };
+        let fault = take_row(alloc, whole, above, &row, replies)?;
         if fault.is_some() {
             return Ok(fault);
         }
