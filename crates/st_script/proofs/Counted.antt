@@ -1,16 +1,17 @@
 -- Lines without a fault are within the bounds of a script.
-use Rattle.std.proofs.Common.{◌≡◌, ◌≢◌, ℕ, suc, ◌+◌, ◌-◌, ◌^◌, ◌≤◌, ◌<◌, Bool, true, false, ◌||◌, ◌&&◌, not, if◌then◌else◌, cond, nat_le, List, [], ◌∷◌, ◌++◌, length, Option, Some, None, Result, Ok, Err, refl, sym, ap, ◌∙◌, subst, arith}
+use Rattle.std.proofs.Common.{◌≡◌, ◌≢◌, ℕ, suc, ◌+◌, ◌-◌, ◌^◌, ◌≤◌, ◌<◌, Bool, true, false, ◌||◌, ◌&&◌, not, if◌then◌else◌, cond, nat_le, List, [], ◌∷◌, ◌++◌, length, Option, Some, None, Ok, Err, refl, sym, ap, ◌∙◌, arith}
 use Rattle.std.proofs.Math.Nat.{min-le_left, le-min}
 use Rattle.std.proofs.lemmas.Bool.{leb-false, ltb-false}
 use Rattle.std.proofs.lemmas.List.{length-append}
 use Rattle.std.specs.List.{AllByRecursion, cons_option, filter_map, position_or_len}
-use Rattle.std.specs.Prelude.{IfOk, option_map}
+use Rattle.std.specs.Prelude.{option_map}
 use Rattle.std.specs.Str.{bytes_eq}
 use Rattle.st_filter.specs.Formula.{FilterValue}
 use Rattle.st_filter.specs.declared.filter.Action.{Action}
 use Rattle.st_filter.specs.declared.filter.Action.TheVariants as action
 use Rattle.st_filter.specs.declared.set.Reply.{Reply}
 use Rattle.st_law.specs.Inputs.{HasProcess, HasShortTarget}
+use Rattle.st_law.specs.declared.input.Options.{Options}
 use Rattle.st_lex.specs.Unquote.{unquoted}
 use Rattle.st_model.specs.declared.limits.TheConstants.{LONGEST_TEXT}
 use Rattle.st_model.specs.declared.object.NewKind.{NewKind}
@@ -21,14 +22,16 @@ use Rattle.st_script_faults.specs.Faults.{WholeScript, expects_other, is_unknown
 use Rattle.st_script.specs.Bounds.{IsWithinBounds}
 use Rattle.st_script_faults.specs.Names.{Name, Names, no_names, is_name_among, with_new_name, name_number, with_says}
 use Rattle.st_statements.specs.Parts.{is_long, is_normal}
+use Rattle.st_statements.specs.Statements.{lines_in}
 use Rattle.st_trace.specs.declared.start.ThreadRow.{ThreadRow}
-use Rattle.st_script.specs.Reading.{body_in, object_said, process_said, processes_after, script_with, thread_said, thread_with, threads_in, with_process_name}
+use Rattle.st_script.specs.Reading.{body_in, object_said, process_said, processes_after, script_in, script_with, thread_said, thread_with, threads_in, with_process_name}
 use Rattle.st_script_faults.specs.declared.fault.ScriptFault.{ScriptFault}
 use Rattle.st_script_faults.specs.declared.limits.TheConstants.{MOST_PROCESSES, MOST_THREADS, MOST_TREE_ROWS}
 use Rattle.st_script.specs.declared.reading.ReadScript.{ReadScript}
 use Rattle.st_statements.specs.declared.statement.ScriptLine.{ScriptLine}
 use Rattle.st_statements.specs.declared.statement.Statement.{Statement}
 use Rattle.st_statements.specs.declared.statement.Statement.TheVariants as says
+use Rattle.st_script.proofs.ReadTexts.{read_has, whole_in}
 
 -- ---- no fault
 
@@ -273,22 +276,23 @@ threads_within ps ts names (line ∷ lines) = threads_by ps ts names line.says l
 
 -- ---- all bounds together
 
-pub within_bounds : (whole : WholeScript) (env : Env) (lines : List ScriptLine) (script : ReadScript) → first_fault whole no_names lines ≡ None → script ≡ script_with env lines → IsWithinBounds script
-within_bounds whole env lines script none is =
+pub within_bounds : (whole : WholeScript) (env : Env) (lines : List ScriptLine) → first_fault whole no_names lines ≡ None → IsWithinBounds (script_with env lines)
+within_bounds whole env lines none =
     let ok = none_has whole no_names lines none in
     let ps = processes_after [] lines in
     let threads = few_threads whole ps (threads_after [] lines) no_names lines ok (omega arith) in
     let processes = few_processes whole no_names lines ok (omega arith) in
     let objects = few_objects whole no_names lines ok (omega arith) in
-    subst IsWithinBounds (sym is) (record {
+    record {
       few_threads = omega (arith, threads);
       few_processes = omega (arith, processes);
       few_objects = omega (arith, objects);
       processes = threads_have_processes whole ps (threads_after [] lines) (length (filter_map (λ line. process_said line.says) lines)) (processes_within lines) no_names lines ok refl;
       targets = short_targets whole no_names lines ok;
       replies = no_reply_asks env lines;
-    })
+    }
 
-pub result_within : {E : Type 0} (whole : WholeScript) (env : Env) (lines : List ScriptLine) → first_fault whole no_names lines ≡ None → (r : Result ReadScript E) → IfOk r (λ script. script ≡ script_with env lines) → IfOk r IsWithinBounds
-result_within whole env lines none (Ok script) is = within_bounds whole env lines script none is
-result_within whole env lines none (Err error) is = tt
+-- a script that is read is within the bounds
+pub script_within : (text : List ℕ) (options : Options) (script : ReadScript) → script_in text options ≡ Ok script → IsWithinBounds script
+script_within text options = read_has IsWithinBounds text options (λ uncut none.
+    within_bounds (whole_in text options) (whole_in text options).env (lines_in text) none)

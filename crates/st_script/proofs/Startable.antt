@@ -111,7 +111,7 @@ startable whole lines uncut threads_are ok said bounds policies options some few
 can_start : (whole : WholeScript) (lines : List ScriptLine) → whole.is_cut ≡ false → whole.threads ≡ threads_after [] lines → whole.started ≡ started_after [] lines → first_fault whole no_names lines ≡ None → AreSaid lines → ArePlaced false lines → IsRunnableScript (script_with whole.env lines)
 can_start whole lines uncut threads_are started_are none said placed =
     let ok = none_has whole no_names lines none in
-    let bounds = within_bounds whole whole.env lines (script_with whole.env lines) none refl in
+    let bounds = within_bounds whole whole.env lines none in
     record {
       startable = startable whole lines uncut threads_are ok said bounds;
       system = λ policies options.

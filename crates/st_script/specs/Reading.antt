@@ -114,6 +114,30 @@ abbrev pub processes_after : List Name → List ScriptLine → List Name
 processes_after names [] = names
 processes_after names (line ∷ lines) = processes_after (with_process_name names line.says) lines
 
+-- ---- the rows of a start
+
+-- a start with these threads alone
+abbrev pub only_threads : List ThreadRow → Start
+only_threads threads = record { users = []; groups = []; tree = []; processes = []; threads = threads }
+
+-- a start with the row of a line added, if it has one other than a thread's
+abbrev pub with_row : Start → Option Statement → Start
+with_row start (Some (says.User user)) = record start { users = start.users ++ user ∷ [] }
+with_row start (Some (says.Group group)) = record start { groups = start.groups ++ group ∷ [] }
+with_row start (Some (says.Object path new)) = record start { tree = start.tree ++ record { name = object_name path; new = new } ∷ [] }
+with_row start (Some (says.Process process)) = record start { processes = start.processes ++ started_process process ∷ [] }
+with_row start _ = start
+
+-- a start with the rows of lines added, other than those of threads
+abbrev pub with_rows : Start → List ScriptLine → Start
+with_rows start lines = record {
+  users = start.users ++ filter_map (λ line. user_said line.says) lines;
+  groups = start.groups ++ filter_map (λ line. group_said line.says) lines;
+  tree = start.tree ++ filter_map (λ line. object_said line.says) lines;
+  processes = start.processes ++ filter_map (λ line. process_said line.says) lines;
+  threads = start.threads;
+}
+
 -- ---- scripts
 
 -- the start of a script's run

@@ -1,13 +1,13 @@
-ghost use Rattle.std.specs.Prelude.{◌≡◌, ◌≢◌, ◌^◌, ◌<◌, ℕ, List, [], None, Ok, Err, length, IfOk, IfErr};
-ghost use Rattle.std.specs.List.{filter_map};
+ghost use Rattle.std.specs.Prelude.{◌≡◌, ◌≢◌, ◌^◌, ◌<◌, ℕ, List, [], None, Some, Ok, Err, length, IfOk, IfErr, OnOk};
 ghost use Rattle.st_law.specs.declared.input.Options.{Options};
 ghost use Rattle.st_reached.specs.Scripts.{IsBounded};
 ghost use Rattle.st_script.specs.Bounds.{IsWithinBounds};
 ghost use Rattle.st_script.specs.Startable.{IsRunnableScript};
 ghost use Rattle.st_script.specs.declared.reading.ReadScript.{ReadScript};
-ghost use Rattle.st_script_faults.specs.Faults.{first_fault, replies_after};
+ghost use Rattle.st_script_faults.specs.Environment.{environment_of};
+ghost use Rattle.st_script_faults.specs.Faults.{first_fault, first_of, replies_after, script_fault, script_lexical_fault};
 ghost use Rattle.st_script_faults.specs.Names.{no_names};
-ghost use Rattle.st_script.specs.Reading.{user_said, group_said, object_name, object_said, started_process, process_said, start_of, script_with, read_lines, script_in};
+ghost use Rattle.st_script.specs.Reading.{object_name, started_process, with_row, with_rows, only_threads, start_of, script_with, read_lines, script_in};
 
 use crate::bodies::threads_in;
 use st_base::{Sequence, Text};
@@ -15,13 +15,13 @@ use st_filter::Reply;
 use st_grammar::Env;
 use st_law::Options;
 use st_lex::{LexFault, tokens};
+use st_model::NewNode;
 use st_names::AbsName;
 use st_script_faults::ScriptFault;
-use st_script_faults::environment::process_of;
 use st_script_faults::faults::{Whole, first_fault, whole_of};
 use st_statements::lines::looked_at;
 use st_statements::{ScriptLine, ScriptProcess, Statement, lines_of_tokens};
-use st_trace::{GroupRow, ProcessRow, Start, ThreadRow, TreeRow, UserRow};
+use st_trace::{ProcessRow, Start, ThreadRow, TreeRow};
 use std::alloc::{AllocError, Global};
 
 /// A script that was read.
@@ -35,56 +35,6 @@ pub struct ReadScript {
     pub replies: Sequence<Reply>,
 }
 
-fn user_said(alloc: Global, says: &Option<Statement>) -> Result<Option<UserRow>, AllocError>
-    ensures { IfOk result (λ found. found ≡ user_said says.now) }
-{
-    match says {
-        Some(Statement::User(user)) => Ok(Some(UserRow {
-            name: user.name.copy(alloc)?,
-            uid: user.uid,
-            gid: user.gid,
-            home: user.home.copy(alloc)?,
-        })),
-        _ => Ok(None),
-    }
-}
-
-fn users_in(alloc: Global, lines: &[ScriptLine]) -> Result<Sequence<UserRow>, AllocError>
-    ensures { IfOk result (λ users. users ≡ filter_map (λ line. user_said line.says) lines.now) }
-{
-    let mut users = Sequence::new(alloc);
-    for line in lines {
-        if let Some(user) = user_said(alloc, &line.says)? {
-            users.push(user)?;
-        }
-    }
-    Ok(users)
-}
-
-fn group_said(alloc: Global, says: &Option<Statement>) -> Result<Option<GroupRow>, AllocError>
-    ensures { IfOk result (λ found. found ≡ group_said says.now) }
-{
-    match says {
-        Some(Statement::Group(group)) => Ok(Some(GroupRow {
-            name: group.name.copy(alloc)?,
-            gid: group.gid,
-        })),
-        _ => Ok(None),
-    }
-}
-
-fn groups_in(alloc: Global, lines: &[ScriptLine]) -> Result<Sequence<GroupRow>, AllocError>
-    ensures { IfOk result (λ groups. groups ≡ filter_map (λ line. group_said line.says) lines.now) }
-{
-    let mut groups = Sequence::new(alloc);
-    for line in lines {
-        if let Some(group) = group_said(alloc, &line.says)? {
-            groups.push(group)?;
-        }
-    }
-    Ok(groups)
-}
-
 // The name that a path spells, or the root's if the path is empty.
 fn name_of_path(alloc: Global, path: &Text) -> Result<AbsName, AllocError>
     ensures { IfOk result (λ name. name ≡ object_name path.now) }
@@ -92,100 +42,86 @@ fn name_of_path(alloc: Global, path: &Text) -> Result<AbsName, AllocError>
     AbsName::of_parts(alloc, &path.bytes()[path.len().min(1)..])
 }
 
-fn object_said(alloc: Global, says: &Option<Statement>) -> Result<Option<TreeRow>, AllocError>
-    ensures { IfOk result (λ found. found ≡ object_said says.now) }
+// The row of an object at a path.
+fn tree_row(alloc: Global, path: &Text, new: NewNode) -> Result<TreeRow, AllocError>
+    ensures { IfOk result (λ row. row ≡ record { name = object_name path.now; new = new }) }
 {
-    match says {
-        Some(Statement::Object { path, new }) => Ok(Some(TreeRow {
-            name: name_of_path(alloc, path)?,
-            new: new.copy(alloc)?,
-        })),
-        _ => Ok(None),
-    }
+    let name = name_of_path(alloc, path)?;
+    Ok(TreeRow { name, new })
 }
 
-fn tree_in(alloc: Global, lines: &[ScriptLine]) -> Result<Sequence<TreeRow>, AllocError>
-    ensures { IfOk result (λ rows. rows ≡ filter_map (λ line. object_said line.says) lines.now) }
+// The row of a process, as a run starts with it.
+fn started_process(alloc: Global, process: ScriptProcess) -> Result<ProcessRow, AllocError>
+    ensures { IfOk result (λ row. row ≡ started_process process) }
 {
-    let mut rows = Sequence::new(alloc);
-    for line in lines {
-        if let Some(row) = object_said(alloc, &line.says)? {
-            rows.push(row)?;
-        }
-    }
-    Ok(rows)
-}
-
-fn started_process(alloc: Global, process: &ScriptProcess) -> Result<ProcessRow, AllocError>
-    ensures { IfOk result (λ row. row ≡ started_process process.now) }
-{
+    let ScriptProcess {
+        traced,
+        binary,
+        uid,
+        gid,
+        cwd,
+        ..
+    } = process;
+    let cwd = AbsName::of(alloc, cwd.bytes())?;
     Ok(ProcessRow {
-        traced: process.traced,
-        binary: process.binary.copy(alloc)?,
-        uid: process.uid,
-        gid: process.gid,
-        cwd: AbsName::of(alloc, process.cwd.bytes())?,
+        traced,
+        binary,
+        uid,
+        gid,
+        cwd,
     })
 }
 
-fn process_said(alloc: Global, says: &Option<Statement>) -> Result<Option<ProcessRow>, AllocError>
-    ensures { IfOk result (λ found. found ≡ process_said says.now) }
+// Adds the row of a line, if it has one other than a thread's.
+fn move_row(alloc: Global, start: &mut Start, line: ScriptLine) -> Result<(), AllocError>
+    ensures { OnOk result (start.new ≡ with_row start.old line.says) }
 {
-    match process_of(says) {
-        Some(process) => Ok(Some(started_process(alloc, process)?)),
-        None => Ok(None),
-    }
-}
-
-fn processes_in(alloc: Global, lines: &[ScriptLine]) -> Result<Sequence<ProcessRow>, AllocError>
-    ensures { IfOk result (λ rows. rows ≡ filter_map (λ line. process_said line.says) lines.now) }
-{
-    let mut rows = Sequence::new(alloc);
-    for line in lines {
-        if let Some(row) = process_said(alloc, &line.says)? {
-            rows.push(row)?;
+    let ScriptLine { says, .. } = line;
+    match says {
+        Some(Statement::User(user)) => start.users.push(user),
+        Some(Statement::Group(group)) => start.groups.push(group),
+        Some(Statement::Object { path, new }) => {
+            let row = tree_row(alloc, &path, new)?;
+            start.tree.push(row)
         }
+        Some(Statement::Process(process)) => {
+            let row = started_process(alloc, process)?;
+            start.processes.push(row)
+        }
+        _ => Ok(()),
     }
-    Ok(rows)
 }
 
-// The users and the groups of lines.
-fn users_and_groups(
-    alloc: Global,
-    lines: &[ScriptLine],
-) -> Result<(Sequence<UserRow>, Sequence<GroupRow>), AllocError>
-    ensures users { IfOk result (λ both. both.0 ≡ (start_of lines.now).users) }
-    ensures groups { IfOk result (λ both. both.1 ≡ (start_of lines.now).groups) }
+// Adds the rows of lines other than those of threads. What the lines hold is moved, and not copied.
+fn move_rows(alloc: Global, start: &mut Start, lines: Vec<ScriptLine>) -> Result<(), AllocError>
+    ensures { OnOk result (start.new ≡ with_rows start.old lines.items) }
 {
-    let groups = groups_in(alloc, lines)?;
-    Ok((users_in(alloc, lines)?, groups))
+    for line in lines {
+        move_row(alloc, start, line)?;
+    }
+    Ok(())
 }
 
-// The processes and the threads of lines.
-fn processes_and_threads(
-    alloc: Global,
-    lines: &[ScriptLine],
-) -> Result<(Sequence<ProcessRow>, Sequence<ThreadRow>), AllocError>
-    ensures processes { IfOk result (λ both. both.0 ≡ (start_of lines.now).processes) }
-    ensures threads { IfOk result (λ both. both.1 ≡ (start_of lines.now).threads) }
+// A start with these threads alone.
+fn only_threads(alloc: Global, threads: Sequence<ThreadRow>) -> Start
+    ensures { result ≡ only_threads threads }
 {
-    let threads = threads_in(alloc, lines)?;
-    Ok((processes_in(alloc, lines)?, threads))
+    Start {
+        users: Sequence::new(alloc),
+        groups: Sequence::new(alloc),
+        tree: Sequence::new(alloc),
+        processes: Sequence::new(alloc),
+        threads,
+    }
 }
 
 // The start of a script's run.
-fn start_of(alloc: Global, lines: &[ScriptLine]) -> Result<Start, AllocError>
-    ensures { IfOk result (λ start. start ≡ start_of lines.now) }
+fn start_of(alloc: Global, lines: Vec<ScriptLine>) -> Result<Start, AllocError>
+    ensures { IfOk result (λ start. start ≡ start_of lines.items) }
 {
-    let (users, groups) = users_and_groups(alloc, lines)?;
-    let (processes, threads) = processes_and_threads(alloc, lines)?;
-    Ok(Start {
-        users,
-        groups,
-        tree: tree_in(alloc, lines)?,
-        processes,
-        threads,
-    })
+    let mut start = only_threads(alloc, threads_in(alloc, lines.as_slice())?);
+    move_rows(alloc, &mut start, lines)?;
+    Ok(start)
 }
 
 // What lines without a fault are read as, with their replies.
@@ -193,11 +129,11 @@ fn start_of(alloc: Global, lines: &[ScriptLine]) -> Result<Start, AllocError>
 fn script_with(
     alloc: Global,
     env: Env,
-    lines: &[ScriptLine],
+    lines: Vec<ScriptLine>,
     replies: Sequence<Reply>,
 ) -> Result<ReadScript, AllocError>
-    requires { replies ≡ replies_after env [] lines.now }
-    ensures { IfOk result (λ script. script ≡ script_with env lines.now) }
+    requires { replies ≡ replies_after env [] lines.items }
+    ensures { IfOk result (λ script. script ≡ script_with env lines.items) }
 {
     Ok(ReadScript {
         start: start_of(alloc, lines)?,
@@ -206,20 +142,43 @@ fn script_with(
     })
 }
 
-// What lines without a fault, which are within the bounds of a script, are read as.
-fn faultless_script(
+// The replies of lines, unless one of them has a fault or this lexical fault follows them.
+fn faultless_replies(
     alloc: Global,
-    whole: Whole,
+    whole: &Whole,
+    broken: Option<LexFault>,
     lines: &[ScriptLine],
-    replies: Sequence<Reply>,
-) -> Result<ReadScript, AllocError>
-    requires faultless { first_fault whole no_names lines.now ≡ None }
-    requires replies { replies ≡ replies_after whole.env [] lines.now }
-    ensures is { IfOk result (λ script. script ≡ script_with whole.entry.env lines.now) }
-    ensures bounds { IfOk result IsWithinBounds }
+) -> Result<Sequence<Reply>, ScriptFault>
+    ensures faultless { IfOk result (λ replies. first_of (first_fault whole.now no_names lines.now) (script_lexical_fault broken) ≡ None) }
+    ensures replies { IfOk result (λ replies. replies ≡ replies_after whole.now.env [] lines.now) }
+    ensures fault { IfErr result (λ f. f ≢ ScriptFault.NoMemory → first_of (first_fault whole.now no_names lines.now) (script_lexical_fault broken) ≡ Some f) }
 {
-    let Whole { env, .. } = whole;
-    script_with(alloc, env, lines, replies)
+    let mut replies = Sequence::new(alloc);
+    match first_fault(alloc, whole, lines, &mut replies)? {
+        Some(fault) => Err(fault),
+        None => match broken {
+            Some(fault) => Err(ScriptFault::Lex(fault)),
+            None => Ok(replies),
+        },
+    }
+}
+
+// The environment and the replies of lines, unless one of them has a fault or this lexical fault follows them.
+fn env_and_replies(
+    alloc: Global,
+    options: &Options,
+    broken: Option<LexFault>,
+    lines: &[ScriptLine],
+) -> Result<(Env, Sequence<Reply>), ScriptFault>
+    ensures faultless { IfOk result (λ both. script_fault options.now broken lines.now ≡ None) }
+    ensures env { IfOk result (λ both. both.0 ≡ environment_of options.now lines.now) }
+    ensures replies { IfOk result (λ both. both.1 ≡ replies_after both.0 [] lines.now) }
+    ensures fault { IfErr result (λ f. f ≢ ScriptFault.NoMemory → script_fault options.now broken lines.now ≡ Some f) }
+{
+    let whole = whole_of(alloc, broken.is_some(), options, lines)?;
+    let replies = faultless_replies(alloc, &whole, broken, lines);
+    let env = whole.into_env();
+    Ok((env, replies?))
 }
 
 // What lines are read as, if this lexical fault, or none, follows them.
@@ -227,21 +186,13 @@ fn read_lines(
     alloc: Global,
     options: &Options,
     broken: Option<LexFault>,
-    lines: &[ScriptLine],
+    lines: Vec<ScriptLine>,
 ) -> Result<ReadScript, ScriptFault>
-    ensures ok { IfOk result (λ script. read_lines options.now broken lines.now ≡ Ok script) }
-    ensures fault { IfErr result (λ f. f ≢ ScriptFault.NoMemory → read_lines options.now broken lines.now ≡ Err f) }
-    ensures bounds { IfOk result IsWithinBounds }
+    ensures ok { IfOk result (λ script. read_lines options.now broken lines.items ≡ Ok script) }
+    ensures fault { IfErr result (λ f. f ≢ ScriptFault.NoMemory → read_lines options.now broken lines.items ≡ Err f) }
 {
-    let whole = whole_of(alloc, broken.is_some(), options, lines)?;
-    let mut replies = Sequence::new(alloc);
-    match first_fault(alloc, &whole, lines, &mut replies)? {
-        Some(fault) => Err(fault),
-        None => match broken {
-            Some(fault) => Err(ScriptFault::Lex(fault)),
-            None => Ok(faultless_script(alloc, whole, lines, replies)?),
-        },
-    }
+    let (env, replies) = env_and_replies(alloc, options, broken, lines.as_slice())?;
+    Ok(script_with(alloc, env, lines, replies)?)
 }
 
 /// Reads a script: the start of its run, the environment that policies are read with, and the operator's replies. Otherwise the fault is
@@ -256,7 +207,7 @@ pub fn read_script(alloc: Global, text: &[u8], options: &Options) -> Result<Read
 {
     let lexed = tokens(alloc, text)?;
     let lines = lines_of_tokens(alloc, text, looked_at(&lexed))?;
-    read_lines(alloc, options, lexed.fault, lines.as_slice())
+    read_lines(alloc, options, lexed.fault, lines)
 }
 
 /// A run can start with a script that was read, under any policies and with one to eight workers.

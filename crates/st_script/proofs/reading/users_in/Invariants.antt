@@ -1,8 +1,0 @@
-use Rattle.std.proofs.Common.{◌≡◌, ◌++◌, drop}
-use Rattle.std.specs.List.{filter_map}
-use Rattle.st_script.specs.Reading.{user_said}
-use Rattle.st_script.proofs.reading.users_in.Given as goal
-
--- the rows found so far, followed by those of the rest, are those of all lines
-abbrev pub invariant-loop-line : goal.invariant-loop-line
-invariant-loop-line l = l.users ++ filter_map (λ line. user_said line.says) (drop l.line-index l.lines) ≡ filter_map (λ line. user_said line.says) l.lines
