@@ -35,6 +35,6 @@ are_at_places [] (arg ∷ args) = false
 are_at_places (spec ∷ specs) [] = false
 are_at_places (spec ∷ specs) (arg ∷ args) = is_at_place spec arg && are_at_places specs args
 
--- if this is so said, a call's arguments are those of what a filter is for, in order
+-- where the caller says so, a call's arguments are those of what a filter is for, in order
 abbrev pub AreAtPlaces : Bool → Snapshot → FilterValue → Type 0
 AreAtPlaces said s f = said ≡ true → are_at_places (args_of_name f.name) s.parts ≡ true

@@ -1,5 +1,5 @@
 -- Indices into a list by a key, such as those of each policy's filters in a session.
-use Rattle.std.specs.Prelude.{◌≡◌, ◌<◌, ℕ, suc, List, [], ◌∷◌, ◌++◌, map, length, if◌then◌else◌, Option, Some, None, Vec, vec_capacity, Bool, true, false}
+use Rattle.std.specs.Prelude.{◌≡◌, ◌<◌, ℕ, suc, List, [], ◌∷◌, ◌++◌, map, length, if◌then◌else◌, Option, Some, None, Vec, vec_capacity, Bool}
 use Rattle.std.specs.List.{position, remove}
 use Rattle.std.specs.Str.{bytes_eq}
 use Rattle.std.specs.declared.alloc.Global.{Global}
@@ -65,11 +65,6 @@ GainsPlace old policy place new =
 abbrev pub LosesPlace : List PolicyPlaces → List ℕ → ℕ → List PolicyPlaces → Type 0
 LosesPlace old policy index new =
     (other : List ℕ) → policy_places new other ≡ (if bytes_eq policy other then remove (policy_places old other) index else policy_places old other)
-
--- a policy has one more index if it is wanted; otherwise nothing changes
-abbrev pub MayGainPlace : Bool → List PolicyPlaces → List ℕ → ℕ → List PolicyPlaces → Type 0
-MayGainPlace true old policy place new = GainsPlace old policy place new
-MayGainPlace false old policy place new = new ≡ old
 
 -- ---- as they are kept
 

@@ -2,4 +2,3 @@ pub mod Entries
 pub mod Paths
 pub mod Substrings
 pub mod Counts
-pub mod FirstAnswers

@@ -217,7 +217,6 @@ impl Spaces {
         ensures ok { OnOk result ((s b : ℕ) → byte_in self.new s b ≡ memory_after_store (byte_in self.old) space place word s b) }
         ensures spaces { KeepsSpaces self.old self.new }
         ensures pages { OnOk result (OwnsPages self.old space (λ index. index ≡ place / PAGE_WORDS) self.new) }
-
         ensures outside { IsErrOf result MemFault.Outside ↔ (SPACE_WORDS ≤ place) }
         ensures memory { IsErrOf result MemFault.NoMemory → IsShared self.old space place }
         ensures err { OnErr result (self.new ≡ self.old) }
@@ -290,7 +289,6 @@ impl Spaces {
         ensures ok { OnOk result ((s b : ℕ) → byte_in self.new s b ≡ memory_after_put (byte_in self.old) space at bytes.now s b) }
         ensures spaces { KeepsSpaces self.old self.new }
         ensures pages { OnOk result (OwnsPages self.old space (IsWritten at (length bytes.now)) self.new) }
-
         ensures outside { IsErrOf result MemFault.Outside ↔ IsOutside at (length bytes.now) }
         ensures memory { IsErrOf result MemFault.NoMemory → (index : ℕ) × IsWritten at (length bytes.now) index × IsPageShared self.old space index }
         ensures err { OnErr result (self.new ≡ self.old) }
