@@ -12,4 +12,4 @@ pub use errno::Errno;
 pub use ids::{Drawing, Ids, Obj, Pid, Seq, Space, Tid, Worker};
 pub use sequence::Sequence;
 pub use shared::Shared;
-pub use text::Text;
+pub use text::{Text, is_same_text};

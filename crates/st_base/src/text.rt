@@ -1,4 +1,5 @@
 ghost use Rattle.std.specs.Prelude.{◌≡◌, ◌↔◌, [], ◌∷◌, ◌++◌, length, take, decimal, IsTrue, IfOk, OnOk, OnErr};
+ghost use Rattle.std.specs.Str.{bytes_eq};
 
 use itoa::Buffer;
 use std::alloc::{AllocError, Global};
@@ -104,4 +105,33 @@ impl Text {
     {
         Text::of(alloc, self.bytes())
     }
+}
+
+// Texts of at most so many bytes are compared byte by byte: most names are so short.
+const SHORT_TEXT: usize = 16;
+
+// Whether two texts of the same length are the same. Paths that differ mostly do so at their ends, so the last bytes are compared first.
+fn are_same_bytes(one: &[u8], other: &[u8]) -> bool
+    requires { length one.now ≡ length other.now }
+    ensures { result ≡ bytes_eq one.now other.now }
+{
+    let mut left = one.len();
+    while left > 0 {
+        left -= 1;
+        if one[left] != other[left] {
+            return false;
+        }
+    }
+    true
+}
+
+/// Whether two texts are the same. Mostly the lengths decide.
+#[inline]
+pub fn is_same_text(one: &[u8], other: &[u8]) -> bool
+    ensures { result ≡ bytes_eq one.now other.now }
+{
+    if one.len() > SHORT_TEXT {
+        return one == other;
+    }
+    one.len() == other.len() && are_same_bytes(one, other)
 }
