@@ -4,7 +4,7 @@ ghost use Rattle.st_calls.specs.Argument.{args_of_call, args_of, name_of_label, 
 
 use crate::call::SysCall;
 use crate::rule::Rule;
-use st_base::Text;
+use st_base::{Text, is_same_text};
 
 /// The name by which a policy refers to an argument of a call.
 #[derive(Clone, Copy, Debug, PartialEq, Eq)]
@@ -69,7 +69,10 @@ impl Label {
 fn first_named(labels: &[Label], word: &[u8]) -> Option<Label>
     ensures { result ≡ find (λ label. bytes_eq (name_of_label label) word.now) labels.now }
 {
-    labels.iter().copied().find(|label| label.word() == word)
+    labels
+        .iter()
+        .copied()
+        .find(|label| is_same_text(label.word(), word))
 }
 
 /// An argument of a call, with the text that policies judge.

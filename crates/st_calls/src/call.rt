@@ -3,6 +3,7 @@ ghost use Rattle.std.specs.Str.{bytes_eq};
 ghost use Rattle.st_calls.specs.Call.{name_of_call, call_named, index_of_call, follows, sets_ids};
 
 use crate::flags::{O_CREAT, O_EXCL, has_flag};
+use st_base::is_same_text;
 
 /// A system call of the model, as in the system-call pages of OpenBSD's manual, section 2.
 #[derive(Clone, Copy, Debug, PartialEq, Eq)]
@@ -201,5 +202,8 @@ pub fn follows(call: SysCall, regs: &[u64; 6], register: u32) -> bool
 fn first_named(calls: &[SysCall], word: &[u8]) -> Option<SysCall>
     ensures { result ≡ find (λ call. bytes_eq (name_of_call call) word.now) calls.now }
 {
-    calls.iter().copied().find(|call| call.word() == word)
+    calls
+        .iter()
+        .copied()
+        .find(|call| is_same_text(call.word(), word))
 }

@@ -6,7 +6,7 @@ ghost use Rattle.st_calls.specs.Call.{reads_alone, alias_of, rule_of, name_of_ru
 use crate::argument::args_of;
 use crate::call::SysCall;
 use crate::flags::{O_ACCMODE, O_CREAT, O_TRUNC, has_flag};
-use st_base::Errno;
+use st_base::{Errno, is_same_text};
 
 /// The number of rules.
 pub const RULES: usize = 36;
@@ -220,7 +220,10 @@ fn rules_of_len(len: usize) -> &'static [Rule]
 fn first_named(rules: &[Rule], word: &[u8]) -> Option<Rule>
     ensures { result ≡ find (λ rule. bytes_eq (name_of_rule rule) word.now) rules.now }
 {
-    rules.iter().copied().find(|rule| rule.word() == word)
+    rules
+        .iter()
+        .copied()
+        .find(|rule| is_same_text(rule.word(), word))
 }
 
 /// The kernel's own answer for a rule: permit, refuse or ask, as in systrace(4).

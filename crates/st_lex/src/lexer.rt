@@ -253,7 +253,7 @@ impl<'a> Lexer<'a> {
 
     /// The next token with its offset and line, or `None` at the end of the text. At a fault it returns that fault, and so does every
     /// later call.
-    #[inline]
+    #[inline(always)]
     pub fn next_token(&mut self) -> Result<Option<Token>, LexFault>
         ensures { IsNextToken result self.old self.new }
     {
