@@ -14,7 +14,7 @@ ghost use Rattle.st_model.specs.declared.limits.TheConstants.{LONGEST_FILE};
 
 use crate::content;
 use indexmap::IndexMap;
-use st_base::{Obj, Text};
+use st_base::{Obj, Text, is_same_text};
 use st_model::{Kind, NewKind, NewNode, Permission, Want};
 use st_names::Seen;
 use std::alloc::{AllocError, Global};
@@ -72,7 +72,7 @@ fn compared(entries: &IndexMap<Vec<u8>, Obj>, part: &[u8]) -> Option<Obj>
         let Some((component, obj)) = entries.get_index(place) else {
             unreachable!()
         };
-        if part == component.as_slice() {
+        if is_same_text(part, component.as_slice()) {
             return Some(*obj);
         }
     }
