@@ -1,16 +1,9 @@
 ghost use Rattle.std.specs.Prelude.{◌≡◌};
-ghost use Rattle.std.specs.Str.{bytes_eq};
 ghost use Rattle.st_filter.specs.Judging.{stands_in, is_path_prefix, is_on_way, compares, compares_ids};
 
 use crate::filter::{Cmp, Op};
+use st_base::is_same_text;
 use st_glob::glob;
-
-// Whether all bytes are the same. Mostly the lengths decide.
-fn is_same(argument: &[u8], text: &[u8]) -> bool
-    ensures { result ≡ bytes_eq argument.now text.now }
-{
-    argument.len() == text.len() && argument == text
-}
 
 // Whether a text occurs in an argument.
 fn stands_in(text: &[u8], argument: &[u8]) -> bool
@@ -59,8 +52,8 @@ pub fn compares(op: Op, argument: &[u8], text: &[u8]) -> bool
 {
     match op {
         Op::Match => glob(text, argument),
-        Op::Eq => is_same(argument, text),
-        Op::Neq => !is_same(argument, text),
+        Op::Eq => is_same_text(argument, text),
+        Op::Neq => !is_same_text(argument, text),
         Op::Sub => stands_in(text, argument),
         Op::Nsub => !stands_in(text, argument),
         Op::Inpath => is_on_way(argument, text),

@@ -6,7 +6,7 @@ ghost use Rattle.st_filter.specs.Policies.{filters_of};
 
 use crate::compare::{compares, compares_ids};
 use crate::filter::{Action, Expr, Filter, Grant, Op, Policy, Predicate, Who};
-use st_base::Ids;
+use st_base::{Ids, is_same_text};
 use st_calls::{ArgText, Snapshot, Verdict};
 
 // Whether an argument has this label and index, and compares with a text as the operator says.
@@ -16,7 +16,7 @@ fn test_holds_of(label: &[u8], index: u32, op: Op, text: &[u8], argument: &ArgTe
     // Many filters of one rule mostly differ in their texts, so the label is compared last.
     argument.index == index
         && compares(op, argument.text.bytes(), text)
-        && argument.label.word() == label
+        && is_same_text(argument.label.word(), label)
 }
 
 // Whether one of the arguments passes the test.

@@ -2,6 +2,7 @@ ghost use Rattle.std.specs.Prelude.{◌≡◌, [], ◌∷◌, ◌++◌, ◌<◌,
 ghost use Rattle.st_filter.specs.Policies.{has_policy, policy_of};
 
 use crate::filter::{Filter, Policy};
+use crate::rows::row_in;
 use indexmap::IndexMap;
 use st_base::Text;
 use std::alloc::{AllocError, Global};
@@ -110,7 +111,7 @@ impl PolicySet {
         ensures none { result ≡ None → policy_of self.now binary.now ≡ [] }
         ensures some { IfSome result (λ row. option_map (λ p. p.filters) (slice_get self.now row) ≡ Some (policy_of self.now binary.now)) }
     {
-        self.policies.get_index_of(binary)
+        row_in(&self.policies, binary)
     }
 
     /// Whether a binary has a policy.

@@ -7,9 +7,9 @@ use Rattle.st_filter.proofs.set.PolicySet.row_of.Goals as goal
 
 pub returns-clause-none : goal.returns-clause-none
 returns-clause-none c = λ none.
-    ap (λ ps. policy_of ps c.args.binary.now) (sym c.self.view_is) ∙ no_policy c.self.inside.policies.entries c.args.binary.now (sym c.get_index_of.ensures.found ∙ ap is_some none)
+    ap (λ ps. policy_of ps c.args.binary.now) (sym c.self.view_is) ∙ no_policy c.self.inside.policies.entries c.args.binary.now (sym c.row_in.ensures.found ∙ ap is_some none)
 
 pub returns-clause-some : goal.returns-clause-some
 returns-clause-some c =
-    subst (λ (ps : List BinaryPolicy). IfSome c.get_index_of.result (λ i. option_map (λ (p : BinaryPolicy). p.filters) (slice_get ps i) ≡ Some (policy_of ps c.args.binary.now))) c.self.view_is
-    (policy_at c.self.inside.policies.entries c.args.binary.now c.get_index_of.result c.get_index_of.ensures.within c.get_index_of.ensures.value)
+    subst (λ (ps : List BinaryPolicy). IfSome c.row_in.result (λ i. option_map (λ (p : BinaryPolicy). p.filters) (slice_get ps i) ≡ Some (policy_of ps c.args.binary.now))) c.self.view_is
+    (policy_at c.self.inside.policies.entries c.args.binary.now c.row_in.result c.row_in.ensures.within c.row_in.ensures.value)
