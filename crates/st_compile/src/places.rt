@@ -3,6 +3,7 @@ ghost use Rattle.st_compile.specs.Places.{policy_places, policy_row, GainsPlace,
 
 use indexmap::IndexMap;
 use st_base::Text;
+use st_filter::row_in;
 use std::alloc::{AllocError, Global};
 use std::marker::Model;
 
@@ -36,12 +37,8 @@ impl Places {
     pub fn of(&self, policy: &[u8]) -> &[usize]
         ensures { result.now ≡ policy_places self.now policy.now }
     {
-        // Most runs have none, and then nothing is hashed.
-        if self.rows.is_empty() {
-            return &[];
-        }
-        match self.rows.get(policy) {
-            Some(places) => places.as_slice(),
+        match row_in(&self.rows, policy) {
+            Some(row) => self.rows[row].as_slice(),
             None => &[],
         }
     }
@@ -51,7 +48,7 @@ impl Places {
         ensures is { result ≡ policy_row self.now policy.now }
         ensures none { result ≡ None → policy_places self.now policy.now ≡ [] }
     {
-        self.rows.get_index_of(policy)
+        row_in(&self.rows, policy)
     }
 
     /// The indices of the policy of a row.
@@ -67,7 +64,7 @@ impl Places {
         ensures room { IfOk result (λ row. HasRoomAt row self.new policy.now) }
         ensures kept { KeepsPlaces self.old self.new }
     {
-        match self.rows.get_index_of(policy) {
+        match row_in(&self.rows, policy) {
             Some(row) => {
                 let places = &mut self.rows[row];
                 places.reserve(1)?;

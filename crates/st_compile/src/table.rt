@@ -9,7 +9,7 @@ ghost use Rattle.st_compile.specs.Table.{answer_row, first_answers, Gains, IsTab
 use indexmap::IndexMap;
 use st_base::Text;
 use st_calls::{FastAnswer, Rule};
-use st_filter::{Policy, PolicySet, first_answer};
+use st_filter::{Policy, PolicySet, first_answer, row_in};
 use std::alloc::{AllocError, Global};
 use std::marker::Model;
 
@@ -98,8 +98,8 @@ impl FastTable {
     fn answers(&self, binary: &[u8]) -> &[Option<FastAnswer>]
         ensures { result.now ≡ answers_in self.now binary.now }
     {
-        match self.tables.get(binary) {
-            Some(answers) => answers.as_slice(),
+        match row_in(&self.tables, binary) {
+            Some(row) => self.tables[row].as_slice(),
             None => &[],
         }
     }
@@ -116,7 +116,7 @@ impl FastTable {
         ensures row { IfOk result (λ row. answer_row self.new binary.now ≡ Some row) }
         ensures kept { KeepsAnswers self.old self.new }
     {
-        match self.tables.get_index_of(binary) {
+        match row_in(&self.tables, binary) {
             Some(row) => Ok(row),
             None => {
                 let answers = no_answers(alloc)?;
