@@ -1,11 +1,12 @@
 -- The least question, and whether the operator can answer.
 use native.Mathlib.Omega.{arith}
-use Rattle.std.proofs.Common.{◌≡◌, ◌≤◌, ◌<◌, ◌+◌, ◌∙◌, ◌&&◌, zero, suc, ℕ, Bool, Bor, true, false, cond, Option, Some, None, inl, inr, refl, ap, sym, subst, true≢false}
-use Rattle.std.proofs.lemmas.Bool.{and_parts}
+use Rattle.std.proofs.Common.{◌≡◌, ◌≤◌, ◌<◌, ◌+◌, ◌∙◌, ◌&&◌, zero, suc, ℕ, Bool, Bor, true, false, cond, List, [], ◌∷◌, length, nat_lt, Option, Some, None, inl, inr, refl, ap, sym, subst, true≢false}
+use Rattle.std.proofs.lemmas.Bool.{and_parts, ltb-false, ltb-true}
 use Rattle.std.proofs.lemmas.Bool.Decides.{leb_tells}
 use Rattle.std.proofs.lemmas.Option.{none-some, same_Some}
 use Rattle.std.specs.Option.{option_copied, option_or}
-use Rattle.std.specs.Prelude.{is_some}
+use Rattle.std.specs.List.{fold, slice_get}
+use Rattle.std.specs.Prelude.{if◌then◌else◌, is_some, IfSome}
 use Rattle.st_base.specs.Numbered.{item_at_number}
 use Rattle.st_calls.specs.declared.judged.Snapshot.{Snapshot}
 use Rattle.st_effects.specs.Progress.{Progress, Word, Look, Stuck, Ready}
@@ -17,13 +18,15 @@ use Rattle.st_law.specs.Machine.{asked_entry, entry_of, least_question, operator
 use Rattle.st_law.specs.Messages.{Head}
 use Rattle.st_law.specs.Sessions.{least_from}
 use Rattle.st_law.specs.State.{State, decision_in, operator_decides, is_live, is_live_by, is_open_question, is_question, is_undecided, next_reply, snapshot_in, snapshot_of_progress}
+use Rattle.st_learn.specs.Deciding.{lesser}
 use Rattle.st_learn.specs.Operator.{answers}
 use Rattle.st_learn.proofs.Replies.{asked_same}
 use Rattle.st_decide.specs.Machine.{Refines, Running}
-use Rattle.st_decide.specs.Questions.{is_at_most, IsAtMost, AreQuestionCopies, IsLeastAmong, IsLeastFound, IsLeastWith, IsQuestion}
+use Rattle.st_decide.specs.Questions.{is_at_most, least_held, IsAtMost, AreQuestionCopies, IsLeastAmong, IsLeastFound, IsLeastWith, IsQuestion}
 use Rattle.st_threads.specs.Thread.{ThreadRow, number_held}
 use Rattle.st_threads.specs.Ending.{HasNumber}
 use Rattle.st_decide.proofs.HeldCalls.{are_held}
+use Rattle.st_workers.proofs.Turns.{number_within}
 
 -- ---- one after the other
 
@@ -35,53 +38,56 @@ own_number q (Some head) (Look part name) s e = cc
 own_number q (Some head) (Stuck errno) s e = cc
 own_number q (Some head) (Ready args) s e = sym (ap (λ (u : Snapshot). u.seq) (same_Some _ s e))
 
-pub seq_is : (st : State) (q : ℕ) (s : Snapshot) → snapshot_in st q ≡ Some s → s.seq ≡ q
-seq_is st q s e = own_number q (st.messages q).head _ s e
+pub drawing_is : (st : State) (q : ℕ) (s : Snapshot) → snapshot_in st q ≡ Some s → s.seq ≡ q
+drawing_is st q s e = own_number q (st.messages q).head _ s e
 
-pub at_most : (o : Option Snapshot) (seq : ℕ) → is_at_most o seq ≡ true → IsAtMost o seq
-at_most None seq e = cc
-at_most (Some copies) seq e = elim (leb_tells copies.seq seq) [
+pub at_most : (o : Option Snapshot) (drawing : ℕ) → is_at_most o drawing ≡ true → IsAtMost o drawing
+at_most None drawing e = cc
+at_most (Some copies) drawing e = elim (leb_tells copies.seq drawing) [
   | inl x ↦ x.1
   | inr x ↦ absurd (true≢false (sym e ∙ x.0))
 ]
 
-pub above_all : (o : Option Snapshot) (seq : ℕ) → is_at_most o seq ≡ false → (copies : Snapshot) → o ≡ Some copies → seq < copies.seq
-above_all None seq e copies is = absurd (none-some copies is)
-above_all (Some found) seq e copies is = subst (λ (s : Snapshot). seq < s.seq) (same_Some found copies is) (elim (leb_tells found.seq seq) [
+pub above_all : (o : Option Snapshot) (drawing : ℕ) → is_at_most o drawing ≡ false → (copies : Snapshot) → o ≡ Some copies → drawing < copies.seq
+above_all None drawing e copies is = absurd (none-some copies is)
+above_all (Some found) drawing e copies is = subst (λ (s : Snapshot). drawing < s.seq) (same_Some found copies is) (elim (leb_tells found.seq drawing) [
   | inl x ↦ absurd (true≢false (sym x.0 ∙ e))
   | inr x ↦ x.1
 ])
 
 module _ (m : Running) where
   -- the copies of a question are those of its number
-  pub found_here : (seq : ℕ) (found : Option Snapshot) → IsQuestion m seq found → AreQuestionCopies m found
-  found_here seq None question = tt
-  found_here seq (Some copies) question = λ st is.
+  pub found_here : (drawing : ℕ) (found : Option Snapshot) → IsQuestion m drawing found → AreQuestionCopies m found
+  found_here drawing None question = tt
+  found_here drawing (Some copies) question = λ st is.
       let asks = question st is in
-      let same : copies.seq ≡ seq = seq_is st seq copies asks.1 in
+      let same : copies.seq ≡ drawing = drawing_is st drawing copies asks.1 in
       (ap (is_question m.input st) same ∙ asks.0, ap (snapshot_in st) same ∙ asks.1)
 
   -- a question with a smaller number, or with this one, stays the least
-  pub least_kept : (least : Option Snapshot) (seq : ℕ) → IsAtMost least seq → IsLeastWith m least seq least
-  least_kept least seq low = record { question = λ x. x; before = λ other x. x; this = λ st is asks. low }
+  pub least_kept : (least : Option Snapshot) (drawing : ℕ) → IsAtMost least drawing → IsLeastWith m least drawing least
+  least_kept least drawing low = record { question = λ x. x; before = λ st is other x. x; this = λ st is asks. low }
 
   -- otherwise the least is this number, if it is a question
-  pub least_this : (least : Option Snapshot) (seq : ℕ) (found : Option Snapshot) → ((copies : Snapshot) → least ≡ Some copies → seq < copies.seq) → IsQuestion m seq found → (st : State) → Refines m st → IsLeastWith m least seq (option_or found least)
-  least_this least seq None low question st is = record { question = λ x. x; before = λ other x. x; this = λ state machine asks. absurd (true≢false (sym asks ∙ question state machine)) }
-  least_this least seq (Some copies) low question st is =
-      let same : copies.seq ≡ seq = seq_is st seq copies (question st is).1 in record {
-        question = λ x. found_here seq (Some copies) question;
-        before = λ other x. under least other low x same;
-        this = λ state machine asks. omega (arith, same);
+  pub least_this : (least : Option Snapshot) (drawing : ℕ) (found : Option Snapshot) → ((copies : Snapshot) → least ≡ Some copies → drawing < copies.seq) → IsQuestion m drawing found → IsLeastWith m least drawing (option_or found least)
+  least_this least drawing None low question = record { question = λ x. x; before = λ st is other x. x; this = λ st is asks. absurd (true≢false (sym asks ∙ question st is)) }
+  least_this least drawing (Some copies) low question =
+      record {
+        question = λ x. found_here drawing (Some copies) question;
+        before = λ st is other x. under least other low x (same st is);
+        this = λ st is asks. let here = same st is in omega (arith, here);
       } where
-        under : (o : Option Snapshot) (other : ℕ) → ((s : Snapshot) → o ≡ Some s → seq < s.seq) → IsAtMost o other → copies.seq ≡ seq → copies.seq ≤ other
+        same : (st : State) → Refines m st → copies.seq ≡ drawing
+        same st is = drawing_is st drawing copies (question st is).1
+
+        under : (o : Option Snapshot) (other : ℕ) → ((s : Snapshot) → o ≡ Some s → drawing < s.seq) → IsAtMost o other → copies.seq ≡ drawing → copies.seq ≤ other
         under None other below x e = absurd x
         under (Some s) other below x e = let y = below s refl in omega (arith, x, y, e)
 
   -- ---- from thread to thread
 
   pub none_among : (found : Option Snapshot) → AreQuestionCopies m found → IsLeastAmong m 0 found
-  none_among found question = record { question = question; least = λ t seq row low is held. absurd (outside t row low is) } where
+  none_among found question = record { question = question; least = λ t drawing row low is held. absurd (outside t row low is) } where
     outside : (t : ℕ) (row : ThreadRow) → t ≤ 0 → item_at_number m.threads t ≡ Some row → ⊥
     outside zero row low is = none-some row is
     outside (suc t) row low is = omega (arith, low)
@@ -91,13 +97,13 @@ module _ (m : Running) where
     pub among_free : number_held row ≡ None → IsLeastAmong m (suc count) least
     among_free free = record {
       question = among.question;
-      least = λ t seq other low is held st machine asks. elim (leb_tells t count) [
-        | inl x ↦ among.least t seq other x.1 is held st machine asks
+      least = λ t drawing other low is held st machine asks. elim (leb_tells t count) [
+        | inl x ↦ among.least t drawing other x.1 is held st machine asks
         | inr x ↦
             let past = x.1 in
             let here : t ≡ suc count = omega (arith, low, past) in
             let same : other ≡ row = same_Some other row (sym is ∙ ap (item_at_number m.threads) here ∙ row_is) in
-            absurd (none-some seq (sym free ∙ ap number_held (sym same) ∙ held))
+            absurd (none-some drawing (sym free ∙ ap number_held (sym same) ∙ held))
       ];
     }
 
@@ -105,13 +111,13 @@ module _ (m : Running) where
     pub among_held : (q : ℕ) → number_held row ≡ Some q → (found : Option Snapshot) → IsLeastWith m least q found → IsLeastAmong m (suc count) found
     among_held q held found x = record {
       question = x.question among.question;
-      least = λ t seq other low is mine st machine asks. elim (leb_tells t count) [
-        | inl y ↦ x.before seq (among.least t seq other y.1 is mine st machine asks)
+      least = λ t drawing other low is mine st machine asks. elim (leb_tells t count) [
+        | inl y ↦ x.before st machine drawing (among.least t drawing other y.1 is mine st machine asks)
         | inr y ↦
             let past = y.1 in
             let here : t ≡ suc count = omega (arith, low, past) in
             let same : other ≡ row = same_Some other row (sym is ∙ ap (item_at_number m.threads) here ∙ row_is) in
-            let number : seq ≡ q = same_Some seq q (sym mine ∙ ap number_held same ∙ held) in
+            let number : drawing ≡ q = same_Some drawing q (sym mine ∙ ap number_held same ∙ held) in
             subst (IsAtMost found) (sym number) (x.this st machine (subst (λ n. is_question m.input st n ≡ true) number asks))
       ];
     }
@@ -178,6 +184,60 @@ found_some m count copies among all st is =
 pub found_by : (m : Running) (count : ℕ) (found : Option Snapshot) → IsLeastAmong m count found → ((t : ℕ) (row : ThreadRow) → item_at_number m.threads t ≡ Some row → t ≤ count) → IsLeastFound m found
 found_by m count None among all = found_none m count among all
 found_by m count (Some copies) among all = found_some m count copies among all
+
+-- ---- the least number that is held
+
+-- a number is at most this one, if there is one
+abbrev IsLow : ℕ → Option ℕ → Type 0
+IsLow d o = (n : ℕ) → o ≡ Some n → d ≤ n
+
+low_itself : (d : ℕ) → IsLow d (Some d)
+low_itself d n is = omega (arith, same_Some d n is)
+
+low_both : (d : ℕ) (one other : Option ℕ) → IsLow d (lesser one other) → IsLow d one × IsLow d other
+low_both d None other low = (λ n is. absurd (none-some n is), low)
+low_both d (Some a) None low = (low, λ n is. absurd (none-some n is))
+low_both d (Some a) (Some b) low = by (nat_lt b a) refl where
+  by : (less : Bool) → nat_lt b a ≡ less → IsLow d (Some a) × IsLow d (Some b)
+  by true e =
+      let here : d ≤ b = low b (ap (λ (t : Bool). if t then Some b else Some a) e) in
+      let under : b < a = ltb-true b a e in
+      (λ n is. omega (arith, here, under, same_Some a n is), λ n is. omega (arith, here, same_Some b n is))
+  by false e =
+      let here : d ≤ a = low a (ap (λ (t : Bool). if t then Some b else Some a) e) in
+      let over : a ≤ b = ltb-false b a e in
+      (λ n is. omega (arith, here, same_Some a n is), λ n is. omega (arith, here, over, same_Some b n is))
+
+abbrev IsLowAmong : ℕ → List ThreadRow → Type 0
+IsLowAmong d rows = (place q : ℕ) (row : ThreadRow) → slice_get rows place ≡ Some row → number_held row ≡ Some q → d ≤ q
+
+low_cons : (d : ℕ) (first : ThreadRow) (rows : List ThreadRow) → IsLow d (number_held first) → IsLowAmong d rows → IsLowAmong d (first ∷ rows)
+low_cons d first rows low among zero q row is held = low q (ap number_held (same_Some first row is) ∙ held)
+low_cons d first rows low among (suc place) q row is held = among place q row is held
+
+low_among : (d : ℕ) (rows : List ThreadRow) (least : Option ℕ) → IsLow d (fold (λ o row. lesser o (number_held row)) least rows) → IsLow d least × IsLowAmong d rows
+low_among d [] least low = (low, λ place q row is held. absurd (none-some row is))
+low_among d (first ∷ rows) least low =
+    let under = low_among d rows (lesser least (number_held first)) low in
+    let both = low_both d least (number_held first) under.0 in (
+      both.0,
+      low_cons d first rows both.1 under.1,
+    )
+
+-- the least number that is held is the least question, if it is one
+pub found_first : (m : Running) (drawing : ℕ) → least_held m.threads ≡ Some drawing → (found : Option Snapshot) → IsQuestion m drawing found → IfSome found (λ copies. IsLeastFound m (Some copies))
+found_first m drawing least None question = tt
+found_first m drawing least (Some copies) question =
+    found_some m (length m.threads) copies (record { question = found_here m drawing (Some copies) question; least = at_most_each }) (λ t row is. (number_within m.threads t row is).1) where
+      low : IsLowAmong drawing m.threads
+      low = (low_among drawing m.threads None (subst (IsLow drawing) (sym least) (low_itself drawing))).1
+
+      at_most_each : (t q : ℕ) (row : ThreadRow) → t ≤ length m.threads → item_at_number m.threads t ≡ Some row → number_held row ≡ Some q → (st : State) → Refines m st → is_question m.input st q ≡ true → IsAtMost (Some copies) q
+      at_most_each zero q row inside is held st machine asks = absurd (none-some row is)
+      at_most_each (suc place) q row inside is held st machine asks =
+          let here : drawing ≤ q = low place q row is held in
+          let same : copies.seq ≡ drawing = drawing_is st drawing copies (question st machine).1 in
+          omega (arith, here, same)
 
 -- ---- whether the operator can answer
 

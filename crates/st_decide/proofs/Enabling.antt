@@ -138,10 +138,10 @@ over_by m st is q o come has (Some copies) question live = sym (ap (λ (b : Bool
 pub work_moves : (i : Input) (st : State) (kept : UnderWay) (worker : ℕ) (task : Task) → IsTask i st kept worker task → is_work task ≡ is_some (worker_entry i st worker)
 work_moves i st kept worker Rest x = ap (λ (o : Option Entry). is_some o) (sym x)
 work_moves i st kept worker Claim x = ap (λ (o : Option Entry). is_some o) (sym x.1)
-work_moves i st kept worker (Copy seq pid part place) x = ap (λ (o : Option Entry). is_some o) (sym x.0)
-work_moves i st kept worker (LookAt seq part) x = ap (λ (o : Option Entry). is_some o) (sym x.1)
-work_moves i st kept worker (Fault seq errno) x = ap (λ (o : Option Entry). is_some o) (sym x)
-work_moves i st kept worker Answer x = ap (λ (o : Option Entry). is_some o) (sym x.2)
+work_moves i st kept worker (Copy drawing pid part place) x = ap (λ (o : Option Entry). is_some o) (sym x.0)
+work_moves i st kept worker (LookAt drawing part) x = ap (λ (o : Option Entry). is_some o) (sym x.1)
+work_moves i st kept worker (Fault drawing errno) x = ap (λ (o : Option Entry). is_some o) (sym x)
+work_moves i st kept worker Answer x = ap (λ (o : Option Entry). is_some o) (sym x.3)
 
 -- ---- the thread of a number
 
@@ -150,7 +150,7 @@ same_thread t u None by held = absurd (true≢false (sym by))
 same_thread t u (Some head) by held = sym (eqb-true head.tid t by) ∙ same_Some head.tid u held
 
 -- a live number isn't another thread's
-pub only_holder : (m : Running) (seq : ℕ) (o : Option ℕ) → IfSome o (λ tid. (i : Input) (st : State) → RepresentsMessages i st (is_live st) m.workers → IsHeldBy st seq tid) →
-    IfSome o (λ tid. (st : State) → Refines m st → (t : ℕ) → is_message_by st t seq ≡ true → t ≡ tid)
-only_holder m seq None law = tt
-only_holder m seq (Some tid) law = λ st is t by. same_thread t tid (st.messages seq).head by (law m.input st is.workers)
+pub only_holder : (m : Running) (drawing : ℕ) (o : Option ℕ) → IfSome o (λ tid. (i : Input) (st : State) → RepresentsMessages i st (is_live st) m.workers → IsHeldBy st drawing tid) →
+    IfSome o (λ tid. (st : State) → Refines m st → (t : ℕ) → is_message_by st t drawing ≡ true → t ≡ tid)
+only_holder m drawing None law = tt
+only_holder m drawing (Some tid) law = λ st is t by. same_thread t tid (st.messages drawing).head by (law m.input st is.workers)

@@ -6,4 +6,5 @@ pub mod HeldCalls
 pub mod NextSteps
 mod Questions
 pub mod Reached
+mod Running
 pub mod Started

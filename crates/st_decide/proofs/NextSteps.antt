@@ -25,7 +25,7 @@ use Rattle.st_law.specs.Threads.{PendingCall}
 use Rattle.st_law.proofs.Invariant.{Fine, IfPending, IsFine, IsOpen}
 use Rattle.st_system.specs.System.{IsAmong, IsSystem, IsThreadState}
 use Rattle.st_workers.specs.Refinement.{HasMessageFlags, IsMessageStateOf, RepresentsMessages}
-use Rattle.st_decide.specs.NextSteps.{HasEntered, IsStepOf}
+use Rattle.st_decide.specs.NextSteps.{HasEntered, HasPending, IsStepOf}
 use Rattle.st_decide.specs.Machine.{Refines, Running}
 use Rattle.st_decide.specs.Step.{step_entry}
 use Rattle.st_threads.specs.Thread.{ThreadRow, IsWayHeld, IsRow, IsRowOf}
@@ -84,31 +84,40 @@ module _ (m : Running) (st : State) (is : Refines m st) (t : ℕ) where
       let apart : ((st.threads t).owner == 0) ≡ false = ne_eqb (st.threads t).owner 0 (λ e. let owner = owner_is pid process in omega (arith, e, owner, some)) in
       λ k. cond (apart k || (its.ended ∙ unended) k) None (cond (its.dying k) (Some (Ended t)) (running_entry m.input st t (its.pending k)))
 
--- ---- a held call
+-- ---- a thread that has entered a call
 
-module _ (m : Running) (st : State) (is : Refines m st) (t pid seq : ℕ) (entered : PendingCall) (x : HasEntered m t pid entered seq) where
+module _ (m : Running) (st : State) (is : Refines m st) (t pid : ℕ) (entered : PendingCall) (x : HasEntered m t pid entered) where
   its : IsRow x.row (st.threads t)
   its = row_of m st is t x.row x.row_is
 
   -- a thread that has entered a call goes on by it
   pub entry_pending : thread_entry m.input st t ≡ pending_entry m.input st t entered.call entered.regs entered.way
-  entry_pending = entry_running m st is t x.row pid x.row_is x.process x.there.0 x.unended ∙ (λ k. cond (x.undying k) (Some (Ended t)) (running_entry m.input st t (x.pending k)))
+  entry_pending = entry_running m st is t x.row pid x.row_is x.caller.process x.caller.there.0 x.unended ∙ (λ k. cond (x.undying k) (Some (Ended t)) (running_entry m.input st t (x.pending k)))
 
   pub process_is : (st.threads t).owner ≡ pid
-  process_is = owner_is m st is t pid x.process
+  process_is = owner_is m st is t pid x.caller.process
 
-  number_by : (way : Way) → entered.way ≡ way → IsWayHeld way → (st.threads t).number ≡ seq
-  number_by (Held first) e held = its.number x.row.number (held_number x.row x.undying entered x.pending first e) ∙ x.number
+-- ---- a held call
+
+module _ (m : Running) (st : State) (is : Refines m st) (t pid drawing : ℕ) (entered : PendingCall) (pending : HasPending m t pid entered drawing) where
+  abbrev x : HasEntered m t pid entered
+  x = pending.has
+
+  row_its : IsRow x.row (st.threads t)
+  row_its = row_of m st is t x.row x.row_is
+
+  number_by : (way : Way) → entered.way ≡ way → IsWayHeld way → (st.threads t).number ≡ drawing
+  number_by (Held first) e held = row_its.number x.row.number (held_number x.row x.undying entered x.pending first e) ∙ pending.number
   number_by Fast e held = absurd held
   number_by (Barred n) e held = absurd held
   number_by Untraced e held = absurd held
 
   -- if the call is held, the thread has its number
-  pub number_is : IsWayHeld entered.way → (st.threads t).number ≡ seq
+  pub number_is : IsWayHeld entered.way → (st.threads t).number ≡ drawing
   number_is held = number_by entered.way refl held
 
   fine : Fine m.input st t entered
-  fine = subst (IfPending (Fine m.input st t)) (its.pending ∙ x.pending) ((reached_of m.input st is.reached).whole.calls.fine t)
+  fine = subst (IfPending (Fine m.input st t)) (row_its.pending ∙ x.pending) ((reached_of m.input st is.reached).whole.calls.fine t)
 
   open_by : (way : Way) → IsWayHeld way → IsFine m.input st t entered.call entered.regs way → IsOpen st t entered.call entered.regs
   open_by (Held first) held x = x
@@ -117,9 +126,9 @@ module _ (m : Running) (st : State) (is : Refines m st) (t pid seq : ℕ) (enter
   open_by Untraced held x = absurd held
 
   -- the number of a held call is live
-  pub held_live : IsWayHeld entered.way → is_live st seq ≡ true
+  pub held_live : IsWayHeld entered.way → is_live st drawing ≡ true
   held_live held =
-      let undying : (st.threads t).dying ≡ false = its.dying ∙ x.undying in
+      let undying : (st.threads t).dying ≡ false = row_its.dying ∙ x.undying in
       let own : IsOpen st t entered.call entered.regs = open_by entered.way held (fine.fine undying) in
       ap (is_live st) (sym (number_is held))
       ∙ ap (λ (o : Option Head). is_live_by o (st.messages (st.threads t).number).closed (λ u. (st.threads u).dying)) own.posted

@@ -1,6 +1,7 @@
--- Which held calls are questions for the operator, and how a held call goes on by the verdict on its copies.
-use Rattle.std.proofs.Common.{◌≡◌, ◌≢◌, ◌∙◌, ◌&&◌, suc, ℕ, Bool, true, false, cond, List, length, Option, Some, None, refl, ap, sym, subst}
+-- Which held calls are questions for the operator, and how a held call goes on by the decision on its copies.
+use Rattle.std.proofs.Common.{◌≡◌, ◌≢◌, ◌∙◌, ◌&&◌, not, suc, ℕ, Bool, true, false, cond, List, length, Option, Some, None, refl, ap, sym, subst}
 use Rattle.std.proofs.lemmas.Option.{same_Some}
+use Rattle.std.specs.Prelude.{if◌then◌else◌, is_some}
 use Rattle.st_base.specs.declared.errno.Errno.{Errno}
 use Rattle.st_base.specs.declared.errno.Errno.TheVariants.{EPERM}
 use Rattle.st_base.specs.declared.ids.Ids.{Ids}
@@ -10,6 +11,7 @@ use Rattle.st_calls.specs.declared.judged.Verdict.TheVariants.{Permit, Refuse, U
 use Rattle.st_filter.specs.Judging.{verdict, verdict_from}
 use Rattle.st_messages.specs.declared.message.MsgState.{MsgState}
 use Rattle.st_messages.specs.declared.message.MsgState.TheVariants.{Waiting, Claimed, Answered, Faulted}
+use Rattle.st_trace.specs.declared.entry.Cause.{Cause}
 use Rattle.st_trace.specs.declared.entry.Cause.TheVariants.{Filter, NoFilter}
 use Rattle.st_trace.specs.declared.entry.Entry.TheVariants.{Denied}
 use Rattle.st_law.specs.declared.input.Input.{Input}
@@ -21,22 +23,23 @@ use Rattle.st_learn.specs.Operator.{answers}
 use Rattle.st_learn.proofs.Replies.{asked_same}
 use Rattle.st_workers.specs.Refinement.{IsMessageStateOf, RepresentsMessages}
 use Rattle.st_decide.specs.Machine.{Refines, Running}
-use Rattle.st_decide.specs.NextSteps.{IsDecidedStep, IsPermittedStep}
-use Rattle.st_decide.specs.Questions.{is_unmatched, session_verdict}
-use Rattle.st_decide.specs.Step.{step_entry}
+use Rattle.st_decide.specs.NextSteps.{IsDecidedStep, IsDecision, IsPermittedStep}
+use Rattle.st_decide.specs.Questions.{is_unmatched, later_decision, session_verdict}
 use Rattle.st_decide.specs.declared.step.Step.{Step}
 use Rattle.st_decide.specs.declared.step.Step.TheVariants.{Wait, Deny}
 
+-- the step that denies a held call
+abbrev pub denied : ℕ → Errno → Cause → Step
+denied q errno why = Deny (record { drawing = Some q; errno = errno; cause = why })
+
 -- ---- the filters that were read decide
 
-module _ (m : Running) (t q n : ℕ) where
-  pub read_permits : (ids : Ids) (step : Step) → IsPermittedStep m t q ids step → IsDecidedStep m t q (Permit n ids) step
-  read_permits ids step next st is s there read =
-      ap (decided_entry m.input st t q s) (read_decides (read_at m.input st s.policy s.rule) (session_filters st.session s.policy s.rule) s (Permit n ids) read (λ e. cc)) ∙ next st is s there
-
-  pub read_refuses : (errno : Errno) → IsDecidedStep m t q (Refuse n errno) (Deny (Some q) errno (Filter n))
-  read_refuses errno st is s there read =
-      ap (decided_entry m.input st t q s) (read_decides (read_at m.input st s.policy s.rule) (session_filters st.session s.policy s.rule) s (Refuse n errno) read (λ e. cc))
+-- their verdict is the decision
+pub read_decision : (m : Running) (q : ℕ) (read : Verdict) → read ≢ Unmatched → IsDecision m q read (Some read)
+read_decision m q read some st is s there from = (
+  read_decides (read_at m.input st s.policy s.rule) (session_filters st.session s.policy s.rule) s read from some,
+  λ none. absurd (some none),
+)
 
 -- ---- the filters that were read don't decide
 
@@ -54,36 +57,47 @@ module _ (m : Running) (st : State) (is : Refines m st) where
       (λ k. come.0 k && come.1.answered k && is_open_question m.input st (there k))
       ∙ (λ k. is_undecided (later_decides copies read k) && asked_same m.input st m.operator is.operator copies m.input.options.mode k)
 
-module _ (m : Running) (t q : ℕ) (copies : Snapshot) (sealed : (i : Input) (state : State) → RepresentsMessages i state (is_live state) m.workers → snapshot_in state q ≡ Some copies) where
-  -- the step of a held call by the session's verdict on its copies
-  later_step : (v : Verdict) → v ≡ session_verdict m copies → (step : Step) → ((st : State) → Refines m st → snapshot_in st q ≡ Some copies → decided_entry m.input st t q copies v ≡ step_entry m.input st t step) → IsDecidedStep m t q Unmatched step
-  later_step v said step next st is s there read =
-      let here : snapshot_in st q ≡ Some copies = sealed m.input st is.workers in
-      let same : s ≡ copies = same_Some s copies (sym there ∙ here) in
-      let unmatched : verdict (read_at m.input st copies.policy copies.rule) copies ≡ Unmatched = subst (λ (u : Snapshot). verdict (read_at m.input st u.policy u.rule) u ≡ Unmatched) same read in
-      ap (λ (u : Snapshot). decided_entry m.input st t q u (decision_in m.input st u)) same
-      ∙ ap (decided_entry m.input st t q copies) (later_decides m st is copies unmatched ∙ sym said)
-      ∙ next st is here
+module _ (m : Running) (q : ℕ) (copies : Snapshot) (sealed : (i : Input) (state : State) → RepresentsMessages i state (is_live state) m.workers → snapshot_in state q ≡ Some copies)
+    (come : (st : State) → Refines m st → IsMessageStateOf m.input st q (Some (Answered Unmatched))) where
+  abbrev later : Verdict
+  later = session_verdict m copies
 
-  pub later_permits : (v : Verdict) → v ≡ session_verdict m copies → (n : ℕ) (ids : Ids) → v ≡ Permit n ids → (step : Step) → IsPermittedStep m t q ids step → IsDecidedStep m t q Unmatched step
-  later_permits v said n ids is step next = later_step (Permit n ids) (sym is ∙ said) step (λ st machine here. next st machine copies here)
+  -- the decision is the session's verdict
+  decided_later : (st : State) → Refines m st → (s : Snapshot) → snapshot_in st q ≡ Some s → verdict (read_at m.input st s.policy s.rule) s ≡ Unmatched → decision_in m.input st s ≡ later
+  decided_later st is s there read = later_decides m st is s read ∙ ap (session_verdict m) (same_Some s copies (sym there ∙ sealed m.input st is.workers))
 
-  pub later_refuses : (v : Verdict) → v ≡ session_verdict m copies → (n : ℕ) (errno : Errno) → v ≡ Refuse n errno → IsDecidedStep m t q Unmatched (Deny (Some q) errno (Filter n))
-  later_refuses v said n errno is = later_step (Refuse n errno) (sym is ∙ said) (Deny (Some q) errno (Filter n)) (λ st machine here. refl)
+  asked : (v : Verdict) → v ≡ later → (st : State) → Refines m st → is_question m.input st q ≡ (is_undecided v && answers m.input m.operator copies)
+  asked v said st is = question_by m st is q copies (come st is) (sealed m.input st is.workers) ∙ (λ k. is_undecided (sym said k) && answers m.input m.operator copies)
 
-  module _ (come : (st : State) → Refines m st → IsMessageStateOf m.input st q (Some (Answered Unmatched))) (v : Verdict) (said : v ≡ session_verdict m copies) (unmatched : v ≡ Unmatched) where
-    asked : (b : Bool) → b ≡ answers m.input m.operator copies → (st : State) → Refines m st → snapshot_in st q ≡ Some copies → is_question m.input st q ≡ b
-    asked b is st machine here = question_by m st machine q copies (come st machine) here ∙ (λ k. is_undecided ((sym said ∙ unmatched) k) && sym is k)
+  by : (v : Verdict) (asks : Bool) → v ≡ later → answers m.input m.operator copies ≡ asks → IsDecision m q Unmatched (if is_undecided v && asks then None else Some v)
+  by Unmatched true said asks = λ st is s there read. (decided_later st is s there read ∙ sym said, asked Unmatched said st is ∙ asks)
+  by Unmatched false said asks = λ st is s there read. (decided_later st is s there read ∙ sym said, λ none. asked Unmatched said st is ∙ asks)
+  by (Permit n ids) asks said is_asked = λ st is s there read. (decided_later st is s there read ∙ sym said, λ none. asked (Permit n ids) said st is)
+  by (Refuse n errno) asks said is_asked = λ st is s there read. (decided_later st is s there read ∙ sym said, λ none. asked (Refuse n errno) said st is)
 
-    -- a question waits for the operator
-    pub later_waits : (b : Bool) → b ≡ answers m.input m.operator copies → b ≡ true → IsDecidedStep m t q Unmatched Wait
-    later_waits b is asks = later_step Unmatched (sym unmatched ∙ said) Wait
-        (λ st machine here. ap (λ (x : Bool). cond x None (Some (Denied t (Some q) EPERM NoFilter))) (asked b is st machine here ∙ asks))
+  pub later_decision_is : IsDecision m q Unmatched (later_decision m copies)
+  later_decision_is = by later (answers m.input m.operator copies) refl refl
 
-    -- a call that nobody decides is denied
-    pub later_denies : (b : Bool) → b ≡ answers m.input m.operator copies → b ≡ false → IsDecidedStep m t q Unmatched (Deny (Some q) EPERM NoFilter)
-    later_denies b is quiet = later_step Unmatched (sym unmatched ∙ said) (Deny (Some q) EPERM NoFilter)
-        (λ st machine here. ap (λ (x : Bool). cond x None (Some (Denied t (Some q) EPERM NoFilter))) (asked b is st machine here ∙ quiet))
+-- ---- the step of an answered call, by the decision
+
+module _ (m : Running) (t q : ℕ) (read : Verdict) where
+  -- a question waits for the operator
+  pub waits : IsDecision m q read None → IsDecidedStep m t q read Wait
+  waits given st is s there from =
+      let x = given st is s there from in
+      ap (decided_entry m.input st t q s) x.0 ∙ ap (λ (b : Bool). cond b None (Some (Denied t (Some q) EPERM NoFilter))) x.1
+
+  pub permits : (n : ℕ) (ids : Ids) (step : Step) → IsDecision m q read (Some (Permit n ids)) → IsPermittedStep m t q ids step → IsDecidedStep m t q read step
+  permits n ids step given next st is s there from = ap (decided_entry m.input st t q s) (given st is s there from).0 ∙ next st is s there
+
+  pub refuses : (n : ℕ) (errno : Errno) → IsDecision m q read (Some (Refuse n errno)) → IsDecidedStep m t q read (denied q errno (Filter n))
+  refuses n errno given st is s there from = ap (decided_entry m.input st t q s) (given st is s there from).0
+
+  -- a call that nobody decides is denied
+  pub denies : IsDecision m q read (Some Unmatched) → IsDecidedStep m t q read (denied q EPERM NoFilter)
+  denies given st is s there from =
+      let x = given st is s there from in
+      ap (decided_entry m.input st t q s) x.0 ∙ ap (λ (b : Bool). cond b None (Some (Denied t (Some q) EPERM NoFilter))) (x.1 refl)
 
 -- ---- by the state of a message
 
@@ -116,7 +130,12 @@ module _ (m : Running) (st : State) (is : Refines m st) (q : ℕ) where
   no_question (Some (Answered (Refuse n errno))) come e = decided (Refuse n errno) (λ x. cc) refl come
   no_question (Some (Answered Unmatched)) come e = cc
 
--- an unmatched number is a question iff the session doesn't decide on its copies either, and the operator would answer
-pub asked_by : (m : Running) (st : State) → Refines m st → (q : ℕ) (copies : Snapshot) (o : Option MsgState) → IsMessageStateOf m.input st q o → is_unmatched o ≡ true → snapshot_in st q ≡ Some copies
-    → (b : Bool) → b ≡ (is_undecided (session_verdict m copies) && answers m.input m.operator copies) → is_question m.input st q ≡ b
-asked_by m st is q copies o come unmatched there b says = question_by m st is q copies (subst (IsMessageStateOf m.input st q) (unmatched_is o unmatched) come) there ∙ sym says
+none_if : (b : Bool) (v : Verdict) → b ≡ not (is_some (if b then None else Some v))
+none_if true v = refl
+none_if false v = refl
+
+-- an unmatched number is a question iff there is no decision on its copies
+pub asked_by : (m : Running) (st : State) → Refines m st → (q : ℕ) (copies : Snapshot) (o : Option MsgState) → IsMessageStateOf m.input st q o → is_unmatched o ≡ true → snapshot_in st q ≡ Some copies → is_question m.input st q ≡ not (is_some (later_decision m copies))
+asked_by m st is q copies o come unmatched there =
+    question_by m st is q copies (subst (IsMessageStateOf m.input st q) (unmatched_is o unmatched) come) there
+    ∙ none_if (is_undecided (session_verdict m copies) && answers m.input m.operator copies) (session_verdict m copies)

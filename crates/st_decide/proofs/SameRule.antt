@@ -24,7 +24,7 @@ use Rattle.st_workers.specs.Refinement.{IsLive, head_of}
 use Rattle.st_workers.specs.UnderWay.{found_in}
 use Rattle.st_workers.proofs.Ended.{lives_as}
 use Rattle.st_threads.specs.Ending.{HasNumber}
-use Rattle.st_decide.specs.Holding.{is_same_rule, is_held_alike, held_head, message_held, message_of, held_seq}
+use Rattle.st_decide.specs.Holding.{is_same_rule, is_held_alike, held_head, message_held, message_of, held_drawing}
 use Rattle.st_decide.specs.Machine.{Refines, Running}
 use Rattle.st_threads.specs.Thread.{ThreadRow, number_held}
 use Rattle.st_decide.proofs.HeldCalls.{are_held}
@@ -67,11 +67,11 @@ module _ (m : Running) (st : State) (is : Refines m st) where
 
   -- ---- a thread that holds a call
 
-  numbered : (o : Option ThreadRow) (q : ℕ) → HasNumber o q → held_seq o ≡ Some q
+  numbered : (o : Option ThreadRow) (q : ℕ) → HasNumber o q → held_drawing o ≡ Some q
   numbered None q has = absurd has
   numbered (Some row) q has = has
 
-  number_is : (t : ℕ) → IsHolder st t → held_seq (item_at_number m.threads t) ≡ Some (st.threads t).number
+  number_is : (t : ℕ) → IsHolder st t → held_drawing (item_at_number m.threads t) ≡ Some (st.threads t).number
   number_is t x =
       let live : HasLiveNumber st t = (held_live m.input st (reached_of m.input st is.reached)).held t x.entered x.first x.pending x.way x.undying in
       numbered (item_at_number m.threads t) (st.threads t).number
@@ -123,4 +123,4 @@ module _ (m : Running) (st : State) (is : Refines m st) where
   -- the message of a thread's held call is found
   pub message_there : (t : ℕ) (row : ThreadRow) (q : ℕ) → item_at_number m.threads t ≡ Some row → number_held row ≡ Some q → (head : kept.Head) → IfSome (slot_at m.workers.slots q) (λ slot. head ≡ slot.head) → message_held m t ≡ Some head
   message_there t row q row_is held head found =
-      ap (λ (o : Option ThreadRow). message_of m (held_seq o)) row_is ∙ ap (message_of m) held ∙ found_message q ((are_held m st is).lives t row q row_is held).lives head found
+      ap (λ (o : Option ThreadRow). message_of m (held_drawing o)) row_is ∙ ap (message_of m) held ∙ found_message q ((are_held m st is).lives t row q row_is held).lives head found

@@ -17,7 +17,7 @@ is_faulted_or_answered (Some (Faulted errno)) = true
 abbrev pub is_work : Task → Bool
 is_work Rest = false
 is_work Claim = true
-is_work (Copy seq pid part place) = true
-is_work (LookAt seq part) = true
-is_work (Fault seq errno) = true
+is_work (Copy drawing pid part place) = true
+is_work (LookAt drawing part) = true
+is_work (Fault drawing errno) = true
 is_work Answer = true

@@ -11,14 +11,15 @@ use Rattle.st_law.specs.Messages.{new_head}
 use Rattle.st_law.specs.State.{State, answer_in, process_in}
 use Rattle.st_workers.specs.Refinement.{head_of}
 use Rattle.st_decide.specs.Machine.{Refines, Running}
+use Rattle.st_decide.specs.declared.step.NewCall.{NewCall}
 
 -- how a thread's call goes on by the law
 abbrev pub way_in : Input → State → ℕ → SysCall → List ℕ → Way
 way_in i st t call regs = if (process_in st t).traced then way_of_answer (suc st.posted) (answer_in i st (process_in st t) call regs) else Untraced
 
 -- a thread's call goes on this way, in each state that the machine represents
-abbrev pub IsWayOf : Running → ℕ → SysCall → List ℕ → Way → Type 0
-IsWayOf m t call regs way = (st : State) → Refines m st → way_in m.input st t call regs ≡ way
+abbrev pub IsWayOf : Running → ℕ → NewCall → Way → Type 0
+IsWayOf m t new way = (st : State) → Refines m st → way_in m.input st t new.call new.regs ≡ way
 
 -- a way on which no message is posted
 abbrev pub IsUnposted : Way → Type 0
@@ -27,8 +28,8 @@ IsUnposted (Barred n) = Unit {0}
 IsUnposted Untraced = Unit {0}
 IsUnposted (Held q) = ⊥
 
--- the head of the message of a call of this process, under this number
-pub record IsHeadOf (m : Running) (seq pid : ℕ) (call : SysCall) (regs : List ℕ) (head : kept.Head) : Type 0 where
-  pub seq_is : head.seq ≡ seq
+-- the head of the message of a call that is held under the next number
+pub record IsHeadOf (m : Running) (new : NewCall) (head : kept.Head) : Type 0 where
+  pub drawing_is : head.drawing ≡ m.workers.calls.next
   pub short : IsShort head.cwd
-  pub law : (st : State) (t : ℕ) → Refines m st → head_of t head ≡ new_head m.input t pid (st.processes pid) call regs
+  pub law : (st : State) (t : ℕ) → Refines m st → head_of t head ≡ new_head m.input t new.pid (st.processes new.pid) new.call new.regs

@@ -11,21 +11,21 @@ use Rattle.st_threads.specs.Thread.{ThreadRow, number_held}
 
 -- the message of a number, if the number is live
 abbrev pub held_head : Running → ℕ → Option Head
-held_head m seq = option_map (λ (slot : Slot). slot.head) (slot_at m.workers.slots seq)
+held_head m drawing = option_map (λ (slot : Slot). slot.head) (slot_at m.workers.slots drawing)
 
 -- the message of an optional number
 abbrev pub message_of : Running → Option ℕ → Option Head
 message_of m None = None
-message_of m (Some seq) = held_head m seq
+message_of m (Some drawing) = held_head m drawing
 
 -- the number of the call that a thread holds, by its row
-abbrev pub held_seq : Option ThreadRow → Option ℕ
-held_seq None = None
-held_seq (Some row) = number_held row
+abbrev pub held_drawing : Option ThreadRow → Option ℕ
+held_drawing None = None
+held_drawing (Some row) = number_held row
 
 -- the message of the call that a thread holds
 abbrev pub message_held : Running → ℕ → Option Head
-message_held m tid = message_of m (held_seq (item_at_number m.threads tid))
+message_held m tid = message_of m (held_drawing (item_at_number m.threads tid))
 
 -- whether a message has the same policy and rule as another
 abbrev pub is_same_rule : Head → Option Head → Bool

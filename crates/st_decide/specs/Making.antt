@@ -12,11 +12,11 @@ abbrev pub child_of_row : Option ThreadRow → ℕ
 child_of_row None = 0
 child_of_row (Some row) = child_of_pending row.pending
 
--- the request of a thread of this process
-abbrev pub request_with : Running → ℕ → ℕ → ReadyCall → Request
-request_with m t pid ready = record {
+-- the request of a thread that makes its call
+abbrev pub request_with : Running → ℕ → ReadyCall → Request
+request_with m t ready = record {
   tid = t;
-  pid = pid;
+  pid = ready.pid;
   ids = ready.ids;
   regs = ready.regs;
   args = ready.args;

@@ -1,5 +1,5 @@
 -- How the machine that runs finds the questions for the operator.
-use Rattle.std.specs.Prelude.{◌≡◌, ◌≤◌, ℕ, suc, Bool, true, false, ◌&&◌, ◌||◌, not, nat_le, List, length, Option, Some, None, is_some}
+use Rattle.std.specs.Prelude.{◌≡◌, ◌≤◌, ℕ, suc, Bool, true, false, ◌&&◌, ◌||◌, not, if◌then◌else◌, nat_le, List, length, Option, Some, None, is_some}
 use Rattle.std.specs.List.{fold}
 use Rattle.st_base.specs.Numbered.{item_at_number}
 use Rattle.st_calls.specs.declared.judged.Snapshot.{Snapshot}
@@ -10,10 +10,11 @@ use Rattle.st_messages.specs.declared.message.MsgState.{MsgState}
 use Rattle.st_messages.specs.declared.message.MsgState.TheVariants.{Answered}
 use Rattle.st_law.specs.declared.input.Input.{Input}
 use Rattle.st_learn.specs.Deciding.{lesser}
+use Rattle.st_learn.specs.Operator.{answers}
 use Rattle.st_law.specs.Machine.{least_question}
 use Rattle.st_law.specs.Sessions.{session_filters}
 use Rattle.st_filter.specs.Policies.{read_filters}
-use Rattle.st_law.specs.State.{State, is_live, is_question, snapshot_in}
+use Rattle.st_law.specs.State.{State, is_live, is_question, is_undecided, snapshot_in}
 use Rattle.st_decide.specs.Machine.{Refines, Running}
 use Rattle.st_threads.specs.Thread.{ThreadRow, number_held}
 
@@ -30,10 +31,15 @@ least_held rows = fold (λ least row. lesser least (number_held row)) None rows
 abbrev pub session_verdict : Running → Snapshot → Verdict
 session_verdict m s = verdict_from (suc (length (read_filters m.input.policies s.policy s.rule))) (session_filters m.operator.filters s.policy s.rule) s
 
+-- the decision on a call with these copies on which the filters that were read don't decide; none if the session's don't decide either,
+-- and the operator would answer
+abbrev pub later_decision : Running → Snapshot → Option Verdict
+later_decision m s = if is_undecided (session_verdict m s) && answers m.input m.operator s then None else Some (session_verdict m s)
+
 -- a number is a question with these copies, or it is no question
 abbrev pub IsQuestion : Running → ℕ → Option Snapshot → Type 0
-IsQuestion m seq None = (st : State) → Refines m st → is_question m.input st seq ≡ false
-IsQuestion m seq (Some copies) = (st : State) → Refines m st → (is_question m.input st seq ≡ true) × (snapshot_in st seq ≡ Some copies)
+IsQuestion m drawing None = (st : State) → Refines m st → is_question m.input st drawing ≡ false
+IsQuestion m drawing (Some copies) = (st : State) → Refines m st → (is_question m.input st drawing ≡ true) × (snapshot_in st drawing ≡ Some copies)
 
 -- these are the copies of a question, if there are any
 abbrev pub AreQuestionCopies : Running → Option Snapshot → Type 0
@@ -42,24 +48,24 @@ AreQuestionCopies m (Some copies) = (st : State) → Refines m st → (is_questi
 
 -- a question was found, with this number or a smaller one
 abbrev pub IsAtMost : Option Snapshot → ℕ → Type 0
-IsAtMost None seq = ⊥
-IsAtMost (Some copies) seq = copies.seq ≤ seq
+IsAtMost None drawing = ⊥
+IsAtMost (Some copies) drawing = copies.seq ≤ drawing
 
 -- whether a question was found, with this number or a smaller one
 abbrev pub is_at_most : Option Snapshot → ℕ → Bool
-is_at_most None seq = false
-is_at_most (Some copies) seq = nat_le copies.seq seq
+is_at_most None drawing = false
+is_at_most (Some copies) drawing = nat_le copies.seq drawing
 
 -- the lesser of two questions: the question that was found before, and this number if it is a question
-pub record IsLeastWith (m : Running) (least : Option Snapshot) (seq : ℕ) (found : Option Snapshot) : Type 0 where
+pub record IsLeastWith (m : Running) (least : Option Snapshot) (drawing : ℕ) (found : Option Snapshot) : Type 0 where
   pub question : AreQuestionCopies m least → AreQuestionCopies m found
-  pub before : (other : ℕ) → IsAtMost least other → IsAtMost found other
-  pub this : (st : State) → Refines m st → is_question m.input st seq ≡ true → IsAtMost found seq
+  pub before : (st : State) → Refines m st → (other : ℕ) → IsAtMost least other → IsAtMost found other
+  pub this : (st : State) → Refines m st → is_question m.input st drawing ≡ true → IsAtMost found drawing
 
 -- the least of the questions that the first so many threads hold
 pub record IsLeastAmong (m : Running) (count : ℕ) (found : Option Snapshot) : Type 0 where
   pub question : AreQuestionCopies m found
-  pub least : (t seq : ℕ) (row : ThreadRow) → t ≤ count → item_at_number m.threads t ≡ Some row → number_held row ≡ Some seq → (st : State) → Refines m st → is_question m.input st seq ≡ true → IsAtMost found seq
+  pub least : (t drawing : ℕ) (row : ThreadRow) → t ≤ count → item_at_number m.threads t ≡ Some row → number_held row ≡ Some drawing → (st : State) → Refines m st → is_question m.input st drawing ≡ true → IsAtMost found drawing
 
 -- the least question, or none
 abbrev pub IsLeastFound : Running → Option Snapshot → Type 0
@@ -68,4 +74,4 @@ IsLeastFound m (Some copies) = (st : State) → Refines m st → (least_question
 
 -- whether the call of a live number can be made or denied: its message was faulted or answered, and is no question
 abbrev pub CanBeMadeOrDenied : Input → State → ℕ → Bool → Type 0
-CanBeMadeOrDenied i st seq over = is_live st seq ≡ true → over ≡ ((is_some (st.messages seq).fault || (st.messages seq).answered) && not (is_question i st seq))
+CanBeMadeOrDenied i st drawing over = is_live st drawing ≡ true → over ≡ ((is_some (st.messages drawing).fault || (st.messages drawing).answered) && not (is_question i st drawing))

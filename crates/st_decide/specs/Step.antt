@@ -12,14 +12,14 @@ use Rattle.st_decide.specs.declared.step.ReadyCall.{ReadyCall}
 
 -- the entry of a call that is made, with its outcome over the current system
 abbrev pub use_entry : Input → State → ℕ → ReadyCall → Entry
-use_entry i st t ready = used_entry t ready.seq ready.call ready.regs ready.args ready.ids (effect (system_of i st) ready.call (request_of i st t ready.regs ready.args ready.ids))
+use_entry i st t ready = used_entry t ready.drawing ready.call ready.regs ready.args ready.ids (effect (system_of i st) ready.call (request_of i st t ready.regs ready.args ready.ids))
 
 -- the entry of a step of thread t; none if it waits
 abbrev pub step_entry : Input → State → ℕ → Step → Option Entry
 step_entry i st t Wait = None
 step_entry i st t End = Some (Ended t)
-step_entry i st t (Store place word) = Some (Stored t place word)
-step_entry i st t (Enter call regs) = entered_entry i st t call regs
+step_entry i st t (Store stored) = Some (Stored t stored.place stored.word)
+step_entry i st t (Enter new) = entered_entry i st t new.call new.regs
 step_entry i st t (Make ready) = Some (use_entry i st t ready)
-step_entry i st t (Fail call regs ids errno) = Some (failed_entry t call regs ids errno)
-step_entry i st t (Deny seq errno cause) = Some (Denied t seq errno cause)
+step_entry i st t (Fail failed) = Some (failed_entry t failed.call failed.regs failed.ids failed.errno)
+step_entry i st t (Deny denied) = Some (Denied t denied.drawing denied.errno denied.cause)

@@ -1,15 +1,14 @@
 // Finds the questions that the operator can answer.
-ghost use Rattle.std.specs.Prelude.{◌≡◌, ◌&&◌, is_some, option_copied};
+ghost use Rattle.std.specs.Prelude.{◌≡◌, Some, is_some, option_copied, IfSome};
 ghost use Rattle.st_law.specs.Machine.{entry_of};
 ghost use Rattle.st_law.specs.State.{State, is_undecided};
 ghost use Rattle.st_decide.specs.Machine.{Refines};
 ghost use Rattle.st_learn.specs.Deciding.{lesser};
-ghost use Rattle.st_decide.specs.Questions.{is_at_most, is_unmatched, least_held, session_verdict, IsLeastFound, IsLeastWith, IsQuestion};
-ghost use Rattle.st_learn.specs.Operator.{answers};
+ghost use Rattle.st_decide.specs.Questions.{is_at_most, is_unmatched, later_decision, least_held, session_verdict, IsLeastFound, IsLeastWith, IsQuestion};
 ghost use Rattle.st_trace.specs.declared.entry.Choice.TheVariants.{Operator};
 
 use crate::view::View;
-use st_base::{Seq, Shared};
+use st_base::{Drawing, Shared};
 use st_calls::{Snapshot, Verdict};
 use st_messages::MsgState;
 
@@ -28,17 +27,17 @@ fn is_undecided(verdict: Verdict) -> bool
 }
 
 // Whether a question was found with this number or a smaller one.
-fn is_at_most(least: Option<&Shared<Snapshot>>, seq: Seq) -> bool
-    ensures { result ≡ is_at_most (option_copied least.entry) seq }
+fn is_at_most(least: Option<&Shared<Snapshot>>, drawing: Drawing) -> bool
+    ensures { result ≡ is_at_most (option_copied least.entry) drawing }
 {
     match least {
-        Some(copies) => copies.get().seq <= seq,
+        Some(copies) => copies.get().seq <= drawing,
         None => false,
     }
 }
 
 // The lesser of two numbers, or the only one that exists.
-fn lesser_number(one: Option<Seq>, other: Option<Seq>) -> Option<Seq>
+fn lesser_number(one: Option<Drawing>, other: Option<Drawing>) -> Option<Drawing>
     ensures { result ≡ lesser one other }
 {
     match (one, other) {
@@ -50,72 +49,93 @@ fn lesser_number(one: Option<Seq>, other: Option<Seq>) -> Option<Seq>
 
 impl<'v, 'a> View<'v, 'a> {
     // The verdict of the session's filters on a held call on which the filters that were read don't decide.
-    pub(crate) fn session_verdict(&self, copies: &Snapshot) -> Verdict
+    fn session_verdict(&self, copies: &Snapshot) -> Verdict
         ensures { result ≡ session_verdict self.now copies.now }
     {
         self.operator.verdict(self.answers.compiled(), copies)
     }
 
-    // Whether the session doesn't decide on a call with these copies either, and the operator would answer it.
-    fn is_asked(&self, copies: &Snapshot) -> bool
-        ensures { result ≡ (is_undecided (session_verdict self.now copies.now) && answers self.now.input self.now.operator copies.now) }
+    // The decision on such a call: this verdict, or none if it decides nothing and the operator would answer.
+    pub(crate) fn later_decision(&self, copies: &Snapshot) -> Option<Verdict>
+        ensures { result ≡ later_decision self.now copies.now }
     {
-        is_undecided(self.session_verdict(copies)) && self.operator.answers(self.input, copies)
+        let verdict = self.session_verdict(copies);
+        if is_undecided(verdict) && self.operator.answers(self.input, copies) {
+            return None;
+        }
+        Some(verdict)
     }
 
     // The copies of a number if it is a question: it is answered, no filter decides it, and the operator would answer it.
-    pub(crate) fn question(&self, seq: Seq) -> Option<&'v Shared<Snapshot>>
-        ensures { IsQuestion self.now seq (option_copied result) }
+    pub(crate) fn question(&self, drawing: Drawing) -> Option<&'v Shared<Snapshot>>
+        ensures { IsQuestion self.now drawing (option_copied result) }
     {
-        if !is_unmatched(self.workers.state(seq)) {
+        if !is_unmatched(self.workers.state(drawing)) {
             return None;
         }
-        let copies = self.workers.snapshot(seq);
-        if !self.is_asked(copies.get()) {
+        let copies = self.workers.snapshot(drawing);
+        if self.later_decision(copies.get()).is_some() {
             return None;
         }
         Some(copies)
     }
 
     // The lesser of two questions: the question that was found before, and this number if it is a question.
-    fn lesser(&self, least: Option<&'v Shared<Snapshot>>, seq: Seq) -> Option<&'v Shared<Snapshot>>
-        ensures { IsLeastWith self.now (option_copied least.entry) seq (option_copied result) }
+    fn lesser(
+        &self,
+        least: Option<&'v Shared<Snapshot>>,
+        drawing: Drawing,
+    ) -> Option<&'v Shared<Snapshot>>
+        ensures { IsLeastWith self.now (option_copied least.entry) drawing (option_copied result) }
     {
-        let _ = &self.input;
-        if is_at_most(least, seq) {
+        if is_at_most(least, drawing) {
             return least;
         }
-        match self.question(seq) {
+        match self.question(drawing) {
             Some(copies) => Some(copies),
             None => least,
         }
     }
 
     // The least number of a call that a thread holds.
-    fn least_held(&self) -> Option<Seq>
+    fn least_held(&self) -> Option<Drawing>
         ensures { result ≡ least_held self.now.threads }
     {
         let mut least = None;
         for thread in self.threads {
-            least = lesser_number(least, thread.number_held());
+            least = lesser_number(least, thread.drawing_held());
         }
         least
     }
 
-    /// The copies of the least question. Usually it is the least number that is held, and then no other copies are looked at.
-    pub fn least_question(&self) -> Option<&'v Shared<Snapshot>>
+    // The copies of the least number that is held, if it is a question. Then it is the least question.
+    fn first_held_question(&self) -> Option<&'v Shared<Snapshot>>
+        ensures { IfSome (option_copied result) (λ copies. IsLeastFound self.now (Some copies)) }
+    {
+        self.question(self.least_held()?)
+    }
+
+    // The copies of the least question, by a look at each call that is held.
+    fn least_held_question(&self) -> Option<&'v Shared<Snapshot>>
         ensures { IsLeastFound self.now (option_copied result) }
     {
-        let mut least = match self.least_held() {
-            Some(seq) => self.question(seq),
-            None => None,
-        };
+        let mut least = None;
         for thread in self.threads {
-            if let Some(seq) = thread.number_held() {
-                least = self.lesser(least, seq);
+            if let Some(drawing) = thread.drawing_held() {
+                least = self.lesser(least, drawing);
             }
         }
         least
+    }
+
+    /// The copies of the least question. Usually it is the least number that is held, and then no other call is looked at.
+    pub fn least_question(&self) -> Option<&'v Shared<Snapshot>>
+        ensures { IsLeastFound self.now (option_copied result) }
+    {
+        match self.first_held_question() {
+            Some(copies) => Some(copies),
+            None => self.least_held_question(),
+        }
     }
 
     /// Whether the operator can answer: there is a question.

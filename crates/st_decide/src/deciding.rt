@@ -1,43 +1,41 @@
 // Decides what a thread does next, as in the law's machine.
-ghost use Rattle.std.specs.Prelude.{◌≡◌, ◌<◌, false, true, IfSome, IfOk, IsNone, None, Some};
-ghost use Rattle.st_law.specs.declared.input.Input.{Input};
-ghost use Rattle.st_decide.specs.NextSteps.{CanBeDone, HasEntered, IsAnswerOf, IsBarredStep, IsDecidedStep, IsHeldStep, IsPendingStep, IsPermittedStep, IsUnheldStep};
-ghost use Rattle.st_law.specs.State.{State};
-ghost use Rattle.st_decide.specs.Machine.{Refines, IsNextStep};
+ghost use Rattle.std.specs.Prelude.{◌≡◌, Some, IfOk};
 ghost use Rattle.st_calls.specs.declared.judged.Verdict.TheVariants.{Unmatched};
+ghost use Rattle.st_decide.specs.Machine.{Refines, IsNextStep};
+ghost use Rattle.st_decide.specs.NextSteps.{CanBeDone, HasEntered, HasPending, HoldsNumber, IsAnswerOf, IsBarredStep, IsDecidedStep, IsDecision, IsHeldStep, IsInProcess, IsPendingStep, IsPermittedStep, IsUnheldStep};
+ghost use Rattle.st_decide.specs.declared.step.Step.TheVariants as steps;
+ghost use Rattle.st_law.specs.State.{State};
 ghost use Rattle.st_messages.specs.Messages.{message_state};
 ghost use Rattle.st_messages.specs.declared.message.MsgState.TheVariants.{Answered};
-ghost use Rattle.st_decide.specs.declared.step.Step.TheVariants as steps;
-ghost use Rattle.st_threads.specs.Thread.{IsWayHeld};
-ghost use Rattle.st_workers.specs.Refinement.{IsMessageStateOf, HasAnswer};
 ghost use Rattle.st_model.specs.Processes.{IsPid};
+ghost use Rattle.st_workers.specs.Refinement.{HasAnswer, IsMessageStateOf};
 
-use crate::step::{ReadyCall, Step};
+use crate::step::{DeniedCall, FailedCall, ReadyCall, Step};
 use crate::view::View;
 use st_arguments::Arguments;
-use st_base::{Errno, Ids, Pid, Seq, Tid};
+use st_base::{Drawing, Errno, Ids, Pid, Tid};
 use st_calls::{FastAnswer, Rule, SysCall, Verdict};
 use st_messages::MsgState;
-use st_threads::PendingCall;
+use st_threads::{CallingThread, PendingCall};
 use st_trace::{CallArgs, Cause, Way};
 use std::alloc::{AllocError, Global};
 
 // A step that denies a held call.
-fn deny(seq: Seq, errno: Errno, cause: Cause) -> Step
-    ensures { result ≡ steps.Deny (Some seq) errno cause }
+fn deny(drawing: Drawing, errno: Errno, cause: Cause) -> Step
+    ensures { result ≡ steps.Deny (record { drawing = Some drawing; errno = errno; cause = cause }) }
 {
-    Step::Deny {
-        seq: Some(seq),
+    Step::Deny(DeniedCall {
+        drawing: Some(drawing),
         errno,
         cause,
-    }
+    })
 }
 
 impl<'v, 'a> View<'v, 'a> {
     /// What a thread does next.
     pub fn next_step(&self, alloc: Global, tid: Tid) -> Result<Step, AllocError>
         ensures step { IfOk result (IsNextStep self.now tid) }
-        ensures fit { IfOk result (CanBeDone self.now.system) }
+        ensures can { IfOk result (CanBeDone self.now.system tid) }
     {
         let Some(thread) = self.thread(tid) else {
             return Ok(Step::Wait);
@@ -52,8 +50,13 @@ impl<'v, 'a> View<'v, 'a> {
             return Ok(Step::End);
         }
         match thread.pending() {
-            None => Ok(Step::of_instructions(thread.left())),
-            Some(entered) => self.pending_step(alloc, tid, pid, entered, thread.number()),
+            None => Ok(Step::of_instructions(pid, thread.left())),
+            Some(entered) => self.pending_step(
+                alloc,
+                CallingThread { pid, tid },
+                entered,
+                thread.drawing(),
+            ),
         }
     }
 
@@ -61,19 +64,18 @@ impl<'v, 'a> View<'v, 'a> {
     fn pending_step(
         &self,
         alloc: Global,
-        tid: Tid,
-        pid: Pid,
+        caller: CallingThread,
         entered: PendingCall,
-        seq: Seq,
+        drawing: Drawing,
     ) -> Result<Step, AllocError>
-        requires { HasEntered self.now tid pid entered seq }
-        ensures step { IfOk result (IsPendingStep self.now tid entered) }
-        ensures fit { IfOk result (CanBeDone self.now.system) }
+        requires { HasPending self.now caller.tid caller.pid entered drawing }
+        ensures step { IfOk result (IsPendingStep self.now caller.tid entered) }
+        ensures can { IfOk result (CanBeDone self.now.system caller.tid) }
     {
         match entered.way {
-            Way::Fast | Way::Untraced => self.unheld_step(alloc, tid, pid, entered, seq),
-            Way::Barred(number) => Ok(self.barred_step(tid, pid, entered, seq, number)),
-            Way::Held(_) => self.held_step(alloc, tid, pid, entered, seq),
+            Way::Fast | Way::Untraced => self.unheld_step(alloc, caller, entered),
+            Way::Barred(number) => Ok(self.barred_step(caller, entered, number)),
+            Way::Held(_) => self.held_step(alloc, caller, drawing),
         }
     }
 
@@ -91,27 +93,26 @@ impl<'v, 'a> View<'v, 'a> {
     fn unheld_step(
         &self,
         alloc: Global,
-        tid: Tid,
-        pid: Pid,
+        caller: CallingThread,
         entered: PendingCall,
-        seq: Seq,
     ) -> Result<Step, AllocError>
-        requires { HasEntered self.now tid pid entered seq }
-        ensures step { IfOk result (IsUnheldStep self.now tid entered) }
-        ensures fit { IfOk result (CanBeDone self.now.system) }
+        requires { HasEntered self.now caller.tid caller.pid entered }
+        ensures step { IfOk result (IsUnheldStep self.now caller.tid entered) }
+        ensures can { IfOk result (CanBeDone self.now.system caller.tid) }
     {
+        let CallingThread { pid, tid } = caller;
         let PendingCall { call, regs, .. } = entered;
         let ids = self.system.ids(pid);
         let aliasing = self.input.options.aliasing;
         let args = match self.system.arguments(alloc, tid, call, &regs, aliasing)? {
             Arguments::Ready(args) => args,
             Arguments::Stuck(errno) => {
-                return Ok(Step::Fail {
+                return Ok(Step::Fail(FailedCall {
                     call,
                     regs,
                     ids,
                     errno,
-                });
+                }));
             }
         };
         let link = self
@@ -119,33 +120,34 @@ impl<'v, 'a> View<'v, 'a> {
             .link_met(alloc, call, &regs, args.as_slice(), aliasing)?;
         Ok(match link {
             None => Step::Make(ReadyCall {
-                seq: None,
+                pid,
+                drawing: None,
                 call,
                 regs,
                 args: CallArgs::own(args),
                 ids,
             }),
-            Some(_) => Step::Fail {
+            Some(_) => Step::Fail(FailedCall {
                 call,
                 regs,
                 ids,
                 errno: Errno::ELOOP,
-            },
+            }),
         })
     }
 
     // A barred call is denied with the error of the filter that bars it.
-    fn barred_step(&self, tid: Tid, pid: Pid, entered: PendingCall, seq: Seq, number: u32) -> Step
-        requires { HasEntered self.now tid pid entered seq }
-        ensures step { IsBarredStep self.now tid entered number result }
-        ensures fit { CanBeDone self.now.system result }
+    fn barred_step(&self, caller: CallingThread, entered: PendingCall, number: u32) -> Step
+        requires { HasEntered self.now caller.tid caller.pid entered }
+        ensures step { IsBarredStep self.now caller.tid entered number result }
+        ensures can { CanBeDone self.now.system caller.tid result }
     {
-        match self.answer(pid, entered.call, &entered.regs) {
-            FastAnswer::Refuse(errno) => Step::Deny {
-                seq: None,
+        match self.answer(caller.pid, entered.call, &entered.regs) {
+            FastAnswer::Refuse(errno) => Step::Deny(DeniedCall {
+                drawing: None,
                 errno,
                 cause: Cause::Filter(number),
-            },
+            }),
             FastAnswer::Permit | FastAnswer::Ask => Step::Wait,
         }
     }
@@ -154,61 +156,54 @@ impl<'v, 'a> View<'v, 'a> {
     fn held_step(
         &self,
         alloc: Global,
-        tid: Tid,
-        pid: Pid,
-        entered: PendingCall,
-        seq: Seq,
+        caller: CallingThread,
+        drawing: Drawing,
     ) -> Result<Step, AllocError>
-        requires entered { HasEntered self.now tid pid entered seq }
-        requires held { IsWayHeld entered.way }
-        ensures step { IfOk result (IsHeldStep self.now tid seq) }
-        ensures fit { IfOk result (CanBeDone self.now.system) }
+        requires { HoldsNumber self.now caller.tid caller.pid drawing }
+        ensures step { IfOk result (IsHeldStep self.now caller.tid drawing) }
+        ensures can { IfOk result (CanBeDone self.now.system caller.tid) }
     {
-        let Some(state) = self.workers.state(seq) else {
+        let Some(state) = self.workers.state(drawing) else {
             return Ok(Step::Wait);
         };
         match state {
-            MsgState::Answered(verdict) => self.decided_step(alloc, tid, seq, verdict),
-            MsgState::Faulted(errno) => Ok(deny(seq, errno, Cause::Fault)),
+            MsgState::Answered(read) => self.decided_step(alloc, caller, drawing, read),
+            MsgState::Faulted(errno) => Ok(deny(drawing, errno, Cause::Fault)),
             _ => Ok(Step::Wait),
         }
     }
 
-    // A held call goes on by the verdict on its copies.
-    fn decided_step(
-        &self,
-        alloc: Global,
-        tid: Tid,
-        seq: Seq,
-        verdict: Verdict,
-    ) -> Result<Step, AllocError>
-        requires here { message_state self.now.workers.calls seq ≡ Some (Answered verdict) }
-        requires come { (st : State) → Refines self.now st → IsMessageStateOf self.now.input st seq (Some (Answered verdict)) }
-        ensures step { IfOk result (IsDecidedStep self.now tid seq verdict) }
-        ensures fit { IfOk result (CanBeDone self.now.system) }
+    // The decision on an answered call on which the filters that were read have this verdict; none if the call is a question.
+    fn decision(&self, drawing: Drawing, read: Verdict) -> Option<Verdict>
+        requires here { message_state self.now.workers.calls drawing ≡ Some (Answered read) }
+        requires come { (st : State) → Refines self.now st → IsMessageStateOf self.now.input st drawing (Some (Answered read)) }
+        ensures { IsDecision self.now drawing read result }
     {
-        match verdict {
-            Verdict::Permit(_, ids) => self.permitted_step(alloc, tid, seq, ids),
-            Verdict::Refuse(number, errno) => Ok(deny(seq, errno, Cause::Filter(number))),
-            Verdict::Unmatched => self.undecided_step(alloc, tid, seq),
+        match read {
+            Verdict::Unmatched => self.later_decision(self.workers.snapshot(drawing).get()),
+            Verdict::Permit(..) | Verdict::Refuse(..) => Some(read),
         }
     }
 
-    // A held call on which the filters that were read don't decide goes on by the verdict of the session's filters. If these don't decide
-    // either, it waits for the operator, or is denied if the operator wouldn't answer.
-    fn undecided_step(&self, alloc: Global, tid: Tid, seq: Seq) -> Result<Step, AllocError>
-        requires here { message_state self.now.workers.calls seq ≡ Some (Answered Unmatched) }
-        requires come { (st : State) → Refines self.now st → IsMessageStateOf self.now.input st seq (Some (Answered Unmatched)) }
-        ensures step { IfOk result (IsDecidedStep self.now tid seq Unmatched) }
-        ensures fit { IfOk result (CanBeDone self.now.system) }
+    // An answered call goes on by the decision on its copies. A question waits for the operator.
+    fn decided_step(
+        &self,
+        alloc: Global,
+        caller: CallingThread,
+        drawing: Drawing,
+        read: Verdict,
+    ) -> Result<Step, AllocError>
+        requires process { IsInProcess self.now.system caller.tid caller.pid }
+        requires here { message_state self.now.workers.calls drawing ≡ Some (Answered read) }
+        requires come { (st : State) → Refines self.now st → IsMessageStateOf self.now.input st drawing (Some (Answered read)) }
+        ensures step { IfOk result (IsDecidedStep self.now caller.tid drawing read) }
+        ensures can { IfOk result (CanBeDone self.now.system caller.tid) }
     {
-        let shared = self.workers.snapshot(seq);
-        let copies = shared.get();
-        match self.session_verdict(copies) {
-            Verdict::Permit(_, ids) => self.permitted_step(alloc, tid, seq, ids),
-            Verdict::Refuse(number, errno) => Ok(deny(seq, errno, Cause::Filter(number))),
-            Verdict::Unmatched if self.operator.answers(self.input, copies) => Ok(Step::Wait),
-            Verdict::Unmatched => Ok(deny(seq, Errno::EPERM, Cause::NoFilter)),
+        match self.decision(drawing, read) {
+            None => Ok(Step::Wait),
+            Some(Verdict::Permit(_, ids)) => self.permitted_step(alloc, caller, drawing, ids),
+            Some(Verdict::Refuse(number, errno)) => Ok(deny(drawing, errno, Cause::Filter(number))),
+            Some(Verdict::Unmatched) => Ok(deny(drawing, Errno::EPERM, Cause::NoFilter)),
         }
     }
 
@@ -216,15 +211,16 @@ impl<'v, 'a> View<'v, 'a> {
     fn permitted_step(
         &self,
         alloc: Global,
-        tid: Tid,
-        seq: Seq,
+        caller: CallingThread,
+        drawing: Drawing,
         ids: Ids,
     ) -> Result<Step, AllocError>
-        requires { HasAnswer (message_state self.now.workers.calls seq) }
-        ensures step { IfOk result (IsPermittedStep self.now tid seq ids) }
-        ensures fit { IfOk result (CanBeDone self.now.system) }
+        requires process { IsInProcess self.now.system caller.tid caller.pid }
+        requires answered { HasAnswer (message_state self.now.workers.calls drawing) }
+        ensures step { IfOk result (IsPermittedStep self.now caller.tid drawing ids) }
+        ensures can { IfOk result (CanBeDone self.now.system caller.tid) }
     {
-        let shared = self.workers.snapshot(seq);
+        let shared = self.workers.snapshot(drawing);
         let copies = shared.get();
         let call = copies.call;
         let regs = copies.regs;
@@ -233,9 +229,10 @@ impl<'v, 'a> View<'v, 'a> {
             .system
             .link_met(alloc, call, &regs, copies.parts.as_slice(), aliasing)?;
         match link {
-            Some(name) => Ok(deny(seq, Errno::ELOOP, Cause::Link(name))),
+            Some(name) => Ok(deny(drawing, Errno::ELOOP, Cause::Link(name))),
             None => Ok(Step::Make(ReadyCall {
-                seq: Some(seq),
+                pid: caller.pid,
+                drawing: Some(drawing),
                 call,
                 regs,
                 args: CallArgs::judged(shared.share()?),

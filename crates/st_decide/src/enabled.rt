@@ -9,7 +9,7 @@ ghost use Rattle.st_messages.specs.Messages.{thread_of_number, HasWorker};
 ghost use Rattle.st_reached.specs.Waiting.{is_message_by};
 
 use crate::view::View;
-use st_base::{Seq, Tid, Worker};
+use st_base::{Drawing, Tid, Worker};
 use st_messages::MsgState;
 use st_workers::Task;
 
@@ -48,28 +48,28 @@ impl<'v, 'a> View<'v, 'a> {
         if thread.has_ended() {
             return false;
         }
-        match thread.number_held() {
-            Some(seq) => self.is_over(seq),
+        match thread.drawing_held() {
+            Some(drawing) => self.is_over(drawing),
             None => true,
         }
     }
 
     // Whether a held call can be made or denied: its message was faulted or answered, and is no question.
-    fn is_over(&self, seq: Seq) -> bool
-        ensures { (st : State) → Refines self.now st → CanBeMadeOrDenied self.now.input st seq result }
+    fn is_over(&self, drawing: Drawing) -> bool
+        ensures { (st : State) → Refines self.now st → CanBeMadeOrDenied self.now.input st drawing result }
     {
-        if !has_come(self.workers.state(seq)) {
+        if !has_come(self.workers.state(drawing)) {
             return false;
         }
-        self.question(seq).is_none()
+        self.question(drawing).is_none()
     }
 
     /// The thread that holds the call of a number, if the number is live.
-    pub fn holder(&self, seq: Seq) -> Option<Tid>
-        ensures thread { result ≡ thread_of_number self.now.workers.calls seq }
-        ensures law { IfSome result (λ tid. (st : State) → Refines self.now st → (t : ℕ) → is_message_by st t seq ≡ true → t ≡ tid) }
+    pub fn holder(&self, drawing: Drawing) -> Option<Tid>
+        ensures thread { result ≡ thread_of_number self.now.workers.calls drawing }
+        ensures law { IfSome result (λ tid. (st : State) → Refines self.now st → (t : ℕ) → is_message_by st t drawing ≡ true → t ≡ tid) }
     {
-        self.workers.thread(seq)
+        self.workers.thread(drawing)
     }
 
     /// Whether a worker can move: it is at some number, or a number is waiting.

@@ -1,52 +1,47 @@
 // How calls are entered: fast, barred, untraced, or held under the next number.
-ghost use Rattle.std.specs.Prelude.{◌≡◌, Some, IfOk};
-ghost use Rattle.st_model.specs.Processes.{pid_of, IsPid};
+ghost use Rattle.std.specs.Prelude.{IfOk};
+ghost use Rattle.st_model.specs.Processes.{IsPid};
 ghost use Rattle.st_decide.specs.Entering.{IsHeadOf, IsWayOf};
+ghost use Rattle.st_decide.specs.NextSteps.{IsInProcess};
 
+use crate::step::NewCall;
 use crate::view::View;
-use st_base::{Pid, Seq, Tid};
-use st_calls::{FastAnswer, Rule, SysCall};
+use st_base::Tid;
+use st_calls::{FastAnswer, Rule};
 use st_lookaside::Head;
 use st_trace::Way;
 use std::alloc::{AllocError, Global};
 
 impl<'v, 'a> View<'v, 'a> {
     /// How a thread's call goes on. A call that has to be judged is held under the next number.
-    pub fn way_of(&self, tid: Tid, pid: Pid, call: SysCall, regs: &[u64; 6]) -> Way
-        requires process { pid_of self.now.system.processes tid ≡ Some pid }
-        requires there { IsPid self.now.system.processes pid }
-        ensures { IsWayOf self.now tid call regs.now result }
+    pub fn way_of(&self, tid: Tid, new: &NewCall) -> Way
+        requires { IsInProcess self.now.system tid new.now.pid }
+        ensures { IsWayOf self.now tid new.now result }
     {
-        if !self.system.traced(pid) {
+        if !self.system.traced(new.pid) {
             return Way::Untraced;
         }
-        match self.answer(pid, call, regs) {
+        match self.answer(new.pid, new.call, &new.regs) {
             FastAnswer::Permit => Way::Fast,
             FastAnswer::Refuse(_) => Way::Barred(1),
-            FastAnswer::Ask => Way::Held(self.workers.next_seq()),
+            FastAnswer::Ask => Way::Held(self.workers.next_drawing()),
         }
     }
 
-    /// The head of the message of a process's call, under this number.
-    pub fn head_of(
-        &self,
-        seq: Seq,
-        pid: Pid,
-        call: SysCall,
-        regs: &[u64; 6],
-    ) -> Result<Head, AllocError>
-        requires { IsPid self.now.system.processes pid }
-        ensures { IfOk result (IsHeadOf self.now seq pid call regs.now) }
+    /// The head of the message of a call that is held under the next number.
+    pub fn head_of(&self, new: &NewCall) -> Result<Head, AllocError>
+        requires { IsPid self.now.system.processes new.now.pid }
+        ensures { IfOk result (IsHeadOf self.now new.now) }
     {
         Ok(Head {
-            seq,
-            pid,
-            ids: self.system.ids(pid),
-            cwd: self.system.cwd(pid).share()?,
-            policy: self.system.policy(pid).share()?,
-            rule: Rule::of(call, regs, self.input.options.aliasing),
-            call,
-            regs: *regs,
+            drawing: self.workers.next_drawing(),
+            pid: new.pid,
+            ids: self.system.ids(new.pid),
+            cwd: self.system.cwd(new.pid).share()?,
+            policy: self.system.policy(new.pid).share()?,
+            rule: Rule::of(new.call, &new.regs, self.input.options.aliasing),
+            call: new.call,
+            regs: new.regs,
         })
     }
 }

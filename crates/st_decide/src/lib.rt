@@ -11,5 +11,5 @@ mod making;
 pub mod step;
 pub mod view;
 
-pub use step::{ReadyCall, Step};
+pub use step::{DeniedCall, FailedCall, NewCall, ReadyCall, Step, StoredWord};
 pub use view::View;

@@ -5,7 +5,7 @@ ghost use Rattle.st_decide.specs.Making.{child_of_row, request_with};
 
 use crate::step::ReadyCall;
 use crate::view::View;
-use st_base::{Pid, Tid};
+use st_base::Tid;
 use st_request::Request;
 
 impl<'v, 'a> View<'v, 'a> {
@@ -19,13 +19,13 @@ impl<'v, 'a> View<'v, 'a> {
         }
     }
 
-    /// The request with which a thread of this process makes its call.
-    pub fn request_with<'b>(&self, tid: Tid, pid: Pid, ready: &'b ReadyCall) -> Request<'b>
-        ensures { result ≡ request_with self.now tid pid ready.now }
+    /// The request with which a thread makes its call.
+    pub fn request_with<'b>(&self, tid: Tid, ready: &'b ReadyCall) -> Request<'b>
+        ensures { result ≡ request_with self.now tid ready.now }
     {
         Request {
             tid,
-            pid,
+            pid: ready.pid,
             ids: ready.ids,
             regs: ready.regs,
             args: ready.args.as_slice(),

@@ -1,7 +1,6 @@
 ghost use Rattle.std.specs.Prelude.{◌≡◌, ◌≤◌, ◌<◌, IfSome, Option, None, Some, length};
 ghost use Rattle.st_base.specs.Numbered.{item_at_number};
 ghost use Rattle.st_law.specs.State.{thread_count};
-ghost use Rattle.st_decide.specs.Machine.{RefinesSomeState};
 
 use st_base::Tid;
 use st_law::Input;
@@ -15,13 +14,13 @@ use std::marker::Model;
 /// far each thread has come, what answers calls, and what the operator has added.
 #[derive(Debug, Drop)]
 pub struct View<'v, 'a> {
-    pub(crate) input: &'a Input,
-    pub(crate) system: &'v System,
-    pub(crate) workers: &'v Workers,
-    // Thread t is at index t - 1.
-    pub(crate) threads: &'v [Thread<'a>],
-    pub(crate) answers: &'v Answers<'a>,
-    pub(crate) operator: &'v Operator<'a>,
+    pub input: &'a Input,
+    pub system: &'v System,
+    pub workers: &'v Workers,
+    /// Thread t is at index t - 1.
+    pub threads: &'v [Thread<'a>],
+    pub answers: &'v Answers<'a>,
+    pub operator: &'v Operator<'a>,
 }
 
 impl<'v, 'a> Model for View<'v, 'a> {
@@ -39,28 +38,6 @@ impl<'v, 'a> Model for View<'v, 'a> {
 }
 
 impl<'v, 'a> View<'v, 'a> {
-    /// A view of a machine with these parts.
-    pub fn new(
-        input: &'a Input,
-        system: &'v System,
-        workers: &'v Workers,
-        threads: &'v [Thread<'a>],
-        answers: &'v Answers<'a>,
-        operator: &'v Operator<'a>,
-    ) -> Self
-        requires { RefinesSomeState (record { input = input.now; system = system.now; workers = workers.now; threads = threads.now; answers = answers.now; operator = operator.now }) }
-        ensures { result ≡ record { input = input.now; system = system.now; workers = workers.now; threads = threads.now; answers = answers.now; operator = operator.now } }
-    {
-        View {
-            input,
-            system,
-            workers,
-            threads,
-            answers,
-            operator,
-        }
-    }
-
     /// How many threads the script has.
     pub fn thread_count(&self) -> u32
         ensures count { result ≡ thread_count self.now.input }

@@ -4,7 +4,7 @@ use Rattle.std.proofs.Common.{◌≡◌, ◌≤◌, ◌<◌, ◌+◌, ◌∙◌,
 use Rattle.std.proofs.lemmas.Bool.{cases_eq, eqb-false, leb-false, leb-true, ne_eqb, true≢false}
 use Rattle.std.proofs.lemmas.Option.{slice_get_past}
 use Rattle.std.specs.Prelude.{nat_le}
-use Rattle.st_decide.specs.Holding.{message_held, message_of, held_seq}
+use Rattle.st_decide.specs.Holding.{message_held, message_of, held_drawing}
 use Rattle.st_decide.specs.Machine.{Running}
 use Rattle.st_threads.specs.Thread.{ThreadRow}
 use Rattle.st_kernel.specs.Waking.{is_asleep}
@@ -48,4 +48,4 @@ module _ (is : ℕ → Bool) (tid : ℕ) (old now : List Bool) (so_far : IsWoken
 
 -- a number greater than those of all threads is no thread's
 pub nothing_held : (m : Running) (place : ℕ) → length m.threads ≤ place → message_held m (suc place) ≡ None
-nothing_held m place beyond = ap (λ (o : Option ThreadRow). message_of m (held_seq o)) (slice_get_past m.threads place beyond)
+nothing_held m place beyond = ap (λ (o : Option ThreadRow). message_of m (held_drawing o)) (slice_get_past m.threads place beyond)

@@ -2,7 +2,8 @@ ghost use Rattle.std.specs.Prelude.{◌≡◌, ◌≤◌, [], reverse, None, Som
 ghost use Rattle.st_law.specs.History.{session_at};
 ghost use Rattle.st_law.specs.Lawful.{Lawful};
 ghost use Rattle.st_law.specs.Machine.{entry_of, IsEnabled, IsSettled};
-ghost use Rattle.st_law.specs.State.{thread_count};
+ghost use Rattle.st_law.specs.State.{State, thread_count};
+ghost use Rattle.st_decide.specs.Machine.{Refines};
 ghost use Rattle.st_reached.specs.Runnable.{CanRun};
 ghost use Rattle.st_report.specs.ScheduleText.{repeats_of};
 ghost use Rattle.st_trace.specs.declared.entry.Choice.TheVariants.{Thread, Worker};
@@ -11,6 +12,7 @@ ghost use Rattle.st_kernel.specs.Kernel.{rested, state_in, trace_of, with_choice
 use crate::waking::woken_by;
 use st_base::Tid;
 use st_compile::Compiled;
+use st_decide::View;
 use st_law::Input;
 use st_learn::Session;
 use st_machine::Machine;
@@ -37,6 +39,20 @@ impl From<AllocError> for StepFault {
 
     fn from(_error: AllocError) -> Self {
         StepFault::NoMemory
+    }
+}
+
+// Whether a choice is enabled, according to the machine.
+fn is_enabled(machine: &View<'_, '_>, choice: Choice) -> bool
+    ensures { (st : State) → Refines machine.now st → result ≡ is_some (entry_of machine.now.input st choice) }
+{
+    match choice {
+        Choice::Thread(tid) => machine.can_move(tid),
+        Choice::Worker(worker) if 0 < worker && worker <= machine.worker_count() => {
+            machine.can_serve(worker)
+        }
+        Choice::Worker(_) => false,
+        Choice::Operator => machine.can_ask(),
     }
 }
 
@@ -118,15 +134,7 @@ impl<'a> Kernel<'a> {
     pub fn enabled(&self, choice: Choice) -> bool
         ensures { result ≡ is_some (entry_of self.now.input (state_in self.now) choice) }
     {
-        let machine = self.machine.view();
-        match choice {
-            Choice::Thread(tid) => machine.can_move(tid),
-            Choice::Worker(worker) if 0 < worker && worker <= machine.worker_count() => {
-                machine.can_serve(worker)
-            }
-            Choice::Worker(_) => false,
-            Choice::Operator => machine.can_ask(),
-        }
+        is_enabled(&self.machine.view(), choice)
     }
 
     // Makes a choice and stores the entry that it adds, or none, in `added`. Returns whether it adds one. If memory runs out, the run and
@@ -261,9 +269,25 @@ impl<'a> Kernel<'a> {
         ensures played { OnOk result (IsPlayed self.new) }
         ensures noted { OnOk result (R.has_noted recorder.old self.old.input (trace_of self.old) → R.has_noted recorder.new self.new.input (trace_of self.new)) }
     {
-        let mut added = None;
-        while self.make_next(alloc, &mut added)? {
-            let Some(entry) = &added else { unreachable!() };
+        self.rest_through(alloc, &mut None, recorder)
+    }
+
+    // Rests. Each entry is stored in `added` meanwhile.
+    fn rest_through<R: Recorder>(
+        &mut self,
+        alloc: Global,
+        added: &mut Option<Entry>,
+        recorder: &mut R,
+    ) -> Result<(), AllocError>
+        ensures ok { OnOk result (self.new ≡ rested self.old) }
+        ensures settled { OnOk result (IsSettled self.new.input (state_in self.new)) }
+        ensures on_the_way { rested self.new ≡ rested self.old }
+        ensures made { Continues self.old self.new }
+        ensures played { OnOk result (IsPlayed self.new) }
+        ensures noted { OnOk result (R.has_noted recorder.old self.old.input (trace_of self.old) → R.has_noted recorder.new self.new.input (trace_of self.new)) }
+    {
+        while self.make_next(alloc, added)? {
+            let Some(entry) = &*added else { unreachable!() };
             recorder.note(alloc, self.input(), self.compiled(), self.session(), entry)?;
         }
         Ok(())

@@ -5,8 +5,8 @@ ghost use Rattle.st_kernel.specs.Kernel.{played_so_far, trace_of, Continues};
 
 use crate::kernel::{Kernel, StepFault};
 use st_law::{ReadSchedule, ScheduleLine, What};
-use st_report::Recorder;
-use st_trace::Choice;
+use st_report::{Recorder, Repeat};
+use st_trace::Entry;
 use std::alloc::Global;
 use thiserror::Error;
 
@@ -34,24 +34,23 @@ impl PlayFault {
 }
 
 impl Kernel<'_> {
-    // Makes a choice `count` times, and gives each entry to the recorder.
+    // Makes a choice several times in a row, and gives each entry to the recorder. Each is stored in `added` meanwhile.
     fn repeat<R: Recorder>(
         &mut self,
         alloc: Global,
-        choice: Choice,
-        count: u32,
+        repeat: Repeat,
+        added: &mut Option<Entry>,
         recorder: &mut R,
     ) -> Result<(), StepFault>
-        ensures ok { OnOk result (repeated count choice self.old.input (played_so_far self.old) ≡ Some (played_so_far self.new)) }
-        ensures not_enabled { result ≡ Err StepFault.NotEnabled → repeated count choice self.old.input (played_so_far self.old) ≡ None }
+        ensures ok { OnOk result (repeated repeat.times repeat.choice self.old.input (played_so_far self.old) ≡ Some (played_so_far self.new)) }
+        ensures not_enabled { result ≡ Err StepFault.NotEnabled → repeated repeat.times repeat.choice self.old.input (played_so_far self.old) ≡ None }
         ensures made { Continues self.old self.new }
         ensures input { self.new.input ≡ self.old.input }
         ensures noted { OnOk result (R.has_noted recorder.old self.old.input (trace_of self.old) → R.has_noted recorder.new self.new.input (trace_of self.new)) }
     {
-        let mut added = None;
-        for _ in 0..count {
-            self.advance(alloc, choice, &mut added)?;
-            let Some(entry) = &added else { unreachable!() };
+        for _ in 0..repeat.times {
+            self.advance(alloc, repeat.choice, added)?;
+            let Some(entry) = &*added else { unreachable!() };
             recorder.note(alloc, self.input(), self.compiled(), self.session(), entry)?;
         }
         Ok(())
@@ -71,7 +70,13 @@ impl Kernel<'_> {
         ensures noted { OnOk result (R.has_noted recorder.old self.old.input (trace_of self.old) → R.has_noted recorder.new self.new.input (trace_of self.new)) }
     {
         match line.what {
-            What::Choose(choice) => self.repeat(alloc, choice, line.count, recorder),
+            What::Choose(choice) => {
+                let repeat = Repeat {
+                    choice,
+                    times: line.count,
+                };
+                self.repeat(alloc, repeat, &mut None, recorder)
+            }
             What::Rest => Ok(self.rest(alloc, recorder)?),
         }
     }

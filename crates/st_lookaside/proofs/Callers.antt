@@ -31,5 +31,5 @@ ready_asked (Stuck errno) e = cc
 ready_asked (Ready args) e = tt
 
 -- a number that was given a slot has it
-pub has_slot : (old new : List Slot) (seq : ℕ) (slot : Slot) → ChangesSlot old seq (Some slot) new → IsSome (slot_at new seq)
-has_slot old new seq slot changes = subst IsSome (sym (changes seq ∙ ap (λ (b : Bool). cond b (Some slot) (slot_at old seq)) (eq-eqb seq seq refl))) refl
+pub has_slot : (old new : List Slot) (drawing : ℕ) (slot : Slot) → ChangesSlot old drawing (Some slot) new → IsSome (slot_at new drawing)
+has_slot old new drawing slot changes = subst IsSome (sym (changes drawing ∙ ap (λ (b : Bool). cond b (Some slot) (slot_at old drawing)) (eq-eqb drawing drawing refl))) refl

@@ -24,7 +24,7 @@ ids = record { ruid = 3; euid = 4; rgid = 5; egid = 6 }
 
 abbrev head : Head
 head = record {
-  seq = 1;
+  drawing = 1;
   pid = 2;
   ids = ids;
   cwd = components_of (codes "/w");
@@ -70,7 +70,7 @@ outside = refl
 
 -- the number, ids and directory of a renewal are new, everything else in the message stays, and nothing is copied or seen
 begun_anew : renewed done 9 (identity 7 8) (components_of (codes "/v")) ≡ record {
-  head = record head { seq = 9; ids = identity 7 8; cwd = components_of (codes "/v") };
+  head = record head { drawing = 9; ids = identity 7 8; cwd = components_of (codes "/v") };
   parts = record { words = []; lookups = [] } ∷ record { words = []; lookups = [] } ∷ [];
   is_sealed = false;
 }
@@ -104,7 +104,7 @@ sealed_is = refl
 -- ---- numbers
 
 abbrev numbered : ℕ → Slot
-numbered seq = new_slot (record head { seq = seq })
+numbered drawing = new_slot (record head { drawing = drawing })
 
 abbrev three : List Slot
 three = numbered 2 ∷ numbered 5 ∷ numbered 7 ∷ []

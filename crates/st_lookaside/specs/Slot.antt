@@ -109,12 +109,12 @@ sealed_slot slot = record slot { is_sealed = true }
 
 -- the message begins anew under this number, with these ids and this directory
 abbrev pub renewed : Slot → ℕ → Ids → Components → Slot
-renewed slot seq ids cwd = new_slot (record slot.head { seq = seq; ids = ids; cwd = cwd })
+renewed slot drawing ids cwd = new_slot (record slot.head { drawing = drawing; ids = ids; cwd = cwd })
 
 -- the message with the texts of its arguments
 abbrev pub snapshot_with : Head → List ArgText → Snapshot
 snapshot_with head args = record {
-  seq = head.seq;
+  seq = head.drawing;
   pid = head.pid;
   ids = head.ids;
   policy = head.policy;

@@ -7,45 +7,45 @@ use Rattle.st_lookaside.specs.declared.slots.SlotKey.{SlotKey}
 
 -- whether a slot has this number
 abbrev pub is_slot_of : ℕ → Slot → Bool
-is_slot_of seq slot = slot.head.seq == seq
+is_slot_of drawing slot = slot.head.drawing == drawing
 
 -- the slot of this number, if it has one
 abbrev pub slot_at : List Slot → ℕ → Option Slot
-slot_at slots seq = find (is_slot_of seq) slots
+slot_at slots drawing = find (is_slot_of drawing) slots
 
 -- a number has this slot now, or none, and each other number is unchanged
 abbrev pub ChangesSlot : List Slot → ℕ → Option Slot → List Slot → Type 0
-ChangesSlot old seq slot new = (other : ℕ) → slot_at new other ≡ (if other == seq then slot else slot_at old other)
+ChangesSlot old drawing slot new = (other : ℕ) → slot_at new other ≡ (if other == drawing then slot else slot_at old other)
 
 -- a number has no slot now, this new number has this slot, and each other is unchanged
 abbrev pub RenewsSlot : List Slot → ℕ → ℕ → Slot → List Slot → Type 0
-RenewsSlot old seq fresh slot new =
-    (other : ℕ) → slot_at new other ≡ (if other == fresh then Some slot else if other == seq then None else slot_at old other)
+RenewsSlot old drawing fresh slot new =
+    (other : ℕ) → slot_at new other ≡ (if other == fresh then Some slot else if other == drawing then None else slot_at old other)
 
 -- ---- the keys of slots
 
 -- whether a key is that of the slot of this number
 abbrev pub is_key_of : ℕ → SlotKey → Bool
-is_key_of seq key = key.seq == seq
+is_key_of drawing key = key.drawing == drawing
 
 -- the key of the slot of this number, if it has one
 abbrev pub key_at : List SlotKey → ℕ → Option ℕ
-key_at keys seq = option_map (λ key. key.key) (find (is_key_of seq) keys)
+key_at keys drawing = option_map (λ key. key.key) (find (is_key_of drawing) keys)
 
 -- the numbers are ascending
 abbrev pub AreAscending : List SlotKey → Type 0
-AreAscending keys = AllPairs (λ key later. key.seq < later.seq) keys
+AreAscending keys = AllPairs (λ key later. key.drawing < later.drawing) keys
 
 -- the key of this number is at this index
-pub record IsKeyAt (keys : List SlotKey) (seq i : ℕ) : Type 0 where
+pub record IsKeyAt (keys : List SlotKey) (drawing i : ℕ) : Type 0 where
   pub within : i < length keys
-  pub here : (d : SlotKey) → (get_or keys i d).seq ≡ seq
+  pub here : (d : SlotKey) → (get_or keys i d).drawing ≡ drawing
 
 -- no key is of this number, and it would be inserted at this index
-pub record IsGap (keys : List SlotKey) (seq i : ℕ) : Type 0 where
+pub record IsGap (keys : List SlotKey) (drawing i : ℕ) : Type 0 where
   pub within : i ≤ length keys
-  pub before : (k : ℕ) (d : SlotKey) → k < i → (get_or keys k d).seq < seq
-  pub following : (k : ℕ) (d : SlotKey) → i ≤ k → k < length keys → seq < (get_or keys k d).seq
+  pub before : (k : ℕ) (d : SlotKey) → k < i → (get_or keys k d).drawing < drawing
+  pub following : (k : ℕ) (d : SlotKey) → i ≤ k → k < length keys → drawing < (get_or keys k d).drawing
 
 -- ---- what is kept
 
@@ -55,7 +55,7 @@ slots_of slab keys = filter_map (λ (key : SlotKey). get slab key.key) keys
 
 -- the slot under this key has its number
 abbrev pub HasSlot : Slab Slot → SlotKey → Type 0
-HasSlot slab key = option_map (λ (slot : Slot). slot.head.seq) (get slab key.key) ≡ Some key.seq
+HasSlot slab key = option_map (λ (slot : Slot). slot.head.drawing) (get slab key.key) ≡ Some key.drawing
 
 -- each number has its slot under its key, and there are no other slots
 pub record HasSlots (slab : Slab Slot) (keys : List SlotKey) : Type 0 where

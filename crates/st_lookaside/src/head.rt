@@ -1,11 +1,11 @@
-use st_base::{Ids, Pid, Seq, Shared, Text};
+use st_base::{Drawing, Ids, Pid, Shared, Text};
 use st_calls::{Rule, SysCall};
 use st_names::AbsName;
 
 /// A message: the call that is held, and what it is judged by.
 #[derive(Debug, Drop)]
 pub struct Head {
-    pub seq: Seq,
+    pub drawing: Drawing,
     pub pid: Pid,
     pub ids: Ids,
     /// The directory in which its relative names are resolved. Its name has at most 1,024 bytes.

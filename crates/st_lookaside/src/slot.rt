@@ -14,7 +14,7 @@ ghost use Rattle.st_effects.specs.Progress.{Look, Ready};
 use crate::head::Head;
 use crate::need::Need;
 use crate::part::Part;
-use st_base::{Errno, Ids, Seq, Sequence, Shared};
+use st_base::{Drawing, Errno, Ids, Sequence, Shared};
 use st_calls::{ArgText, Snapshot, args_of};
 use st_names::{AbsName, Seen};
 use std::alloc::{AllocError, Global};
@@ -210,7 +210,7 @@ impl Slot {
         }
         let head = &self.head;
         Ok(Snapshot {
-            seq: head.seq,
+            seq: head.drawing,
             pid: head.pid,
             ids: head.ids,
             policy: head.policy.share()?,
@@ -251,12 +251,12 @@ impl Slot {
         Ok(copies)
     }
 
-    /// Begins anew under this number, with these ids and this directory, in the existing room.
-    pub fn renew(&mut self, seq: Seq, ids: Ids, cwd: Shared<AbsName>)
+    /// Begins anew under this drawing, with these ids and this directory, in the existing room.
+    pub fn renew(&mut self, drawing: Drawing, ids: Ids, cwd: Shared<AbsName>)
         requires { IsShort cwd }
-        ensures { self.new ≡ renewed self.old seq ids cwd }
+        ensures { self.new ≡ renewed self.old drawing ids cwd }
     {
-        self.head.seq = seq;
+        self.head.drawing = drawing;
         self.head.ids = ids;
         self.head.cwd = cwd;
         self.sealed = None;

@@ -9,7 +9,7 @@ use Rattle.st_law.specs.declared.input.Input.{Input}
 use Rattle.st_law.specs.declared.input.Mode.{Mode}
 use Rattle.st_law.specs.declared.input.Mode.TheVariants.{Enforce, Learn, AskText}
 use Rattle.st_law.specs.Machine.{entry_of, question_entry, reply_entry, state_after}
-use Rattle.st_law.specs.State.{State, next_reply, snapshot_in}
+use Rattle.st_law.specs.State.{State, next_reply}
 use Rattle.st_learn.specs.Answers.{Answers, AreAnswersIn, KeepsAll}
 use Rattle.st_learn.specs.Operator.{Added, IsAdded, IsAnsweredBy}
 use Rattle.st_learn.proofs.InForce.{answers_keep}

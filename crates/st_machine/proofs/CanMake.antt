@@ -1,19 +1,19 @@
 -- A call that is made next fulfils its precondition.
 use native.Mathlib.Omega.{arith}
-use Rattle.std.proofs.Common.{◌≡◌, ◌≤◌, ◌∙◌, ◌==◌, suc, ℕ, ◌+◌, not, Bool, true, Option, Some, None, refl, ap, sym, subst}
-use Rattle.std.specs.Prelude.{is_some}
+use Rattle.std.proofs.Common.{◌≡◌, ◌≤◌, ◌∙◌, suc, ℕ, ◌+◌, true, Option, Some, None, refl, ap, sym, subst}
 use Rattle.st_base.specs.Numbered.{item_at_number}
-use Rattle.st_calls.specs.Call.{sets_ids}
+use Rattle.st_calls.specs.Call.{follows, sets_ids}
 use Rattle.st_calls.specs.declared.call.SysCall.{SysCall}
 use Rattle.st_calls.specs.declared.call.SysCall.TheVariants.{Fork, Execve, SetUid, SetEuid, SetGid, SetEgid}
 use Rattle.st_effects.specs.System as effects
-use Rattle.st_law.specs.declared.input.Input.{Input}
+use Rattle.st_effects.specs.System.{arg_name_at}
+use Rattle.st_exec_fs.specs.Open.{IsNoLink}
 use Rattle.st_law.specs.Lawful.{IsUsed}
 use Rattle.st_law.specs.Machine.{state_of_run}
 use Rattle.st_law.specs.Processes.{process_count}
 use Rattle.st_law.specs.Schedules.{instruction_count}
 use Rattle.st_law.specs.State.{State, child_of_pending}
-use Rattle.st_model.specs.Processes.{pid_of, process_at}
+use Rattle.st_model.specs.Processes.{IsPid, process_at}
 use Rattle.st_reached.specs.Reached.{ForksStartNew, SetsOwnIds}
 use Rattle.st_reached.proofs.Made.{few_processes, few_spaces}
 use Rattle.st_reached.proofs.OwnIds.{sets_own_ids}
@@ -21,30 +21,26 @@ use Rattle.st_reached.proofs.Starting.{forks_start_new}
 use Rattle.st_model.specs.Process.{Process}
 use Rattle.st_system.specs.Fit.{AreFit}
 use Rattle.st_system.specs.Steps.{CanMake}
-use Rattle.st_system.specs.System.{IsSystem}
+use Rattle.st_system.specs.System.{Parts}
 use Rattle.st_trace.specs.declared.entry.Way.{Way}
 use Rattle.st_trace.specs.declared.entry.Way.TheVariants.{Held}
-use Rattle.st_decide.specs.Machine.{Refines, IsNextStep, RefinesSomeState, Running}
+use Rattle.st_decide.specs.Machine.{Refines, RefinesSomeState, Running}
 use Rattle.st_decide.specs.Making.{child_of_row, request_with}
-use Rattle.st_decide.specs.NextSteps.{IsFit}
+use Rattle.st_decide.specs.NextSteps.{CanStep}
 use Rattle.st_threads.specs.Thread.{ThreadRow}
 use Rattle.st_decide.specs.declared.step.Step.TheVariants as steps
 use Rattle.st_decide.specs.declared.step.ReadyCall.{ReadyCall}
+use Rattle.st_machine.proofs.Made.{owner_by}
 use Rattle.st_machine.proofs.MadeSteps.{now, used}
 use Rattle.st_machine.proofs.Moving.{row_making}
 use Rattle.st_decide.proofs.NextSteps.{owner_is, row_of}
 
--- the system and the state agree on whether a thread has started
-unstarted : (o : Option ℕ) (owner : ℕ) (started : Bool) → started ≡ is_some o → started ≡ not (owner == 0) → owner ≡ 0 → o ≡ None
-unstarted None owner started here law none = refl
-unstarted (Some pid) owner started here law none = let clash : not (owner == 0) ≡ true = sym law ∙ here in let zero = ap (λ (n : ℕ). not (n == 0)) none in cc
-
-module _ (m : Running) (st : State) (is : Refines m st) (t pid : ℕ) (ready : ReadyCall) (next : IsNextStep m t (steps.Make ready)) (process : pid_of m.system.processes t ≡ Some pid) (row : ThreadRow) (row_is : item_at_number m.threads t ≡ Some row) where
+module _ (m : Running) (st : State) (is : Refines m st) (t : ℕ) (ready : ReadyCall) (can : CanStep m t (steps.Make ready)) (row : ThreadRow) (row_is : item_at_number m.threads t ≡ Some row) where
   in_run : (P : State → Type 0) → P (state_of_run m.input is.reached.choices) → P st
   in_run P x = subst P (sym is.reached.state_is) x
 
   -- the call is its thread's pending call
-  pending_is : (seq : Option ℕ) (outcome : effects.Outcome) → IsUsed m.input st t seq ready.call ready.regs ready.args ready.ids outcome.result outcome.changes
+  pending_is : (drawing : Option ℕ) (outcome : effects.Outcome) → IsUsed m.input st t drawing ready.call ready.regs ready.args ready.ids outcome.result outcome.changes
       → (way : Way) × (child : ℕ) × ((st.threads t).pending ≡ Some (record { call = ready.call; regs = ready.regs; way = way; child = child }))
   pending_is None outcome x = (x.way, x.entered.0, x.entered.1)
   pending_is (Some q) outcome x = (Held x.held.first, x.held.entered.0, x.held.entered.1)
@@ -66,31 +62,34 @@ module _ (m : Running) (st : State) (is : Refines m st) (t pid : ℕ) (ready : R
   -- a fork starts a thread that hasn't started
   child_new : ready.call ≡ Fork → (st.threads (child_of_row (item_at_number m.threads t))).owner ≡ 0
   child_new forks =
-      let entered = pending_is ready.seq (now m st is t pid ready next process row row_is) (used m st is t pid ready next process row row_is) in
+      let entered = pending_is ready.drawing (now m st is t ready can row row_is) (used m st is t ready can row row_is) in
       let starting : ForksStartNew st = in_run ForksStartNew (forks_start_new m.input is.reached.startable is.bounded.starts is.reached.choices) in
       let none = starting.child t (record { call = ready.call; regs = ready.regs; way = entered.0; child = entered.1 }) entered.2 forks in
       let child : child_of_row (item_at_number m.threads t) ≡ entered.1 = ap child_of_row row_is ∙ ap child_of_pending (sym (row_of m st is t row row_is).pending ∙ entered.2) in
       ap (λ (n : ℕ). (st.threads n).owner) child ∙ none
 
   -- a call that sets ids is made under its process's own ids
-  own_ids : sets_ids ready.call ≡ true → ready.ids ≡ (process_at m.system.processes pid).ids
+  own_ids : sets_ids ready.call ≡ true → ready.ids ≡ (process_at m.system.processes ready.pid).ids
   own_ids sets =
       let setting : SetsOwnIds m.input st = in_run (SetsOwnIds m.input) (sets_own_ids m.input is.reached.startable is.ungranted is.replies is.reached.choices) in
-      let outcome = now m st is t pid ready next process row row_is in
-      setting.own t ready.seq ready.call ready.regs ready.args ready.ids outcome.result outcome.changes (used m st is t pid ready next process row row_is) sets
-      ∙ ap (λ (p : ℕ). (st.processes p).ids) (owner_is m st is t pid process) ∙ ap (λ (p : Process). p.ids) (is.system.processes pid)
+      let outcome = now m st is t ready can row row_is in
+      setting.own t ready.drawing ready.call ready.regs ready.args ready.ids outcome.result outcome.changes (used m st is t ready can row row_is) sets
+      ∙ ap (λ (p : ℕ). (st.processes p).ids) (owner_is m st is t ready.pid can.can.caller.process) ∙ ap (λ (p : Process). p.ids) (is.system.processes ready.pid)
+
+  -- the thread that the call starts, if it is a fork
+  abbrev child : ℕ
+  child = child_of_row (item_at_number m.threads t)
 
   -- each call fulfils its precondition
-  can_make : IsFit m.system ready → ((st.threads (child_of_row (item_at_number m.threads t))).owner ≡ 0 → pid_of m.system.processes (child_of_row (item_at_number m.threads t)) ≡ None)
-      → CanMake ready.call m.system (request_with m t pid ready)
-  can_make fit new = by ready.call refl fit.fit where
-    by : (call : SysCall) → ready.call ≡ call → AreFit call ready.args → CanMake call m.system (request_with m t pid ready)
+  can_make : CanMake ready.call m.system (request_with m t ready)
+  can_make = by ready.call refl can.can.fit where
+    by : (call : SysCall) → ready.call ≡ call → AreFit call ready.args → CanMake call m.system (request_with m t ready)
     by Fork e x =
         let pids = few_pids in
         let spaces = few_memories in
         let pids_are = is.system.next_process in
         let spaces_are = is.system.next_space in
-        record { thread = new (child_new e); pids = omega (arith, pids, pids_are); spaces = omega (arith, spaces, spaces_are) }
+        record { thread = owner_by m.system.processes child (st.threads child) (is.system.threads child) ∙ child_new e; pids = omega (arith, pids, pids_are); spaces = omega (arith, spaces, spaces_are) }
     by Execve e x =
         let spaces = few_memories in
         let spaces_are = is.system.next_space in
@@ -101,17 +100,19 @@ module _ (m : Running) (st : State) (is : Refines m st) (t pid : ℕ) (ready : R
     by SetEgid e x = own_ids (ap sets_ids e)
     by _ e x = x
 
--- the same by a view of the machine, where it is known whether the thread that the call starts has started
-pub can_use : (m seen : Running) → m ≡ seen → RefinesSomeState m → (t pid : ℕ) (ready : ReadyCall) → IsNextStep seen t (steps.Make ready) → IsFit seen.system ready → pid_of seen.system.processes t ≡ Some pid
-    → (child : ℕ) → child ≡ child_of_row (item_at_number seen.threads t) → (started : Bool) → started ≡ is_some (pid_of m.system.processes child)
-    → ((i : Input) (st : State) → IsSystem i st m.system → started ≡ not ((st.threads child).owner == 0)) → CanMake ready.call seen.system (request_with seen t pid ready)
-can_use m seen same running t pid ready next fit process child child_seen started here law =
-    let st = running.state in
-    let next_here = subst (λ (k : Running). IsNextStep k t (steps.Make ready)) (sym same) next in
-    let child_is : child ≡ child_of_row (item_at_number m.threads t) = child_seen ∙ ap (λ (k : Running). child_of_row (item_at_number k.threads t)) (sym same) in
-    let row = row_making m running t ready next_here in
-    let new = λ (none : (st.threads (child_of_row (item_at_number m.threads t))).owner ≡ 0).
-    subst (λ (n : ℕ). pid_of m.system.processes n ≡ None) child_is
-    (unstarted (pid_of m.system.processes child) (st.threads child).owner started here (law m.input st running.is.system) (ap (λ (n : ℕ). (st.threads n).owner) child_is ∙ none)) in
-    subst (λ (k : Running). CanMake ready.call k.system (request_with k t pid ready)) same
-    (can_make m st running.is t pid ready next_here (ap (λ (k : Running). pid_of k.system.processes t) same ∙ process) row.0 row.1 (subst (λ (k : Running). IsFit k.system ready) (sym same) fit) new)
+-- what the system asks of a call that is made
+pub record CanExecute (parts : Parts) (call : SysCall) (request : effects.Request) : Type 0 where
+  pub process : IsPid parts.processes request.pid
+  pub can : CanMake call parts request
+  pub no_link : follows call request.regs 0 ≡ true → IsNoLink parts.tree (arg_name_at request 0)
+
+-- the same by a view of the machine, and by the request with which the call is made
+pub can_use : (m seen : Running) → m ≡ seen → RefinesSomeState m → (t : ℕ) (ready : ReadyCall) → CanStep seen t (steps.Make ready) → (request : effects.Request) → request ≡ request_with m t ready → CanExecute m.system ready.call request
+can_use m seen same running t ready can request request_is =
+    let here : CanStep m t (steps.Make ready) = subst (λ (k : Running). CanStep k t (steps.Make ready)) (sym same) can in
+    let row = row_making m running t ready here.next in
+    subst (λ (r : effects.Request). CanExecute m.system ready.call r) (sym request_is) (record {
+      process = here.can.caller.there;
+      can = can_make m running.state running.is t ready here row.0 row.1;
+      no_link = here.can.unlinked;
+    })

@@ -27,6 +27,7 @@ use Rattle.st_workers.proofs.Threads.{others_have_no_number}
 use Rattle.st_decide.specs.Entering.{IsUnposted, IsWayOf}
 use Rattle.st_decide.specs.Machine.{Refines, IsNextStep, IsStep, Running}
 use Rattle.st_threads.specs.Thread.{ThreadRow, IsRow, number_held, row_entered}
+use Rattle.st_decide.specs.declared.step.NewCall.{NewCall}
 use Rattle.st_decide.specs.declared.step.Step.TheVariants as steps
 use Rattle.st_machine.proofs.After.{AreRows, HasComeAsFar, following, rows_changed, with_parts}
 use Rattle.st_decide.proofs.NextSteps.{row_of}
@@ -34,98 +35,98 @@ use Rattle.st_decide.proofs.Reached.{reached_of}
 use Rattle.st_threads.proofs.Rows.{either_none, holds}
 use Rattle.st_machine.proofs.Served.{same_system}
 
-module _ (m : Running) (t : ℕ) (call : SysCall) (regs : List ℕ) (next : IsNextStep m t (steps.Enter call regs)) (way : Way) (goes : IsWayOf m t call regs way) (st : State) (is : Refines m st) where
+module _ (m : Running) (t : ℕ) (new : NewCall) (next : IsNextStep m t (steps.Enter new)) (way : Way) (goes : IsWayOf m t new way) (st : State) (is : Refines m st) where
   -- the entry is that of the law's machine
-  pub entered_entry_is : entry_of m.input st (choice.Thread t) ≡ Some (Entered t call regs way)
-  entered_entry_is = next st is ∙ ap (λ (w : Way). Some (Entered t call regs w)) (goes st is)
+  pub entered_entry_is : entry_of m.input st (choice.Thread t) ≡ Some (Entered t new.call new.regs way)
+  entered_entry_is = next st is ∙ ap (λ (w : Way). Some (Entered t new.call new.regs w)) (goes st is)
 
-  entered_law : IsEntered m.input st t call regs way
-  entered_law = lawful_entry m.input st (reached_of m.input st is.reached) (choice.Thread t) (Entered t call regs way) entered_entry_is
+  entered_law : IsEntered m.input st t new.call new.regs way
+  entered_law = lawful_entry m.input st (reached_of m.input st is.reached) (choice.Thread t) (Entered t new.call new.regs way) entered_entry_is
 
-  others : (number : ℕ → ℕ) → ((u : ℕ) → u ≢ t → (thread_after st (Entered t call regs way) u).number ≡ (st.threads u).number) → (u : ℕ) → u ≢ t → HasComeAsFar (st.threads u) (thread_after st (Entered t call regs way) u)
+  others : (number : ℕ → ℕ) → ((u : ℕ) → u ≢ t → (thread_after st (Entered t new.call new.regs way) u).number ≡ (st.threads u).number) → (u : ℕ) → u ≢ t → HasComeAsFar (st.threads u) (thread_after st (Entered t new.call new.regs way) u)
   others number same u ne =
       let apart : (t == u) ≡ false = ne_eqb t u (λ e. ne (sym e)) in
       record {
         left = ap (λ (b : Bool). cond b (drop 1 (st.threads u).left) (st.threads u).left) apart;
-        pending = ap (λ (b : Bool). cond b (Some (record { call = call; regs = regs; way = way; child = child_of_next (st.threads u).left })) (st.threads u).pending) apart;
+        pending = ap (λ (b : Bool). cond b (Some (record { call = new.call; regs = new.regs; way = way; child = child_of_next (st.threads u).left })) (st.threads u).pending) apart;
         number = same u ne;
         dying = refl;
         ended = refl;
       }
 
-  own : (row : ThreadRow) → IsRow row (st.threads t) → ((q : ℕ) → number_held (row_entered row call regs way) ≡ Some q → (thread_after st (Entered t call regs way) t).number ≡ q) → IsRow (row_entered row call regs way) (thread_after st (Entered t call regs way) t)
+  own : (row : ThreadRow) → IsRow row (st.threads t) → ((q : ℕ) → number_held (row_entered row new.call new.regs way) ≡ Some q → (thread_after st (Entered t new.call new.regs way) t).number ≡ q) → IsRow (row_entered row new.call new.regs way) (thread_after st (Entered t new.call new.regs way) t)
   own row its number =
       let here : (t == t) ≡ true = eq-eqb t t refl in
       record {
         left = ap (λ (b : Bool). cond b (drop 1 (st.threads t).left) (st.threads t).left) here ∙ ap (drop 1) its.left;
-        pending = ap (λ (b : Bool). cond b (Some (record { call = call; regs = regs; way = way; child = child_of_next (st.threads t).left })) (st.threads t).pending) here
-            ∙ ap (λ (left : List Instr). Some (record { call = call; regs = regs; way = way; child = child_of_next left })) its.left;
+        pending = ap (λ (b : Bool). cond b (Some (record { call = new.call; regs = new.regs; way = way; child = child_of_next (st.threads t).left })) (st.threads t).pending) here
+            ∙ ap (λ (left : List Instr). Some (record { call = new.call; regs = new.regs; way = way; child = child_of_next left })) its.left;
         number = number;
         dying = its.dying;
         ended = its.ended;
       }
 
-  rows : (row : ThreadRow) → item_at_number m.threads t ≡ Some row → ((u : ℕ) → u ≢ t → (thread_after st (Entered t call regs way) u).number ≡ (st.threads u).number) → ((q : ℕ) → number_held (row_entered row call regs way) ≡ Some q → (thread_after st (Entered t call regs way) t).number ≡ q)
-      → AreRows (set m.threads (t - 1) (row_entered row call regs way)) (thread_after st (Entered t call regs way))
+  rows : (row : ThreadRow) → item_at_number m.threads t ≡ Some row → ((u : ℕ) → u ≢ t → (thread_after st (Entered t new.call new.regs way) u).number ≡ (st.threads u).number) → ((q : ℕ) → number_held (row_entered row new.call new.regs way) ≡ Some q → (thread_after st (Entered t new.call new.regs way) t).number ≡ q)
+      → AreRows (set m.threads (t - 1) (row_entered row new.call new.regs way)) (thread_after st (Entered t new.call new.regs way))
   rows row row_is same number =
-      rows_changed m.threads st.threads (thread_after st (Entered t call regs way)) t row (row_entered row call regs way) row_is (others (λ u. u) same) (own row (row_of m st is t row row_is) number) is.threads
+      rows_changed m.threads st.threads (thread_after st (Entered t new.call new.regs way)) t row (row_entered row new.call new.regs way) row_is (others (λ u. u) same) (own row (row_of m st is t row row_is) number) is.threads
 
 -- a call that isn't held
-module _ (m : Running) (t : ℕ) (call : SysCall) (regs : List ℕ) (next : IsNextStep m t (steps.Enter call regs)) (row : ThreadRow) (row_is : item_at_number m.threads t ≡ Some row) where
-  pub unheld_step : (way : Way) → IsWayOf m t call regs way → IsUnposted way → IsStep m (choice.Thread t) (Some (Entered t call regs way)) (with_parts m m.system m.workers (set m.threads (t - 1) (row_entered row call regs way)))
+module _ (m : Running) (t : ℕ) (new : NewCall) (next : IsNextStep m t (steps.Enter new)) (row : ThreadRow) (row_is : item_at_number m.threads t ≡ Some row) where
+  pub unheld_step : (way : Way) → IsWayOf m t new way → IsUnposted way → IsStep m (choice.Thread t) (Some (Entered t new.call new.regs way)) (with_parts m m.system m.workers (set m.threads (t - 1) (row_entered row new.call new.regs way)))
   unheld_step Fast goes unposted st is =
-      let e = Entered t call regs Fast in
-      let entry = entered_entry_is m t call regs next Fast goes st is in (
+      let e = Entered t new.call new.regs Fast in
+      let entry = entered_entry_is m t new next Fast goes st is in (
         entry,
-        following m st is (choice.Thread t) e entry refl refl m.system m.workers (set m.threads (t - 1) (row_entered row call regs Fast))
+        following m st is (choice.Thread t) e entry refl refl m.system m.workers (set m.threads (t - 1) (row_entered row new.call new.regs Fast))
             (same_system m.input st (state_after m.input st e) m.system refl refl refl refl refl refl (λ u. refl) (λ u. refl) is.system) is.workers
-            (rows m t call regs next Fast goes st is row row_is (λ u ne. refl) (λ q e. absurd (none-some q (sym (either_none row.dying) ∙ e)))) (length-set m.threads (t - 1) _),
+            (rows m t new next Fast goes st is row row_is (λ u ne. refl) (λ q e. absurd (none-some q (sym (either_none row.dying) ∙ e)))) (length-set m.threads (t - 1) _),
       )
   unheld_step (Barred n) goes unposted st is =
-      let e = Entered t call regs (Barred n) in
-      let entry = entered_entry_is m t call regs next (Barred n) goes st is in (
+      let e = Entered t new.call new.regs (Barred n) in
+      let entry = entered_entry_is m t new next (Barred n) goes st is in (
         entry,
-        following m st is (choice.Thread t) e entry refl refl m.system m.workers (set m.threads (t - 1) (row_entered row call regs (Barred n)))
+        following m st is (choice.Thread t) e entry refl refl m.system m.workers (set m.threads (t - 1) (row_entered row new.call new.regs (Barred n)))
             (same_system m.input st (state_after m.input st e) m.system refl refl refl refl refl refl (λ u. refl) (λ u. refl) is.system) is.workers
-            (rows m t call regs next (Barred n) goes st is row row_is (λ u ne. refl) (λ q e. absurd (none-some q (sym (either_none row.dying) ∙ e)))) (length-set m.threads (t - 1) _),
+            (rows m t new next (Barred n) goes st is row row_is (λ u ne. refl) (λ q e. absurd (none-some q (sym (either_none row.dying) ∙ e)))) (length-set m.threads (t - 1) _),
       )
   unheld_step Untraced goes unposted st is =
-      let e = Entered t call regs Untraced in
-      let entry = entered_entry_is m t call regs next Untraced goes st is in (
+      let e = Entered t new.call new.regs Untraced in
+      let entry = entered_entry_is m t new next Untraced goes st is in (
         entry,
-        following m st is (choice.Thread t) e entry refl refl m.system m.workers (set m.threads (t - 1) (row_entered row call regs Untraced))
+        following m st is (choice.Thread t) e entry refl refl m.system m.workers (set m.threads (t - 1) (row_entered row new.call new.regs Untraced))
             (same_system m.input st (state_after m.input st e) m.system refl refl refl refl refl refl (λ u. refl) (λ u. refl) is.system) is.workers
-            (rows m t call regs next Untraced goes st is row row_is (λ u ne. refl) (λ q e. absurd (none-some q (sym (either_none row.dying) ∙ e)))) (length-set m.threads (t - 1) _),
+            (rows m t new next Untraced goes st is row row_is (λ u ne. refl) (λ q e. absurd (none-some q (sym (either_none row.dying) ∙ e)))) (length-set m.threads (t - 1) _),
       )
   unheld_step (Held q) goes unposted st is = absurd unposted
 
   -- no live number is of a thread that enters a call
-  pub no_number : (way : Way) → IsWayOf m t call regs way → (st : State) → Refines m st → HasNoNumber m.workers.calls t
+  pub no_number : (way : Way) → IsWayOf m t new way → (st : State) → Refines m st → HasNoNumber m.workers.calls t
   no_number way goes st is =
-      let law = entered_law m t call regs next way goes st is in
+      let law = entered_law m t new next way goes st is in
       let owned = (reached_of m.input st is.reached).owned in
       others_have_no_number m.input st.messages st.turns (is_live st) st.posted m.workers t is.workers (λ q head alive posted same. true≢false (sym alive ∙ none_pending st owned t law.idle q head posted same))
 
   -- a call that is held under the next number
-  pub held_step : (q : ℕ) → IsWayOf m t call regs (Held q) → (workers : UnderWay) (head : kept.Head) → ((st : State) → Refines m st → head_of t head ≡ new_head m.input t (st.threads t).owner (st.processes (st.threads t).owner) call regs)
+  pub held_step : (q : ℕ) → IsWayOf m t new (Held q) → (workers : UnderWay) (head : kept.Head) → ((st : State) → Refines m st → head_of t head ≡ new_head m.input t (st.threads t).owner (st.processes (st.threads t).owner) new.call new.regs)
       → ((i : Input) (st : State) (alive later : ℕ → Bool) (ready : SysCall) (registers : List ℕ) → RepresentsMessages i st alive m.workers → head_of t head ≡ new_head i t (st.threads t).owner (st.processes (st.threads t).owner) ready registers
       → ChangesLife alive (suc st.posted) true later → RepresentsMessagesAfter i st (Entered t ready registers (Held (suc st.posted))) later workers)
-      → IsStep m (choice.Thread t) (Some (Entered t call regs (Held q))) (with_parts m m.system workers (set m.threads (t - 1) (row_entered row call regs (Held q))))
+      → IsStep m (choice.Thread t) (Some (Entered t new.call new.regs (Held q))) (with_parts m m.system workers (set m.threads (t - 1) (row_entered row new.call new.regs (Held q))))
   held_step q goes workers head is_head posts st is =
-      let e = Entered t call regs (Held q) in
-      let entry = entered_entry_is m t call regs next (Held q) goes st is in
-      let law = entered_law m t call regs next (Held q) goes st is in
+      let e = Entered t new.call new.regs (Held q) in
+      let entry = entered_entry_is m t new next (Held q) goes st is in
+      let law = entered_law m t new next (Held q) goes st is in
       let drawn : q ≡ suc st.posted = law.way_is.1 in
       let later = is_live (state_after m.input st e) in
-      let life : ChangesLife (is_live st) (suc st.posted) true later = subst (λ (n : ℕ). ChangesLife (is_live st) n true later) drawn (λ other. held_life m.input st (reached_of m.input st is.reached) t q call regs law other) in
-      let after = posts m.input st (is_live st) later call regs is.workers (is_head st is) life in (
+      let life : ChangesLife (is_live st) (suc st.posted) true later = subst (λ (n : ℕ). ChangesLife (is_live st) n true later) drawn (λ other. held_life m.input st (reached_of m.input st is.reached) t q new.call new.regs law other) in
+      let after = posts m.input st (is_live st) later new.call new.regs is.workers (is_head st is) life in (
         entry,
-        following m st is (choice.Thread t) e entry refl refl m.system workers (set m.threads (t - 1) (row_entered row call regs (Held q)))
+        following m st is (choice.Thread t) e entry refl refl m.system workers (set m.threads (t - 1) (row_entered row new.call new.regs (Held q)))
             (same_system m.input st (state_after m.input st e) m.system refl refl refl refl refl refl (λ u. refl) (λ u. refl) is.system)
-            (subst (λ (n : ℕ). RepresentsMessagesAfter m.input st (Entered t call regs (Held n)) later workers) (sym drawn) after)
-            (rows m t call regs next (Held q) goes st is row row_is (λ u ne. ap (λ (b : Bool). cond b q (st.threads u).number) (ne_eqb t u (λ e. ne (sym e)))) (λ p e. ap (λ (b : Bool). cond b q (st.threads t).number) (eq-eqb t t refl) ∙ (holds (row_entered row call regs (Held q)) p e).number)) (length-set m.threads (t - 1) _),
+            (subst (λ (n : ℕ). RepresentsMessagesAfter m.input st (Entered t new.call new.regs (Held n)) later workers) (sym drawn) after)
+            (rows m t new next (Held q) goes st is row row_is (λ u ne. ap (λ (b : Bool). cond b q (st.threads u).number) (ne_eqb t u (λ e. ne (sym e)))) (λ p e. ap (λ (b : Bool). cond b q (st.threads t).number) (eq-eqb t t refl) ∙ (holds (row_entered row new.call new.regs (Held q)) p e).number)) (length-set m.threads (t - 1) _),
       )
 
 -- the number that a call is held under is the next one
-pub next_number : (m : Running) (t : ℕ) (call : SysCall) (regs : List ℕ) → IsNextStep m t (steps.Enter call regs) → (q : ℕ) → IsWayOf m t call regs (Held q) → (st : State) → Refines m st → q ≡ m.workers.calls.next
-next_number m t call regs next q goes st is = (entered_law m t call regs next (Held q) goes st is).way_is.1 ∙ sym is.workers.agrees.next
+pub next_number : (m : Running) (t : ℕ) (new : NewCall) → IsNextStep m t (steps.Enter new) → (q : ℕ) → IsWayOf m t new (Held q) → (st : State) → Refines m st → q ≡ m.workers.calls.next
+next_number m t new next q goes st is = (entered_law m t new next (Held q) goes st is).way_is.1 ∙ sym is.workers.agrees.next

@@ -9,4 +9,6 @@ mod MadeSteps
 mod Moving
 mod RenewedSteps
 mod Room
+mod Running
 mod Served
+mod SettingIds

@@ -1,5 +1,5 @@
 -- The step that makes a call that sets no ids.
-use Rattle.std.proofs.Common.{◌≡◌, ◌≢◌, ◌-◌, ◌∙◌, ℕ, arith, ◌||◌, ◌==◌, Bool, true, false, cond, set, List, [], ◌∷◌, ◌++◌, Option, Some, None, inl, inr, refl, ap, sym, subst, true≢false}
+use Rattle.std.proofs.Common.{◌≡◌, ◌≢◌, ◌-◌, ◌∙◌, ℕ, arith, ◌||◌, ◌==◌, Bool, true, false, cond, set, List, [], ◌∷◌, ◌++◌, Option, Some, None, inl, inr, refl, ap, sym, subst}
 use Rattle.std.proofs.lemmas.Bool.{cases_eq, eq-eqb, ne_eqb}
 use Rattle.std.proofs.lemmas.List.{length-set}
 use Rattle.std.proofs.lemmas.Option.{none-some, same_Some}
@@ -25,7 +25,7 @@ use Rattle.st_law.proofs.QuietChanges.{AreMute, mute_of, head_mute, posted_mute,
 use Rattle.st_law.proofs.Shapes.{Each, Shape, quiet, forked, execed, renewed}
 use Rattle.st_law.proofs.UsedShapes.{used_shape}
 use Rattle.st_messages.specs.Messages as calls
-use Rattle.st_model.specs.Processes.{pid_of, owner_of}
+use Rattle.st_model.specs.Processes.{owner_of}
 use Rattle.st_model.specs.Tree.{is_number}
 use Rattle.st_reached.specs.Reached.{life_after_changes}
 use Rattle.st_reached.proofs.LifeByEntry.{life_is}
@@ -46,8 +46,9 @@ use Rattle.st_workers.proofs.Closing.{closing_is_not_kept}
 use Rattle.st_workers.proofs.Ended.{lives_as}
 use Rattle.st_workers.proofs.Turns.{item_put, number_within}
 use Rattle.st_threads.specs.Ending.{AreLiveNumbersHeld, EndsCall, HasNumber, HaveCalls, HaveEnded, is_ended_by, is_head_among, life_but, life_without_number, row_dying_if}
-use Rattle.st_decide.specs.Machine.{Refines, IsNextStep, IsStep, Running}
+use Rattle.st_decide.specs.Machine.{Refines, IsStep, Running}
 use Rattle.st_decide.specs.Making.{child_of_row, request_with}
+use Rattle.st_decide.specs.NextSteps.{CanStep}
 use Rattle.st_threads.specs.Thread.{ThreadRow, IsRow, IsRowOf, number_by_way, number_held, number_pending}
 use Rattle.st_decide.specs.declared.step.Step.TheVariants as steps
 use Rattle.st_decide.specs.declared.step.ReadyCall.{ReadyCall}
@@ -56,6 +57,8 @@ use Rattle.st_threads.proofs.HeldEnds.{closed_held, not_dead}
 use Rattle.st_decide.proofs.HeldCalls.{are_held}
 use Rattle.st_machine.proofs.Made.{IsCalm, calm_when_execed, calm_when_quiet, dying_when_calm, life_when_calm, mute_when_calm, owner_by, owner_when_calm}
 use Rattle.st_decide.proofs.NextSteps.{owner_is, row_of}
+use Rattle.st_machine.specs.Making.{RenewsNone}
+use Rattle.st_machine.proofs.SettingIds.{changes_none, none_before}
 use Rattle.st_decide.proofs.Reached.{reached_of}
 use Rattle.st_threads.proofs.Rows.{held_number, none_closed, none_dying}
 
@@ -71,7 +74,7 @@ child_by i _ request x = tt
 
 -- ---- the call that is made
 
-module _ (m : Running) (st : State) (is : Refines m st) (t pid : ℕ) (ready : ReadyCall) (process : pid_of m.system.processes t ≡ Some pid) (row : ThreadRow) (row_is : item_at_number m.threads t ≡ Some row) where
+module _ (m : Running) (st : State) (is : Refines m st) (t : ℕ) (ready : ReadyCall) (can : CanStep m t (steps.Make ready)) (row : ThreadRow) (row_is : item_at_number m.threads t ≡ Some row) where
   abbrev i : Input
   i = m.input
 
@@ -85,14 +88,14 @@ module _ (m : Running) (st : State) (is : Refines m st) (t pid : ℕ) (ready : R
   child_is = ap child_of_row row_is ∙ ap child_of_pending (sym its.pending)
 
   -- the request is that of the law's machine
-  pub request_is : request_with m t pid ready ≡ request_of i st t ready.regs ready.args ready.ids
-  request_is = λ k. record { tid = t; pid = sym (owner_is m st is t pid process) k; ids = ready.ids; regs = ready.regs; args = ready.args; child = child_is k; inherit = i.options.inherit }
+  pub request_is : request_with m t ready ≡ request_of i st t ready.regs ready.args ready.ids
+  request_is = λ k. record { tid = t; pid = sym (owner_is m st is t ready.pid can.can.caller.process) k; ids = ready.ids; regs = ready.regs; args = ready.args; child = child_is k; inherit = i.options.inherit }
 
   -- the number that the call is made under is that of its thread's held call
-  pub seq_of : (seq : Option ℕ) (call : SysCall) (regs : List ℕ) (outcome : effects.Outcome) → IsUsed i st t seq call regs ready.args ready.ids outcome.result outcome.changes → seq ≡ number_held row
-  seq_of None call regs outcome x = none_unheld row.number x.way x.unheld
+  pub drawing_of : (drawing : Option ℕ) (call : SysCall) (regs : List ℕ) (outcome : effects.Outcome) → IsUsed i st t drawing call regs ready.args ready.ids outcome.result outcome.changes → drawing ≡ number_held row
+  drawing_of None call regs outcome x = none_unheld row.number x.way x.unheld
       ∙ sym (λ k. cond ((sym its.dying ∙ x.running.undying) k) None (number_pending row.number ((sym its.pending ∙ x.entered.1) k)))
-  seq_of (Some q) call regs outcome x =
+  drawing_of (Some q) call regs outcome x =
       let mine : number_held row ≡ Some row.number = held_number row (sym its.dying ∙ x.running.undying) (record { call = call; regs = regs; way = Held x.held.first; child = x.held.entered.0 }) (sym its.pending ∙ x.held.entered.1) x.held.first refl in
       ap Some (sym x.held.number ∙ its.number row.number mine) ∙ sym mine
 
@@ -103,44 +106,44 @@ module _ (m : Running) (st : State) (is : Refines m st) (t pid : ℕ) (ready : R
       let has : invariant.HasChild i entered = subst (IfPending (invariant.HasChild i)) x.1 (reached.whole.calls.children t) in
       subst (inputs.IsThread i) (sym (child_is ∙ ap child_of_pending x.1)) (has.child forks)
 
-  pub has_child : (seq : Option ℕ) (call : SysCall) (regs : List ℕ) (outcome : effects.Outcome) → IsUsed i st t seq call regs ready.args ready.ids outcome.result outcome.changes → HasChild i call (request_with m t pid ready)
-  has_child None call regs outcome x = child_by i call (request_with m t pid ready) (child_there call regs x.way x.entered)
-  has_child (Some q) call regs outcome x = child_by i call (request_with m t pid ready) (child_there call regs (Held x.held.first) x.held.entered)
+  pub has_child : (drawing : Option ℕ) (call : SysCall) (regs : List ℕ) (outcome : effects.Outcome) → IsUsed i st t drawing call regs ready.args ready.ids outcome.result outcome.changes → HasChild i call (request_with m t ready)
+  has_child None call regs outcome x = child_by i call (request_with m t ready) (child_there call regs x.way x.entered)
+  has_child (Some q) call regs outcome x = child_by i call (request_with m t ready) (child_there call regs (Held x.held.first) x.held.entered)
 
-module _ (m : Running) (st : State) (is : Refines m st) (t pid : ℕ) (ready : ReadyCall) (next : IsNextStep m t (steps.Make ready)) (process : pid_of m.system.processes t ≡ Some pid) (row : ThreadRow) (row_is : item_at_number m.threads t ≡ Some row) where
+module _ (m : Running) (st : State) (is : Refines m st) (t : ℕ) (ready : ReadyCall) (can : CanStep m t (steps.Make ready)) (row : ThreadRow) (row_is : item_at_number m.threads t ≡ Some row) where
   abbrev pub now : effects.Outcome
   now = effect (system_of m.input st) ready.call (request_of m.input st t ready.regs ready.args ready.ids)
 
-  pub used : IsUsed m.input st t ready.seq ready.call ready.regs ready.args ready.ids now.result now.changes
-  used = lawful_entry m.input st (reached_of m.input st is.reached) (choice.Thread t) (Used t ready.seq ready.call ready.regs ready.args ready.ids now.result now.changes) (next st is)
+  pub used : IsUsed m.input st t ready.drawing ready.call ready.regs ready.args ready.ids now.result now.changes
+  used = lawful_entry m.input st (reached_of m.input st is.reached) (choice.Thread t) (Used t ready.drawing ready.call ready.regs ready.args ready.ids now.result now.changes) (can.next st is)
 
-  pub seq_is : ready.seq ≡ number_held row
-  seq_is = seq_of m st is t pid ready process row row_is ready.seq ready.call ready.regs now used
+  pub drawing_is : ready.drawing ≡ number_held row
+  drawing_is = drawing_of m st is t ready can row row_is ready.drawing ready.call ready.regs now used
 
   -- the rows after the thread's own call has ended
   abbrev closed : List ThreadRow
   closed = set m.threads (t - 1) (record row { pending = None })
 
-  pub are_closed : AreLiveNumbersHeld st (life_without_number (is_live st) ready.seq) closed
-  are_closed = subst (λ (seq : Option ℕ). AreLiveNumbersHeld st (life_without_number (is_live st) seq) closed) (sym seq_is) (closed_held st (is_live st) m.threads (are_held m st is) t row row_is)
+  pub are_closed : AreLiveNumbersHeld st (life_without_number (is_live st) ready.drawing) closed
+  are_closed = subst (λ (drawing : Option ℕ). AreLiveNumbersHeld st (life_without_number (is_live st) drawing) closed) (sym drawing_is) (closed_held st (is_live st) m.threads (are_held m st is) t row row_is)
 
-  pub seq_lives : IfSome ready.seq (λ q. is_live st q ≡ true)
-  seq_lives = by ready.seq seq_is where
-    by : (seq : Option ℕ) → seq ≡ number_held row → IfSome seq (λ q. is_live st q ≡ true)
+  pub drawing_lives : IfSome ready.drawing (λ q. is_live st q ≡ true)
+  drawing_lives = by ready.drawing drawing_is where
+    by : (drawing : Option ℕ) → drawing ≡ number_held row → IfSome drawing (λ q. is_live st q ≡ true)
     by None e = tt
     by (Some q) e = ((are_held m st is).lives t row q row_is (sym e)).lives
 
   -- the number of the call is live among the messages, too
-  pub seq_there : IfSome ready.seq (λ q. calls.is_live_number m.workers.calls q ≡ true)
-  seq_there = by ready.seq seq_lives where
-    by : (seq : Option ℕ) → IfSome seq (λ q. is_live st q ≡ true) → IfSome seq (λ q. calls.is_live_number m.workers.calls q ≡ true)
+  pub drawing_there : IfSome ready.drawing (λ q. calls.is_live_number m.workers.calls q ≡ true)
+  drawing_there = by ready.drawing drawing_lives where
+    by : (drawing : Option ℕ) → IfSome drawing (λ q. is_live st q ≡ true) → IfSome drawing (λ q. calls.is_live_number m.workers.calls q ≡ true)
     by None x = tt
     by (Some q) x = lives_as m.input st (is_live st) m.workers q is.workers ∙ x
 
-  pub calls_closed : (between : UnderWay) → EndsCall ready.seq m.workers between → HaveCalls closed between
-  calls_closed between ends = record { input = m.input; state = st; alive = life_without_number (is_live st) ready.seq; kept = ends m.input st (is_live st) is.workers; held = are_closed }
+  pub calls_closed : (between : UnderWay) → EndsCall ready.drawing m.workers between → HaveCalls closed between
+  calls_closed between ends = record { input = m.input; state = st; alive = life_without_number (is_live st) ready.drawing; kept = ends m.input st (is_live st) is.workers; held = are_closed }
 
-  module _ (sets_none : sets_ids ready.call ≡ false) (outcome : Outcome) (parts : Parts) (done : IsCallMade ready.call (request_with m t pid ready) outcome m.system parts) where
+  module _ (renews_none : RenewsNone ready) (outcome : Outcome) (parts : Parts) (done : IsCallMade ready.call (request_with m t ready) outcome m.system parts) where
     abbrev input : Input
     input = m.input
 
@@ -148,34 +151,47 @@ module _ (m : Running) (st : State) (is : Refines m st) (t pid : ℕ) (ready : R
     changes = outcome.changes
 
     abbrev entry : Entry
-    entry = Used t ready.seq ready.call ready.regs ready.args ready.ids outcome.result outcome.changes
+    entry = Used t ready.drawing ready.call ready.regs ready.args ready.ids outcome.result outcome.changes
 
-    is_made : IsMade input st ready.seq ready.call (request_with m t pid ready) outcome parts
-    is_made = done input st is.system (request_is m st is t pid ready process row row_is) (has_child m st is t pid ready process row row_is ready.seq ready.call ready.regs now used) ready.seq
+    is_made : IsMade input st ready.drawing ready.call (request_with m t ready) outcome parts
+    is_made = done input st is.system (request_is m st is t ready can row row_is) (has_child m st is t ready can row row_is ready.drawing ready.call ready.regs now used) ready.drawing
 
-    unrenewed : with_renewals input st ready.call (request_with m t pid ready) outcome.result outcome.changes ≡ outcome.changes
-    unrenewed = ap (λ (b : Bool). cond b (outcome.changes ++ renewals_of input st (request_with m t pid ready) outcome.result) outcome.changes) sets_none
+    abbrev all : List Change
+    all = with_renewals input st ready.call (request_with m t ready) outcome.result outcome.changes
+
+    -- a call that is to set ids changes nothing, since it is refused
+    all_none : sets_ids ready.call ≡ true → all ≡ []
+    all_none sets = is_made.changes ∙ changes_none ready.call sets (system_of input st) (request_with m t ready) (renews_none sets)
+
+    none_changed : sets_ids ready.call ≡ true → outcome.changes ≡ []
+    none_changed sets = none_before (sets_ids ready.call) outcome.changes (renewals_of input st (request_with m t ready) outcome.result) (all_none sets)
+
+    unrenewed : all ≡ outcome.changes
+    unrenewed = by (sets_ids ready.call) refl where
+      by : (b : Bool) → sets_ids ready.call ≡ b → all ≡ outcome.changes
+      by true sets = all_none sets ∙ sym (none_changed sets)
+      by false none = ap (λ (b : Bool). cond b (outcome.changes ++ renewals_of input st (request_with m t ready) outcome.result) outcome.changes) none
 
     entry_is : entry_of input st (choice.Thread t) ≡ Some entry
     entry_is =
-        let request = request_is m st is t pid ready process row row_is in
+        let request = request_is m st is t ready can row row_is in
         let result = ap (λ (r : effects.Request). (effect (system_of input st) ready.call r).result) (sym request) ∙ sym is_made.result in
         let changed = ap (λ (r : effects.Request). (effect (system_of input st) ready.call r).changes) (sym request) ∙ sym is_made.changes ∙ unrenewed in
-        next st is ∙ (λ k. Some (Used t ready.seq ready.call ready.regs ready.args ready.ids (result k) (changed k)))
+        can.next st is ∙ (λ k. Some (Used t ready.drawing ready.call ready.regs ready.args ready.ids (result k) (changed k)))
 
-    law : IsUsed input st t ready.seq ready.call ready.regs ready.args ready.ids outcome.result changes
+    law : IsUsed input st t ready.drawing ready.call ready.regs ready.args ready.ids outcome.result changes
     law = lawful_entry input st (reached_of input st is.reached) (choice.Thread t) entry entry_is
 
     is_system : IsSystem input (state_after input st entry) parts
-    is_system = subst (λ (cs : List Change). IsSystem input (state_after input st (Used t ready.seq ready.call ready.regs ready.args ready.ids outcome.result cs)) parts) unrenewed is_made.system
+    is_system = subst (λ (cs : List Change). IsSystem input (state_after input st (Used t ready.drawing ready.call ready.regs ready.args ready.ids outcome.result cs)) parts) unrenewed is_made.system
 
     -- ---- what the changes end
 
     abbrev ended : ℕ → Bool
-    ended = is_ended_by parts.processes t pid changes
+    ended = is_ended_by parts.processes t ready.pid changes
 
     abbrev alive : ℕ → Bool
-    alive = life_without_number (is_live st) ready.seq
+    alive = life_without_number (is_live st) ready.drawing
 
     record Ends : Type 0 where
       pub mute : AreMute changes
@@ -197,20 +213,20 @@ module _ (m : Running) (st : State) (is : Refines m st) (t pid : ℕ) (ready : R
     -- a number that is still live is another thread's
     mine : (other : ℕ) → alive other ≡ true → (head : Head) × ((st.messages other).head ≡ Some head) × (head.tid ≢ 0) × (head.tid ≢ t)
     mine other e =
-        let found = headless other (st.messages other).head refl (not_dead (is_number other ready.seq) (is_live st other) e).1 in
+        let found = headless other (st.messages other).head refl (not_dead (is_number other ready.drawing) (is_live st other) e).1 in
         let has : HasNumber (item_at_number closed found.0.tid) other = are_closed.own other found.0 e found.1 in
         (found.0, found.1, (λ none. subst (λ (n : ℕ). HasNumber (item_at_number closed n) other) none has), not_mine other found.0 has)
 
-    own_pid : pid ≡ (st.threads t).owner
-    own_pid = sym (owner_is m st is t pid process)
+    own_pid : ready.pid ≡ (st.threads t).owner
+    own_pid = sym (owner_is m st is t ready.pid can.can.caller.process)
 
     when_calm : Each IsCalm changes → Ends
     when_calm calm =
         let owners : (u : ℕ) → owner_of parts.processes u ≡ (st.threads u).owner = λ u. owner_by parts.processes u ((state_after input st entry).threads u) (is_system.threads u) ∙ owner_when_calm u (st.threads u).owner changes calm in
         record {
           mute = mute_when_calm changes calm;
-          dying = λ u there before. ap (λ (p : ℕ). dying_after u (st.threads u).owner t p before changes) (sym own_pid) ∙ dying_when_calm parts.processes t pid u (st.threads u).owner (owners u) there changes calm before;
-          life = λ other. ap (λ (p : ℕ). life_after_changes st p alive changes other) (sym own_pid) ∙ life_when_calm parts.processes t pid st changes calm alive other (mine other) (λ head posted. owners head.tid);
+          dying = λ u there before. ap (λ (p : ℕ). dying_after u (st.threads u).owner t p before changes) (sym own_pid) ∙ dying_when_calm parts.processes t ready.pid u (st.threads u).owner (owners u) there changes calm before;
+          life = λ other. ap (λ (p : ℕ). life_after_changes st p alive changes other) (sym own_pid) ∙ life_when_calm parts.processes t ready.pid st changes calm alive other (mine other) (λ head posted. owners head.tid);
         }
 
     none_forked : (o : Option Head) (b : Bool) → b ≡ cond (is_head_among (λ u. false || false) o) false b
@@ -224,18 +240,21 @@ module _ (m : Running) (st : State) (is : Refines m st) (t pid : ℕ) (ready : R
     when_forked : (new space child : ℕ) → changes ≡ Forked new space child ∷ [] → Ends
     when_forked new space child e = record {
       mute = subst AreMute (sym e) (mute_of (Forked new space child) tt, tt);
-      dying = λ u there before. ap (λ (cs : List Change). dying_after u (st.threads u).owner t (st.threads t).owner before cs) e ∙ same_or before ∙ ap (λ (cs : List Change). before || is_ended_by parts.processes t pid cs u) (sym e);
-      life = λ other. ap (λ (cs : List Change). life_after_changes st (st.threads t).owner alive cs other) e ∙ none_forked (st.messages other).head (alive other) ∙ ap (λ (cs : List Change). life_but (is_ended_by parts.processes t pid cs) st alive other) (sym e);
+      dying = λ u there before. ap (λ (cs : List Change). dying_after u (st.threads u).owner t (st.threads t).owner before cs) e ∙ same_or before ∙ ap (λ (cs : List Change). before || is_ended_by parts.processes t ready.pid cs u) (sym e);
+      life = λ other. ap (λ (cs : List Change). life_after_changes st (st.threads t).owner alive cs other) e ∙ none_forked (st.messages other).head (alive other) ∙ ap (λ (cs : List Change). life_but (is_ended_by parts.processes t ready.pid cs) st alive other) (sym e);
     }
+
+    no_changes : (change : Change) (more : List Change) → [] ≡ change ∷ more → ⊥
+    no_changes change more e = cc
 
     by_shape : Shape (system_of input st) (request_of input st t ready.regs ready.args ready.ids) ready.call changes → Ends
     by_shape (quiet x) = when_calm (calm_when_quiet changes x)
     by_shape (forked call e) = when_forked _ _ _ e
     by_shape (execed binary e) = when_calm (subst (Each IsCalm) (sym e) (calm_when_execed binary (system_of input st).next_space (request_of input st t ready.regs ready.args ready.ids).inherit))
-    by_shape (renewed ids sets e) = absurd (true≢false (sym sets ∙ sets_none))
+    by_shape (renewed ids sets e) = absurd (no_changes _ _ (sym (none_changed sets) ∙ e))
 
     ends : Ends
-    ends = by_shape (used_shape input st t ready.call ready.regs ready.args ready.ids outcome.result changes ready.seq law)
+    ends = by_shape (used_shape input st t ready.call ready.regs ready.args ready.ids outcome.result changes ready.drawing law)
 
     -- ---- the rows
 
@@ -288,10 +307,10 @@ module _ (m : Running) (st : State) (is : Refines m st) (t pid : ℕ) (ready : R
 
     -- ---- the machine that runs
 
-    pub made_step : (between left : UnderWay) (new : List ThreadRow) → EndsCall ready.seq m.workers between → HaveEnded ended closed between new left → Refines (with_parts m parts left new) (state_after input st entry)
+    pub made_step : (between left : UnderWay) (new : List ThreadRow) → EndsCall ready.drawing m.workers between → HaveEnded ended closed between new left → Refines (with_parts m parts left new) (state_after input st entry)
     made_step between left new closes over =
         let later : ℕ → Bool = is_live (state_after input st entry) in
-        let lives : later ≡ life_but ended st alive = λ k other. (life_is input st (reached_of input st is.reached) t ready.seq ready.call ready.regs ready.args ready.ids outcome.result changes law other ∙ ends.life other) k in
+        let lives : later ≡ life_but ended st alive = λ k other. (life_is input st (reached_of input st is.reached) t ready.drawing ready.call ready.regs ready.args ready.ids outcome.result changes law other ∙ ends.life other) k in
         let kept : RepresentsMessages input st later left = subst (λ (life : ℕ → Bool). RepresentsMessages input st life left) (sym lives) (over.kept input st alive (closes input st (is_live st) is.workers) are_closed) in
         let messages : (q : ℕ) → (state_after input st entry).messages q ≡ record (st.messages q) { closed = ((state_after input st entry).messages q).closed } =
         λ q k. record ((state_after input st entry).messages q) { head = head_mute (λ p. (st.messages p).head) (process_after st.processes (st.threads t).owner (st.threads t).owner changes) q changes ends.mute k } in
@@ -304,10 +323,10 @@ module _ (m : Running) (st : State) (is : Refines m st) (t pid : ℕ) (ready : R
     pub made_entry : entry_of input st (choice.Thread t) ≡ Some entry
     made_entry = entry_is
 
--- a call is made, in each state that the machine represents
-pub making : (m : Running) (t pid : ℕ) (ready : ReadyCall) → IsNextStep m t (steps.Make ready) → pid_of m.system.processes t ≡ Some pid → (row : ThreadRow) → item_at_number m.threads t ≡ Some row → sets_ids ready.call ≡ false
-    → (outcome : Outcome) (parts : Parts) → IsCallMade ready.call (request_with m t pid ready) outcome m.system parts → (between left : UnderWay) (new : List ThreadRow) → EndsCall ready.seq m.workers between
-    → HaveEnded (is_ended_by parts.processes t pid outcome.changes) (set m.threads (t - 1) (record row { pending = None })) between new left
-    → IsStep m (choice.Thread t) (Some (Used t ready.seq ready.call ready.regs ready.args ready.ids outcome.result outcome.changes)) (with_parts m parts left new)
-making m t pid ready next process row row_is sets_none outcome parts done between left new closes over = λ st is.
-    (made_entry m st is t pid ready next process row row_is sets_none outcome parts done, made_step m st is t pid ready next process row row_is sets_none outcome parts done between left new closes over)
+-- a call that renews no held calls is made, in each state that the machine represents
+pub making : (m : Running) (t : ℕ) (ready : ReadyCall) → CanStep m t (steps.Make ready) → (row : ThreadRow) → item_at_number m.threads t ≡ Some row → RenewsNone ready
+    → (outcome : Outcome) (parts : Parts) → IsCallMade ready.call (request_with m t ready) outcome m.system parts → (between left : UnderWay) (new : List ThreadRow) → EndsCall ready.drawing m.workers between
+    → HaveEnded (is_ended_by parts.processes t ready.pid outcome.changes) (set m.threads (t - 1) (record row { pending = None })) between new left
+    → IsStep m (choice.Thread t) (Some (Used t ready.drawing ready.call ready.regs ready.args ready.ids outcome.result outcome.changes)) (with_parts m parts left new)
+making m t ready can row row_is renews_none outcome parts done between left new closes over = λ st is.
+    (made_entry m st is t ready can row row_is renews_none outcome parts done, made_step m st is t ready can row row_is renews_none outcome parts done between left new closes over)

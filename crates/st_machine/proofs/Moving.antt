@@ -1,14 +1,13 @@
 -- The steps of threads, composed of how each part changes by an entry.
-use Rattle.std.proofs.Common.{◌≡◌, ◌≢◌, ◌<◌, ◌-◌, ◌∙◌, ◌++◌, zero, suc, ℕ, arith, reverse, ◌==◌, ◌||◌, Bool, true, false, cond, drop, set, List, [], ◌∷◌, length, Option, Some, None, refl, ap, sym, subst}
+use Rattle.std.proofs.Common.{◌≡◌, ◌≢◌, ◌≤◌, ◌<◌, ◌-◌, ◌∙◌, ◌++◌, zero, suc, ℕ, arith, reverse, ◌==◌, ◌||◌, Bool, true, false, cond, drop, set, List, [], ◌∷◌, length, Option, Some, None, refl, ap, sym, subst}
 use Rattle.std.proofs.lemmas.Bool.{eq-eqb, ne_eqb}
 use Rattle.std.proofs.lemmas.List.{length-set}
 use Rattle.std.proofs.lemmas.Option.{none-some}
 use Rattle.std.specs.List.{All}
-use Rattle.std.specs.Prelude.{IsSome, slice_get}
+use Rattle.std.specs.Prelude.{IfSome, IsSome, slice_get}
 use Rattle.st_base.specs.Numbered.{item_at_number}
 use Rattle.st_base.specs.declared.errno.Errno.{Errno}
-use Rattle.st_base.specs.declared.ids.Ids.{Ids}
-use Rattle.st_calls.specs.declared.call.SysCall.{SysCall}
+use Rattle.st_messages.specs.Messages.{is_live_number}
 use Rattle.st_model.specs.Processes.{pid_of}
 use Rattle.st_trace.specs.declared.entry.CallResult.TheVariants.{Failed}
 use Rattle.st_trace.specs.declared.entry.Cause.{Cause}
@@ -22,24 +21,31 @@ use Rattle.st_trace.specs.declared.start.ThreadRow as start
 use Rattle.st_law.specs.declared.input.Input.{Input}
 use Rattle.st_law.specs.History.{looking_back}
 use Rattle.st_law.specs.Lawful.{IsStored}
-use Rattle.st_law.specs.Machine.{history, running_entry, state_after, thread_after, thread_entry}
-use Rattle.st_law.specs.State.{Message, State, is_live}
+use Rattle.st_law.specs.Machine.{entry_of, history, running_entry, state_after, thread_after, thread_entry}
+use Rattle.st_law.specs.State.{State, is_live}
 use Rattle.st_law.specs.Threads.{body_of, body_of_row, left_at}
 use Rattle.st_law.proofs.Begun.{goes_through}
 use Rattle.st_law.proofs.Laws.{all_at, lawful_history}
 use Rattle.st_law.proofs.Ties.{state-is}
+use Rattle.st_reached.proofs.Life.{eqb-sym}
 use Rattle.st_reached.proofs.LifeByEntry.{denied_life}
 use Rattle.st_reached.proofs.Reached.{lawful_entry}
 use Rattle.st_reached.specs.Scripts.{IsInMemory, StoresInMemory}
 use Rattle.st_system.specs.System.{IsSystem, Parts}
-use Rattle.st_workers.specs.Refinement.{RepresentsMachineMessages, ChangesLife}
+use Rattle.st_workers.specs.Refinement.{RepresentsMessages}
 use Rattle.st_workers.specs.UnderWay.{UnderWay}
 use Rattle.st_workers.proofs.Closing.{closing_is_not_kept}
+use Rattle.st_workers.proofs.Ended.{lives_as}
+use Rattle.st_workers.proofs.Turns.{number_within}
+use Rattle.st_threads.specs.Ending.{EndsCall, life_without_number}
 use Rattle.st_decide.specs.Machine.{Refines, IsNextStep, RefinesSomeState, IsStep, Running}
 use Rattle.st_decide.specs.Step.{step_entry}
 use Rattle.st_threads.specs.Thread.{ThreadRow, IsRow}
 use Rattle.st_decide.specs.declared.step.Step.{Step}
 use Rattle.st_decide.specs.declared.step.Step.TheVariants as steps
+use Rattle.st_decide.specs.declared.step.StoredWord.{StoredWord}
+use Rattle.st_decide.specs.declared.step.FailedCall.{FailedCall}
+use Rattle.st_decide.specs.declared.step.NewCall.{NewCall}
 use Rattle.st_decide.specs.declared.step.ReadyCall.{ReadyCall}
 use Rattle.st_machine.proofs.After.{AreRows, HasComeAsFar, following, rows_changed, with_parts}
 use Rattle.st_decide.proofs.NextSteps.{row_of}
@@ -83,32 +89,32 @@ body_inside i stores t = by t where
   by zero = none
   by (suc k) = by_row k (slice_get i.start.threads k) refl
 
-module _ (m : Running) (t place word : ℕ) (next : IsNextStep m t (steps.Store place word)) where
-  stores_law : (st : State) → Refines m st → IsStored st t place word
-  stores_law st is = lawful_entry m.input st (reached_of m.input st is.reached) (choice.Thread t) (Stored t place word) (next st is)
+module _ (m : Running) (t : ℕ) (stored : StoredWord) (next : IsNextStep m t (steps.Store stored)) where
+  stores_law : (st : State) → Refines m st → IsStored st t stored.place stored.word
+  stores_law st is = lawful_entry m.input st (reached_of m.input st is.reached) (choice.Thread t) (Stored t stored.place stored.word) (next st is)
 
   -- the index is inside memory
-  pub stored_inside : (st : State) → Refines m st → place < SPACE_WORDS
+  pub stored_inside : (st : State) → Refines m st → stored.place < SPACE_WORDS
   stored_inside st is =
       let h = history m.input (reverse is.reached.choices) in
       let same : st ≡ looking_back m.input h = is.reached.state_is ∙ state-is m.input h in
       let goes = goes_through m.input h t (lawful_history m.input is.reached.startable (reverse is.reached.choices)) in
       let law = stores_law st is in
-      let left : left_at m.input h t ≡ Store place word ∷ law.later = sym (ap (λ (s : State). (s.threads t).left) same) ∙ law.next in
-      let whole : goes.0 ++ Store place word ∷ law.later ≡ body_of m.input t = ap (λ (l : List Instr). goes.0 ++ l) (sym left) ∙ goes.2 in
-      all_at IsInMemory (goes.0 ++ Store place word ∷ law.later) (length goes.0) (Store place word) (subst (All IsInMemory) (sym whole) (body_inside m.input is.bounded.stores t)) (at_length goes.0 (Store place word) law.later)
+      let left : left_at m.input h t ≡ Store stored.place stored.word ∷ law.later = sym (ap (λ (s : State). (s.threads t).left) same) ∙ law.next in
+      let whole : goes.0 ++ Store stored.place stored.word ∷ law.later ≡ body_of m.input t = ap (λ (l : List Instr). goes.0 ++ l) (sym left) ∙ goes.2 in
+      all_at IsInMemory (goes.0 ++ Store stored.place stored.word ∷ law.later) (length goes.0) (Store stored.place stored.word) (subst (All IsInMemory) (sym whole) (body_inside m.input is.bounded.stores t)) (at_length goes.0 (Store stored.place stored.word) law.later)
 
   pub stored_started : (st : State) (is : Refines m st) → IsSome (pid_of m.system.processes t)
   stored_started st is = pid_there m st is t (stores_law st is).running.started
 
-  pub stored_step : (system : Parts) (row : ThreadRow) → item_at_number m.threads t ≡ Some row → ((i : Input) (st : State) → IsSystem i st m.system → IsSystem i (state_after i st (Stored t place word)) system)
-      → IsStep m (choice.Thread t) (Some (Stored t place word)) (with_parts m system m.workers (set m.threads (t - 1) (record row { left = drop 1 row.left })))
+  pub stored_step : (system : Parts) (row : ThreadRow) → item_at_number m.threads t ≡ Some row → ((i : Input) (st : State) → IsSystem i st m.system → IsSystem i (state_after i st (Stored t stored.place stored.word)) system)
+      → IsStep m (choice.Thread t) (Some (Stored t stored.place stored.word)) (with_parts m system m.workers (set m.threads (t - 1) (record row { left = drop 1 row.left })))
   stored_step system row row_is moves st is =
       let its : IsRow row (st.threads t) = row_of m st is t row row_is in
-      let rows = rows_changed m.threads st.threads (thread_after st (Stored t place word)) t row (record row { left = drop 1 row.left }) row_is
+      let rows = rows_changed m.threads st.threads (thread_after st (Stored t stored.place stored.word)) t row (record row { left = drop 1 row.left }) row_is
       (λ u ne. record { left = ap (λ (b : Bool). cond b (drop 1 (st.threads u).left) (st.threads u).left) (ne_eqb t u (λ e. ne (sym e))); pending = refl; number = refl; dying = refl; ended = refl })
       (record { left = ap (λ (b : Bool). cond b (drop 1 (st.threads t).left) (st.threads t).left) (eq-eqb t t refl) ∙ ap (drop 1) its.left; pending = its.pending; number = its.number; dying = its.dying; ended = its.ended }) is.threads in
-      (next st is, following m st is (choice.Thread t) (Stored t place word) (next st is) refl refl system m.workers (set m.threads (t - 1) (record row { left = drop 1 row.left })) (moves m.input st is.system) is.workers rows (length-set m.threads (t - 1) _))
+      (next st is, following m st is (choice.Thread t) (Stored t stored.place stored.word) (next st is) refl refl system m.workers (set m.threads (t - 1) (record row { left = drop 1 row.left })) (moves m.input st is.system) is.workers rows (length-set m.threads (t - 1) _))
 
 -- ---- a call is over
 
@@ -117,10 +123,13 @@ closed_rows : (m : Running) (st : State) → Refines m st → (t : ℕ) (row : T
     → IsRow (record row { pending = None }) (thread_after st e t) → AreRows (set m.threads (t - 1) (record row { pending = None })) (thread_after st e)
 closed_rows m st is t row row_is e others own = rows_changed m.threads st.threads (thread_after st e) t row (record row { pending = None }) row_is others own is.threads
 
-module _ (m : Running) (t : ℕ) (call : SysCall) (regs : List ℕ) (ids : Ids) (errno : Errno) (next : IsNextStep m t (steps.Fail call regs ids errno)) where
-  -- the entry of a call that fails before it is made
+-- the entry of a call that fails before it is made
+abbrev pub entry_failed : ℕ → FailedCall → Entry
+entry_failed t failed = Used t None failed.call failed.regs [] failed.ids (Failed failed.errno) []
+
+module _ (m : Running) (t : ℕ) (call : FailedCall) (next : IsNextStep m t (steps.Fail call)) where
   abbrev failed : Entry
-  failed = Used t None call regs [] ids (Failed errno) []
+  failed = entry_failed t call
 
   pub failed_step : (row : ThreadRow) → item_at_number m.threads t ≡ Some row → IsStep m (choice.Thread t) (Some failed) (with_parts m m.system m.workers (set m.threads (t - 1) (record row { pending = None })))
   failed_step row row_is st is =
@@ -135,40 +144,41 @@ module _ (m : Running) (t : ℕ) (call : SysCall) (regs : List ℕ) (ids : Ids) 
 
 -- ---- a call is denied
 
-module _ (m : Running) (t : ℕ) (seq : Option ℕ) (errno : Errno) (why : Cause) (next : IsNextStep m t (steps.Deny seq errno why)) where
-  denied_rows : (st : State) → Refines m st → (row : ThreadRow) → item_at_number m.threads t ≡ Some row → AreRows (set m.threads (t - 1) (record row { pending = None })) (thread_after st (Denied t seq errno why))
-  denied_rows st is row row_is =
-      let its : IsRow row (st.threads t) = row_of m st is t row row_is in
-      closed_rows m st is t row row_is (Denied t seq errno why)
-      (λ u ne. record { left = refl; pending = ap (λ (b : Bool). cond b None (st.threads u).pending) (ne_eqb t u (λ e. ne (sym e))); number = refl; dying = refl; ended = refl })
-      (record { left = its.left; pending = ap (λ (b : Bool). cond b None (st.threads t).pending) (eq-eqb t t refl); number = λ q e. absurd (none-some q (sym (none_closed row) ∙ e)); dying = its.dying; ended = its.ended })
+denied_rows : (m : Running) (st : State) → Refines m st → (t : ℕ) (drawing : Option ℕ) (errno : Errno) (why : Cause) (row : ThreadRow) → item_at_number m.threads t ≡ Some row → AreRows (set m.threads (t - 1) (record row { pending = None })) (thread_after st (Denied t drawing errno why))
+denied_rows m st is t drawing errno why row row_is =
+    let its : IsRow row (st.threads t) = row_of m st is t row row_is in
+    closed_rows m st is t row row_is (Denied t drawing errno why)
+    (λ u ne. record { left = refl; pending = ap (λ (b : Bool). cond b None (st.threads u).pending) (ne_eqb t u (λ e. ne (sym e))); number = refl; dying = refl; ended = refl })
+    (record { left = its.left; pending = ap (λ (b : Bool). cond b None (st.threads t).pending) (eq-eqb t t refl); number = λ q e. absurd (none-some q (sym (none_closed row) ∙ e)); dying = its.dying; ended = its.ended })
 
--- a barred call has no message
-pub barred_step : (m : Running) (t : ℕ) (errno : Errno) (why : Cause) → IsNextStep m t (steps.Deny None errno why) → (row : ThreadRow) → item_at_number m.threads t ≡ Some row
-    → IsStep m (choice.Thread t) (Some (Denied t None errno why)) (with_parts m m.system m.workers (set m.threads (t - 1) (record row { pending = None })))
-barred_step m t errno why next row row_is st is = (
-  next st is,
-  following m st is (choice.Thread t) (Denied t None errno why) (next st is) refl refl m.system m.workers (set m.threads (t - 1) (record row { pending = None }))
-      (same_system m.input st (state_after m.input st (Denied t None errno why)) m.system refl refl refl refl refl refl (λ u. refl) (λ u. refl) is.system) is.workers (denied_rows m t None errno why next st is row row_is) (length-set m.threads (t - 1) _),
-)
+module _ (m : Running) (t : ℕ) (errno : Errno) (why : Cause) where
+  -- a thread's call is denied next, under this number if it is held
+  abbrev IsDeniedNext : Option ℕ → Type 0
+  IsDeniedNext drawing = (st : State) → Refines m st → entry_of m.input st (choice.Thread t) ≡ Some (Denied t drawing errno why)
 
-module _ (m : Running) (t q : ℕ) (errno : Errno) (why : Cause) (next : IsNextStep m t (steps.Deny (Some q) errno why)) where
   -- the number of a held call that is denied is live
-  pub denied_lives : (st : State) → Refines m st → is_live st q ≡ true
-  denied_lives st is = (lawful_entry m.input st (reached_of m.input st is.reached) (choice.Thread t) (Denied t (Some q) errno why) (next st is)).held.live
+  pub denied_lives : (drawing : Option ℕ) → IsDeniedNext drawing → (st : State) → Refines m st → IfSome drawing (λ q. is_live_number m.workers.calls q ≡ true)
+  denied_lives None next st is = tt
+  denied_lives (Some q) next st is = lives_as m.input st (is_live st) m.workers q is.workers ∙ (lawful_entry m.input st (reached_of m.input st is.reached) (choice.Thread t) (Denied t (Some q) errno why) (next st is)).held.live
 
-  -- the step that denies a held call, whose number ends
-  pub denied_step : (workers : UnderWay) (row : ThreadRow) → item_at_number m.threads t ≡ Some row
-      → ((i : Input) (messages : ℕ → Message) (turns : ℕ → Option ℕ) (alive later : ℕ → Bool) (posted : ℕ) → RepresentsMachineMessages i messages turns alive posted m.workers → ChangesLife alive q false later → RepresentsMachineMessages i messages turns later posted workers)
-      → IsStep m (choice.Thread t) (Some (Denied t (Some q) errno why)) (with_parts m m.system workers (set m.threads (t - 1) (record row { pending = None })))
-  denied_step workers row row_is cancels st is =
+  -- a barred call has no message, and the number of a held call ends
+  pub denied_step : (drawing : Option ℕ) → IsDeniedNext drawing → (workers : UnderWay) (row : ThreadRow) → item_at_number m.threads t ≡ Some row → EndsCall drawing m.workers workers
+      → IsStep m (choice.Thread t) (Some (Denied t drawing errno why)) (with_parts m m.system workers (set m.threads (t - 1) (record row { pending = None })))
+  denied_step None next workers row row_is ends st is = (
+    next st is,
+    following m st is (choice.Thread t) (Denied t None errno why) (next st is) refl refl m.system workers (set m.threads (t - 1) (record row { pending = None }))
+        (same_system m.input st (state_after m.input st (Denied t None errno why)) m.system refl refl refl refl refl refl (λ u. refl) (λ u. refl) is.system) (ends m.input st (is_live st) is.workers)
+        (denied_rows m st is t None errno why row row_is) (length-set m.threads (t - 1) _),
+  )
+  denied_step (Some q) next workers row row_is ends st is =
       let e = Denied t (Some q) errno why in
-      let later = is_live (state_after m.input st e) in
-      let kept = cancels m.input st.messages st.turns (is_live st) later st.posted is.workers (λ other. denied_life m.input st t q errno why other) in (
+      let later : ℕ → Bool = is_live (state_after m.input st e) in
+      let lives : later ≡ life_without_number (is_live st) (Some q) = λ k other. (denied_life m.input st t q errno why other ∙ ap (λ (b : Bool). cond b false (is_live st other)) (eqb-sym other q)) k in
+      let kept : RepresentsMessages m.input st later workers = subst (λ (life : ℕ → Bool). RepresentsMessages m.input st life workers) (sym lives) (ends m.input st (is_live st) is.workers) in (
         next st is,
         following m st is (choice.Thread t) e (next st is) refl refl m.system workers (set m.threads (t - 1) (record row { pending = None }))
             (same_system m.input st (state_after m.input st e) m.system refl refl refl refl refl refl (λ u. refl) (λ u. refl) is.system)
-            (closing_is_not_kept m.input st.messages (state_after m.input st e).messages st.turns later st.posted workers kept (λ p. refl)) (denied_rows m t (Some q) errno why next st is row row_is) (length-set m.threads (t - 1) _),
+            (closing_is_not_kept m.input st.messages (state_after m.input st e).messages st.turns later st.posted workers kept (λ p. refl)) (denied_rows m st is t (Some q) errno why row row_is) (length-set m.threads (t - 1) _),
       )
 
 -- ---- the row of a thread exists
@@ -182,9 +192,20 @@ started_of i st u e entry none = none-some e (sym (stopped (eq-eqb (st.threads u
 pub row_here : (m : Running) → RefinesSomeState m → (t : ℕ) (step : Step) (e : Entry) → IsNextStep m t step → ((i : Input) (st : State) → step_entry i st t step ≡ Some e) → (row : ThreadRow) × (item_at_number m.threads t ≡ Some row)
 row_here m run t step e next is = row_there m run.state run.is t (started_of m.input run.state t e (next run.state run.is ∙ is m.input run.state))
 
+-- such a thread has a place, by a view of the machine
+pub place_in : (m seen : Running) → m ≡ seen → RefinesSomeState m → (t : ℕ) (step : Step) → ((i : Input) (st : State) → (e : Entry) × (step_entry i st t step ≡ Some e)) → IsNextStep seen t step → (1 ≤ t) × (t - 1 < length m.threads)
+place_in m seen same run t step adds next =
+    let e = adds m.input run.state in
+    let here : IsNextStep m t step = subst (λ (k : Running). IsNextStep k t step) (sym same) next in
+    let row = row_there m run.state run.is t (started_of m.input run.state t e.0 (here run.state run.is ∙ e.1)) in
+    let within = number_within m.threads t row.0 row.1 in
+    let from = within.0 in
+    let to = within.1 in
+    (from, omega (arith, from, to))
+
 -- a thread that enters a call has a row
-pub row_entering : (m : Running) → RefinesSomeState m → (t : ℕ) (call : SysCall) (regs : List ℕ) → IsNextStep m t (steps.Enter call regs) → (row : ThreadRow) × (item_at_number m.threads t ≡ Some row)
-row_entering m run t call regs next = row_there m run.state run.is t (started_of m.input run.state t _ (next run.state run.is))
+pub row_entering : (m : Running) → RefinesSomeState m → (t : ℕ) (call : NewCall) → IsNextStep m t (steps.Enter call) → (row : ThreadRow) × (item_at_number m.threads t ≡ Some row)
+row_entering m run t call next = row_there m run.state run.is t (started_of m.input run.state t _ (next run.state run.is))
 
 -- a thread that makes a call has a row
 pub row_making : (m : Running) → RefinesSomeState m → (t : ℕ) (ready : ReadyCall) → IsNextStep m t (steps.Make ready) → (row : ThreadRow) × (item_at_number m.threads t ≡ Some row)

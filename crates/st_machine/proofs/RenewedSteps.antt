@@ -1,23 +1,18 @@
 -- The step that makes a call that sets ids.
 use native.Mathlib.Omega.{arith}
-use Rattle.std.proofs.Common.{◌≡◌, ◌≢◌, ◌≤◌, ◌<◌, ◌+◌, ◌-◌, ◌^◌, ◌∙◌, ℕ, zero, suc, ◌==◌, Bool, true, false, cond, replicate, set, List, [], ◌∷◌, ◌++◌, length, Option, Some, None, refl, ap, sym, subst, true≢false}
+use Rattle.std.proofs.Common.{◌≡◌, ◌≢◌, ◌≤◌, ◌<◌, ◌+◌, ◌-◌, ◌^◌, ◌∙◌, ℕ, zero, suc, ◌==◌, Bool, true, false, cond, replicate, set, List, [], ◌∷◌, length, Option, Some, None, refl, ap, sym, subst}
 use Rattle.std.proofs.lemmas.Bool.{eq-eqb, ne_eqb}
 use Rattle.std.proofs.lemmas.List.{length-set}
 use Rattle.std.proofs.lemmas.Option.{none-some}
 use Rattle.std.specs.List.{fold}
-use Rattle.std.specs.Prelude.{IsSome, slice_index_or}
-use Rattle.st_base.specs.Errno.{first_error}
+use Rattle.std.specs.Prelude.{slice_index_or}
 use Rattle.st_base.specs.Numbered.{item_at_number}
-use Rattle.st_base.specs.declared.errno.Errno.{Errno}
 use Rattle.st_base.specs.declared.ids.Ids.{Ids}
 use Rattle.st_calls.specs.Call.{sets_ids}
-use Rattle.st_calls.specs.declared.call.SysCall.{SysCall}
-use Rattle.st_calls.specs.declared.call.SysCall.TheVariants.{SetUid, SetEuid, SetGid, SetEgid}
 use Rattle.st_effects.specs.Changes.{dying_after_change, next_process_after_change, owner_after_change, process_after, process_after_change, seq_after}
 use Rattle.st_effects.specs.Effect.{effect}
-use Rattle.st_effects.specs.Processes.{renewals, set_ids_outcome}
+use Rattle.st_effects.specs.Processes.{renewals}
 use Rattle.st_effects.specs.System as effects
-use Rattle.st_effects.specs.System.{success, unless_error}
 use Rattle.st_law.specs.declared.input.Input.{Input}
 use Rattle.st_law.specs.Lawful.{IsUsed}
 use Rattle.st_law.specs.Machine.{entry_of, state_after, thread_after}
@@ -26,13 +21,13 @@ use Rattle.st_law.specs.Schedules as schedules
 use Rattle.st_law.specs.State.{Message, State, ThreadState, held_from, is_live, request_of, system_of, thread_count}
 use Rattle.st_model.specs.Identity.{ids_after_set, set_refused}
 use Rattle.st_model.specs.Process.{Process}
-use Rattle.st_model.specs.Processes.{IsPid, next_pid, pid_of, process_at, owner_of}
+use Rattle.st_model.specs.Processes.{IsPid, next_pid, process_at, owner_of}
 use Rattle.st_reached.specs.Reached.{life_after_changes, most_numbers}
 use Rattle.st_reached.proofs.LifeByEntry.{life_is}
 use Rattle.st_reached.proofs.NumbersDrawn.{few_drawn}
 use Rattle.st_reached.proofs.Reached.{lawful_entry}
 use Rattle.st_request.specs.declared.outcome.Outcome.{Outcome}
-use Rattle.st_system.specs.Steps.{IsCallMade, IsMade, renewals_of, with_renewals}
+use Rattle.st_system.specs.Steps.{IsCallMade, IsMade, with_renewals}
 use Rattle.st_system.specs.System.{IsSystem, Parts}
 use Rattle.st_trace.specs.declared.entry.Change.{Change}
 use Rattle.st_trace.specs.declared.entry.Change.TheVariants.{SetIds}
@@ -43,57 +38,26 @@ use Rattle.st_workers.specs.Refinement.{RepresentsMachineMessages, RepresentsMes
 use Rattle.st_workers.specs.UnderWay.{UnderWay}
 use Rattle.st_workers.proofs.Closing.{closing_is_not_kept}
 use Rattle.st_threads.specs.Ending.{EndsCall, life_without_number}
-use Rattle.st_decide.specs.Machine.{Refines, IsNextStep, IsStep, Running}
+use Rattle.st_decide.specs.Machine.{Refines, IsStep, Running}
 use Rattle.st_decide.specs.Making.{request_with}
+use Rattle.st_decide.specs.NextSteps.{CanStep}
 use Rattle.st_threads.specs.Renewing.{CanRenew, HaveRenewed, AreLiveAndDistinct, RenewsAll, numbers_from, renewals_from, rows_renewed}
 use Rattle.st_threads.specs.Thread.{ThreadRow, IsRow}
 use Rattle.st_decide.specs.declared.step.Step.TheVariants as steps
 use Rattle.st_decide.specs.declared.step.ReadyCall.{ReadyCall}
-use Rattle.st_machine.proofs.After.{AreRows, following, rows_changed, rows_stand, with_parts}
+use Rattle.st_machine.proofs.After.{AreRows, following, rows_changed, with_parts}
 use Rattle.st_machine.proofs.Made.{owner_by}
 use Rattle.st_machine.proofs.MadeSteps.{are_closed, has_child, now, request_is, used}
 use Rattle.st_decide.proofs.NextSteps.{owner_is, row_of}
 use Rattle.st_decide.proofs.Reached.{reached_of}
 use Rattle.st_threads.proofs.RenewedLaw.{AreTagged, HaveHeads, SameBut, count_renewed, kept_all, law_renewals, live_apart, message_is, messages_after, renewals_leave, rows_at, rows_from, rows_then, same_numbers, set_numbers, tags_from}
 use Rattle.st_machine.proofs.Room.{fewer_set}
+use Rattle.st_machine.proofs.SettingIds.{changes_set}
 use Rattle.st_threads.proofs.Rows.{none_closed}
-
--- ---- the effect of a call that sets ids
-
-effect_sets : (call : SysCall) → sets_ids call ≡ true → (system : effects.System) (request : effects.Request) → effect system call request ≡ set_ids_outcome call system request
-effect_sets SetUid sets system request = refl
-effect_sets SetEuid sets system request = refl
-effect_sets SetGid sets system request = refl
-effect_sets SetEgid sets system request = refl
-effect_sets _ sets system request = absurd (true≢false (sym sets))
-
-module _ (call : SysCall) (sets : sets_ids call ≡ true) (system : effects.System) (request : effects.Request) where
-  abbrev reason : Option Errno
-  reason = set_refused call request.ids (slice_index_or request.regs 0 0)
-
-  abbrev done : effects.Outcome
-  done = success system 0 (SetIds (ids_after_set call request.ids (slice_index_or request.regs 0 0)) ∷ renewals request.pid request.tid system.next_number system.held)
-
-  -- a call that is refused changes nothing
-  changes_none : IsSome reason → (effect system call request).changes ≡ []
-  changes_none refused = ap (λ (o : effects.Outcome). o.changes) (effect_sets call sets system request) ∙ by reason refused where
-    by : (o : Option Errno) → IsSome o → (unless_error system (first_error (o ∷ [])) done).changes ≡ []
-    by None x = cc
-    by (Some errno) x = refl
-
-  -- a call that succeeds sets the ids, and renews the other held calls of the process
-  changes_set : reason ≡ None → (effect system call request).changes ≡ SetIds (ids_after_set call request.ids (slice_index_or request.regs 0 0)) ∷ renewals request.pid request.tid system.next_number system.held
-  changes_set well = ap (λ (o : effects.Outcome). o.changes) (effect_sets call sets system request) ∙ ap (λ (o : Option Errno). (unless_error system (first_error (o ∷ [])) done).changes) well
-
--- if some changes, with or without more after them, are none, then they are none themselves
-none_before : (b : Bool) (changes more : List Change) → cond b (changes ++ more) changes ≡ [] → changes ≡ []
-none_before true [] more e = refl
-none_before true (c ∷ changes) more e = cc
-none_before false changes more e = e
 
 -- ---- the step, by its changes
 
-module _ (m : Running) (st : State) (is : Refines m st) (t pid : ℕ) (ready : ReadyCall) (next : IsNextStep m t (steps.Make ready)) (process : pid_of m.system.processes t ≡ Some pid) (row : ThreadRow) (row_is : item_at_number m.threads t ≡ Some row) where
+module _ (m : Running) (st : State) (is : Refines m st) (t : ℕ) (ready : ReadyCall) (can : CanStep m t (steps.Make ready)) (row : ThreadRow) (row_is : item_at_number m.threads t ≡ Some row) where
   abbrev input : Input
   input = m.input
 
@@ -101,7 +65,7 @@ module _ (m : Running) (st : State) (is : Refines m st) (t pid : ℕ) (ready : R
   closed = set m.threads (t - 1) (record row { pending = None })
 
   abbrev alive : ℕ → Bool
-  alive = life_without_number (is_live st) ready.seq
+  alive = life_without_number (is_live st) ready.drawing
 
   -- the threads after the caller's call was made
   abbrev closed_threads : ℕ → ThreadState
@@ -114,62 +78,43 @@ module _ (m : Running) (st : State) (is : Refines m st) (t pid : ℕ) (ready : R
       (λ u ne. record { left = refl; pending = ap (λ (b : Bool). cond b None (st.threads u).pending) (ne_eqb t u (λ e. ne (sym e))); number = refl; dying = refl; ended = refl })
       (record { left = its.left; pending = ap (λ (b : Bool). cond b None (st.threads t).pending) (eq-eqb t t refl); number = λ q e. absurd (none-some q (sym (none_closed row) ∙ e)); dying = its.dying; ended = its.ended }) is.threads
 
-  own_pid : (st.threads t).owner ≡ pid
-  own_pid = owner_is m st is t pid process
+  own_pid : (st.threads t).owner ≡ ready.pid
+  own_pid = owner_is m st is t ready.pid can.can.caller.process
 
-  module _ (outcome : Outcome) (parts : Parts) (done_is : IsCallMade ready.call (request_with m t pid ready) outcome m.system parts) (changes : List Change) (effect_is : (effect (system_of m.input st) ready.call (request_of m.input st t ready.regs ready.args ready.ids)).changes ≡ changes) where
+  module _ (outcome : Outcome) (parts : Parts) (done_is : IsCallMade ready.call (request_with m t ready) outcome m.system parts) (changes : List Change) (effect_is : (effect (system_of m.input st) ready.call (request_of m.input st t ready.regs ready.args ready.ids)).changes ≡ changes) where
     abbrev entry : Entry
-    entry = Used t ready.seq ready.call ready.regs ready.args ready.ids outcome.result changes
+    entry = Used t ready.drawing ready.call ready.regs ready.args ready.ids outcome.result changes
 
-    request : request_with m t pid ready ≡ request_of input st t ready.regs ready.args ready.ids
-    request = request_is m st is t pid ready process row row_is
+    request : request_with m t ready ≡ request_of input st t ready.regs ready.args ready.ids
+    request = request_is m st is t ready can row row_is
 
-    is_made : IsMade input st ready.seq ready.call (request_with m t pid ready) outcome parts
+    is_made : IsMade input st ready.drawing ready.call (request_with m t ready) outcome parts
     is_made = done_is input st is.system request
-        (has_child m st is t pid ready process row row_is ready.seq ready.call ready.regs (now m st is t pid ready next process row row_is) (used m st is t pid ready next process row row_is)) ready.seq
+        (has_child m st is t ready can row row_is ready.drawing ready.call ready.regs (now m st is t ready can row row_is) (used m st is t ready can row row_is)) ready.drawing
 
-    full : with_renewals input st ready.call (request_with m t pid ready) outcome.result outcome.changes ≡ changes
+    full : with_renewals input st ready.call (request_with m t ready) outcome.result outcome.changes ≡ changes
     full = is_made.changes ∙ ap (λ (r : effects.Request). (effect (system_of input st) ready.call r).changes) request ∙ effect_is
-
-    -- if the entry has no changes, the outcome has none
-    pub none_made : changes ≡ [] → outcome.changes ≡ []
-    none_made none = none_before (sets_ids ready.call) outcome.changes (renewals_of input st (request_with m t pid ready) outcome.result) (full ∙ none)
 
     pub entry_is : entry_of input st (choice.Thread t) ≡ Some entry
     entry_is =
         let result = ap (λ (r : effects.Request). (effect (system_of input st) ready.call r).result) (sym request) ∙ sym is_made.result in
-        next st is ∙ (λ k. Some (Used t ready.seq ready.call ready.regs ready.args ready.ids (result k) (effect_is k)))
+        can.next st is ∙ (λ k. Some (Used t ready.drawing ready.call ready.regs ready.args ready.ids (result k) (effect_is k)))
 
-    law : IsUsed input st t ready.seq ready.call ready.regs ready.args ready.ids outcome.result changes
+    law : IsUsed input st t ready.drawing ready.call ready.regs ready.args ready.ids outcome.result changes
     law = lawful_entry input st (reached_of input st is.reached) (choice.Thread t) entry entry_is
 
     is_system : IsSystem input (state_after input st entry) parts
-    is_system = subst (λ (cs : List Change). IsSystem input (state_after input st (Used t ready.seq ready.call ready.regs ready.args ready.ids outcome.result cs)) parts) full is_made.system
+    is_system = subst (λ (cs : List Change). IsSystem input (state_after input st (Used t ready.drawing ready.call ready.regs ready.args ready.ids outcome.result cs)) parts) full is_made.system
 
     lives : is_live (state_after input st entry) ≡ life_after_changes st (st.threads t).owner alive changes
-    lives = λ k other. life_is input st (reached_of input st is.reached) t ready.seq ready.call ready.regs ready.args ready.ids outcome.result changes law other k
-
-  -- ---- the call is refused
-
-  module _ (outcome : Outcome) (parts : Parts) (done_is : IsCallMade ready.call (request_with m t pid ready) outcome m.system parts) (effect_is : (effect (system_of m.input st) ready.call (request_of m.input st t ready.regs ready.args ready.ids)).changes ≡ []) where
-    abbrev entry_refused : Entry
-    entry_refused = Used t ready.seq ready.call ready.regs ready.args ready.ids outcome.result []
-
-    pub refused_here : (between : UnderWay) → EndsCall ready.seq m.workers between → Refines (with_parts m parts between closed) (state_after m.input st entry_refused)
-    refused_here between closes =
-        let later : ℕ → Bool = is_live (state_after input st entry_refused) in
-        let kept : RepresentsMessages input st later between = subst (λ (life : ℕ → Bool). RepresentsMessages input st life between) (sym (lives outcome parts done_is [] effect_is)) (closes input st (is_live st) is.workers) in
-        following m st is (choice.Thread t) entry_refused (entry_is outcome parts done_is [] effect_is) refl refl parts between closed (is_system outcome parts done_is [] effect_is)
-        (closing_is_not_kept input st.messages (state_after input st entry_refused).messages st.turns later st.posted between kept (λ q. refl))
-        (rows_stand closed closed_threads (thread_after st entry_refused) (λ u. record { left = refl; pending = refl; number = refl; dying = refl; ended = refl }) closed_rows)
-        (length-set m.threads (t - 1) _)
+    lives = λ k other. life_is input st (reached_of input st is.reached) t ready.drawing ready.call ready.regs ready.args ready.ids outcome.result changes law other k
 
   -- ---- the call succeeds
 
-  module _ (outcome : Outcome) (parts : Parts) (done_is : IsCallMade ready.call (request_with m t pid ready) outcome m.system parts) (given : Ids)
+  module _ (outcome : Outcome) (parts : Parts) (done_is : IsCallMade ready.call (request_with m t ready) outcome m.system parts) (given : Ids)
       (effect_is : (effect (system_of m.input st) ready.call (request_of m.input st t ready.regs ready.args ready.ids)).changes ≡ SetIds given ∷ renewals (st.threads t).owner t (suc st.posted) (held_from st 1 (thread_count m.input))) where
     abbrev ns : List ℕ
-    ns = numbers_from m.system.processes pid t 1 m.threads
+    ns = numbers_from m.system.processes ready.pid t 1 m.threads
 
     abbrev known : List Change
     known = SetIds given ∷ renewals_from (suc st.posted) ns
@@ -179,10 +124,10 @@ module _ (m : Running) (st : State) (is : Refines m st) (t pid : ℕ) (ready : R
 
     known_is : (effect (system_of input st) ready.call (request_of input st t ready.regs ready.args ready.ids)).changes ≡ known
     known_is = effect_is ∙ (λ k. SetIds given ∷ renewals (own_pid k) t (suc st.posted) (held_from st 1 (sym is.count k)))
-        ∙ ap (λ (cs : List Change). SetIds given ∷ cs) (law_renewals m.system.processes pid t st owners m.threads 1 (suc st.posted) (rows_from st.threads m.threads is.threads))
+        ∙ ap (λ (cs : List Change). SetIds given ∷ cs) (law_renewals m.system.processes ready.pid t st owners m.threads 1 (suc st.posted) (rows_from st.threads m.threads is.threads))
 
     abbrev entry_set : Entry
-    entry_set = Used t ready.seq ready.call ready.regs ready.args ready.ids outcome.result known
+    entry_set = Used t ready.drawing ready.call ready.regs ready.args ready.ids outcome.result known
 
     system_then : IsSystem input (state_after input st entry_set) parts
     system_then = is_system outcome parts done_is known known_is
@@ -192,18 +137,18 @@ module _ (m : Running) (st : State) (is : Refines m st) (t pid : ℕ) (ready : R
         ∙ renewals_leave (owner_after_change u) (λ o old fresh. refl) (st.threads u).owner (suc st.posted) ns
 
     -- the numbers that are renewed are those that were planned
-    pub numbers_stay : numbers_from parts.processes pid t 1 closed ≡ ns
-    numbers_stay = place t refl ∙ same_numbers parts.processes m.system.processes pid t (λ u. owners_then u ∙ sym (owners u)) m.threads 1 where
-      place : (n : ℕ) → t ≡ n → numbers_from parts.processes pid t 1 closed ≡ numbers_from parts.processes pid t 1 m.threads
+    pub numbers_stay : numbers_from parts.processes ready.pid t 1 closed ≡ ns
+    numbers_stay = place t refl ∙ same_numbers parts.processes m.system.processes ready.pid t (λ u. owners_then u ∙ sym (owners u)) m.threads 1 where
+      place : (n : ℕ) → t ≡ n → numbers_from parts.processes ready.pid t 1 closed ≡ numbers_from parts.processes ready.pid t 1 m.threads
       place zero e = absurd (none-some row (ap (item_at_number m.threads) (sym e) ∙ row_is))
-      place (suc k) e = set_numbers parts.processes pid t m.threads 1 (t - 1) (record row { pending = None }) (omega (arith, e))
+      place (suc k) e = set_numbers parts.processes ready.pid t m.threads 1 (t - 1) (record row { pending = None }) (omega (arith, e))
 
     -- the directory of the process is unchanged
-    pub cwd_stays : (process_at parts.processes pid).cwd ≡ (process_at m.system.processes pid).cwd
+    pub cwd_stays : (process_at parts.processes ready.pid).cwd ≡ (process_at m.system.processes ready.pid).cwd
     cwd_stays =
-        ap (λ (p : Process). p.cwd) (sym (system_then.processes pid) ∙ renewals_leave (process_after_change st.processes (st.threads t).owner pid) (λ before old fresh. refl) (process_after_change st.processes (st.threads t).owner pid (st.processes pid) (SetIds given)) (suc st.posted) ns)
-        ∙ by ((st.threads t).owner == pid) ∙ ap (λ (p : Process). p.cwd) (is.system.processes pid) where
-          by : (b : Bool) → (cond b (record (st.processes pid) { ids = given }) (st.processes pid)).cwd ≡ (st.processes pid).cwd
+        ap (λ (p : Process). p.cwd) (sym (system_then.processes ready.pid) ∙ renewals_leave (process_after_change st.processes (st.threads t).owner ready.pid) (λ before old fresh. refl) (process_after_change st.processes (st.threads t).owner ready.pid (st.processes ready.pid) (SetIds given)) (suc st.posted) ns)
+        ∙ by ((st.threads t).owner == ready.pid) ∙ ap (λ (p : Process). p.cwd) (is.system.processes ready.pid) where
+          by : (b : Bool) → (cond b (record (st.processes ready.pid) { ids = given }) (st.processes ready.pid)).cwd ≡ (st.processes ready.pid).cwd
           by true = refl
           by false = refl
 
@@ -216,21 +161,21 @@ module _ (m : Running) (st : State) (is : Refines m st) (t pid : ℕ) (ready : R
     abbrev owner : ℕ → ℕ
     owner q = tid_of (st.messages q).head
 
-    module _ (between : UnderWay) (closes : EndsCall ready.seq m.workers between) where
+    module _ (between : UnderWay) (closes : EndsCall ready.drawing m.workers between) where
       kept_between : RepresentsMessages input st alive between
       kept_between = closes input st (is_live st) is.workers
 
       tags : AreTagged owner alive (suc st.posted) 1 closed
       tags = tags_from owner alive (suc st.posted) closed (λ u other q at held.
-          let x = (are_closed m st is t pid ready next process row row_is).lives u other q at held in
+          let x = (are_closed m st is t ready can row row_is).lives u other q at held in
           let low = (kept_between.agrees.given q x.lives).1 in
           record { live = x.lives; tid = ap tid_of x.posted ∙ x.tid_is; below = omega (arith, low) })
 
-      live_then : AreLiveAndDistinct alive (numbers_from parts.processes pid t 1 closed)
-      live_then = live_apart parts.processes pid t owner alive (suc st.posted) closed 1 tags
+      live_then : AreLiveAndDistinct alive (numbers_from parts.processes ready.pid t 1 closed)
+      live_then = live_apart parts.processes ready.pid t owner alive (suc st.posted) closed 1 tags
 
       -- the numbers can be renewed
-      pub can_renew : CanRenew between (numbers_from parts.processes pid t 1 closed)
+      pub can_renew : CanRenew between (numbers_from parts.processes ready.pid t 1 closed)
       can_renew = record { input = input; state = st; alive = alive; kept = kept_between; live = live_then }
 
       have_heads : (numbers : List ℕ) → AreLiveAndDistinct alive numbers → HaveHeads (λ p. (st.messages p).head) st.posted st.messages numbers
@@ -239,7 +184,7 @@ module _ (m : Running) (st : State) (is : Refines m st) (t pid : ℕ) (ready : R
 
       -- ---- after the numbers are renewed
 
-      module _ (new : List ThreadRow) (left : UnderWay) (have : HaveRenewed parts.processes pid t closed between new left) where
+      module _ (new : List ThreadRow) (left : UnderWay) (have : HaveRenewed parts.processes ready.pid t closed between new left) where
         abbrev heads : ℕ → Option Head
         heads p = (st.messages p).head
 
@@ -247,7 +192,7 @@ module _ (m : Running) (st : State) (is : Refines m st) (t pid : ℕ) (ready : R
         then = state_after input st entry_set
 
         abbrev row_then : Process
-        row_then = process_at parts.processes pid
+        row_then = process_at parts.processes ready.pid
 
         row_is_then : process_after st.processes (st.threads t).owner (st.threads t).owner known ≡ row_then
         row_is_then = system_then.processes (st.threads t).owner ∙ ap (process_at parts.processes) own_pid
@@ -261,7 +206,7 @@ module _ (m : Running) (st : State) (is : Refines m st) (t pid : ℕ) (ready : R
         messages_then : (q : ℕ) → then.messages q ≡ record (messages_after row_then ns st.posted st.messages q) { closed = (then.messages q).closed }
         messages_then q =
             (λ k. record (then.messages q) { head = fold (head_after_change heads (row_is_then k) q) (heads q) (renewals_from (suc st.posted) ns) })
-            ∙ ap (λ (message : Message). record message { closed = (then.messages q).closed }) (sym (message_is heads row_then st.posted ns st.posted st.messages (omega arith) (subst (HaveHeads heads st.posted st.messages) numbers_stay (have_heads (numbers_from parts.processes pid t 1 closed) live_then)) q))
+            ∙ ap (λ (message : Message). record message { closed = (then.messages q).closed }) (sym (message_is heads row_then st.posted ns st.posted st.messages (omega arith) (subst (HaveHeads heads st.posted st.messages) numbers_stay (have_heads (numbers_from parts.processes ready.pid t 1 closed) live_then)) q))
 
         is_kept : RepresentsMessages input then (is_live then) left
         is_kept = closing_is_not_kept input (messages_after row_then ns st.posted st.messages) then.messages st.turns (is_live then) then.posted left
@@ -281,20 +226,21 @@ module _ (m : Running) (st : State) (is : Refines m st) (t pid : ℕ) (ready : R
 
         rows_are : AreRows new (thread_after st entry_set)
         rows_are = subst (λ (rows : List ThreadRow). AreRows rows (thread_after st entry_set)) (sym have.rows_are)
-            (rows_at (thread_after st entry_set) (rows_renewed parts.processes pid t between.calls.next 1 closed)
-            (rows_then parts.processes pid t owner alive (suc st.posted) (λ q. seq_after q known) closed_threads (thread_after st entry_set) same closed 1 between.calls.next (λ none. omega (arith, none)) (let e = next_is in omega (arith, e)) tags
+            (rows_at (thread_after st entry_set) (rows_renewed parts.processes ready.pid t between.calls.next 1 closed)
+            (rows_then parts.processes ready.pid t owner alive (suc st.posted) (λ q. seq_after q known) closed_threads (thread_after st entry_set) same closed 1 between.calls.next (λ none. omega (arith, none)) (let e = next_is in omega (arith, e)) tags
             (λ q over k. seq_after q (renewals_from (sym next_is k) (sym numbers_stay k))) (rows_from closed_threads closed closed_rows)))
 
         pub set_here : Refines (with_parts m parts left new) (state_after m.input st entry_set)
         set_here = following m st is (choice.Thread t) entry_set (entry_is outcome parts done_is known known_is) refl refl parts left new system_then is_kept rows_are
-            (ap length have.rows_are ∙ count_renewed parts.processes pid t closed 1 between.calls.next ∙ length-set m.threads (t - 1) _)
+            (ap length have.rows_are ∙ count_renewed parts.processes ready.pid t closed 1 between.calls.next ∙ length-set m.threads (t - 1) _)
 
     pub entry_here : entry_of m.input st (choice.Thread t) ≡ Some entry_set
     entry_here = entry_is outcome parts done_is known known_is
 
     -- the process still exists
-    pub there_stays : IsPid m.system.processes pid → IsPid parts.processes pid
-    there_stays there =
+    pub there_stays : IsPid parts.processes ready.pid
+    there_stays =
+        let there : IsPid m.system.processes ready.pid = can.can.caller.there in
         let old : st.next_process ≡ next_pid m.system.processes = is.system.next_process in
         let new : (state_after input st entry_set).next_process ≡ next_pid parts.processes = system_then.next_process in
         let same : (state_after input st entry_set).next_process ≡ st.next_process = renewals_leave next_process_after_change (λ n old fresh. refl) st.next_process (suc st.posted) ns in
@@ -302,7 +248,7 @@ module _ (m : Running) (st : State) (is : Refines m st) (t pid : ℕ) (ready : R
         (there.0, omega (arith, low, old, new, same))
 
     -- as many copies of the directory were made as numbers are renewed
-    pub copies_stay : replicate (length ns) (process_at m.system.processes pid).cwd ≡ replicate (length (numbers_from parts.processes pid t 1 closed)) (process_at parts.processes pid).cwd
+    pub copies_stay : replicate (length ns) (process_at m.system.processes ready.pid).cwd ≡ replicate (length (numbers_from parts.processes ready.pid t 1 closed)) (process_at parts.processes ready.pid).cwd
     copies_stay = λ k. replicate (length (sym numbers_stay k)) (sym cwd_stays k)
 
 -- ---- in each state that the machine represents
@@ -318,37 +264,27 @@ room_for_all m st is =
     let count = is.count in
     omega (arith, drawn, fewer, few, threads, next, count)
 
-module _ (m : Running) (t pid : ℕ) (ready : ReadyCall) (next : IsNextStep m t (steps.Make ready)) (process : pid_of m.system.processes t ≡ Some pid) (row : ThreadRow) (row_is : item_at_number m.threads t ≡ Some row) (sets : sets_ids ready.call ≡ true)
-    (outcome : Outcome) (parts : Parts) (done_is : IsCallMade ready.call (request_with m t pid ready) outcome m.system parts) (between : UnderWay) (closes : EndsCall ready.seq m.workers between) where
+module _ (m : Running) (t : ℕ) (ready : ReadyCall) (can : CanStep m t (steps.Make ready)) (row : ThreadRow) (row_is : item_at_number m.threads t ≡ Some row) (sets : sets_ids ready.call ≡ true)
+    (outcome : Outcome) (parts : Parts) (done_is : IsCallMade ready.call (request_with m t ready) outcome m.system parts) (between : UnderWay) (closes : EndsCall ready.drawing m.workers between) where
   abbrev shut : List ThreadRow
   shut = set m.threads (t - 1) (record row { pending = None })
-
-  -- a call that is to set ids is made, and is refused
-  pub refusing : IsSome (set_refused ready.call ready.ids (slice_index_or ready.regs 0 0))
-      → IsStep m (choice.Thread t) (Some (Used t ready.seq ready.call ready.regs ready.args ready.ids outcome.result outcome.changes)) (with_parts m parts between shut)
-  refusing refused = λ st is.
-      let none = changes_none ready.call sets (system_of m.input st) (request_of m.input st t ready.regs ready.args ready.ids) refused in
-      let entry_by : List Change → Entry = λ changes. Used t ready.seq ready.call ready.regs ready.args ready.ids outcome.result changes in
-      subst (λ (changes : List Change). (entry_of m.input st (choice.Thread t) ≡ Some (entry_by changes)) × Refines (with_parts m parts between shut) (state_after m.input st (entry_by changes)))
-      (sym (none_made m st is t pid ready next process row row_is outcome parts done_is [] none refl))
-      (entry_is m st is t pid ready next process row row_is outcome parts done_is [] none, refused_here m st is t pid ready next process row row_is outcome parts done_is none between closes)
 
   module _ (given : Ids) (well : set_refused ready.call ready.ids (slice_index_or ready.regs 0 0) ≡ None) (given_is : ids_after_set ready.call ready.ids (slice_index_or ready.regs 0 0) ≡ given) where
     effect_given : (st : State) → (effect (system_of m.input st) ready.call (request_of m.input st t ready.regs ready.args ready.ids)).changes ≡ SetIds given ∷ renewals (st.threads t).owner t (suc st.posted) (held_from st 1 (thread_count m.input))
     effect_given st = changes_set ready.call sets (system_of m.input st) (request_of m.input st t ready.regs ready.args ready.ids) well ∙ ap (λ (ids : Ids). SetIds ids ∷ renewals (st.threads t).owner t (suc st.posted) (held_from st 1 (thread_count m.input))) given_is
 
     -- the other held calls of its process can be renewed, with as many copies of its directory
-    pub can_set : (st : State) → Refines m st → CanRenew between (numbers_from parts.processes pid t 1 shut)
-    can_set st is = can_renew m st is t pid ready next process row row_is outcome parts done_is given (effect_given st) between closes
+    pub can_set : (st : State) → Refines m st → CanRenew between (numbers_from parts.processes ready.pid t 1 shut)
+    can_set st is = can_renew m st is t ready can row row_is outcome parts done_is given (effect_given st) between closes
 
-    pub copies_set : (st : State) → Refines m st → replicate (length (numbers_from m.system.processes pid t 1 m.threads)) (process_at m.system.processes pid).cwd ≡ replicate (length (numbers_from parts.processes pid t 1 shut)) (process_at parts.processes pid).cwd
-    copies_set st is = copies_stay m st is t pid ready next process row row_is outcome parts done_is given (effect_given st)
+    pub copies_set : (st : State) → Refines m st → replicate (length (numbers_from m.system.processes ready.pid t 1 m.threads)) (process_at m.system.processes ready.pid).cwd ≡ replicate (length (numbers_from parts.processes ready.pid t 1 shut)) (process_at parts.processes ready.pid).cwd
+    copies_set st is = copies_stay m st is t ready can row row_is outcome parts done_is given (effect_given st)
 
-    pub cwd_set : (st : State) → Refines m st → (process_at m.system.processes pid).cwd ≡ (process_at parts.processes pid).cwd
-    cwd_set st is = sym (cwd_stays m st is t pid ready next process row row_is outcome parts done_is given (effect_given st))
+    pub cwd_set : (st : State) → Refines m st → (process_at m.system.processes ready.pid).cwd ≡ (process_at parts.processes ready.pid).cwd
+    cwd_set st is = sym (cwd_stays m st is t ready can row row_is outcome parts done_is given (effect_given st))
 
-    pub there_set : (st : State) → Refines m st → IsPid m.system.processes pid → IsPid parts.processes pid
-    there_set st is there = there_stays m st is t pid ready next process row row_is outcome parts done_is given (effect_given st) there
+    pub there_set : (st : State) → Refines m st → IsPid parts.processes ready.pid
+    there_set st is = there_stays m st is t ready can row row_is outcome parts done_is given (effect_given st)
 
     pub room_set : (st : State) → Refines m st → between.calls.next + length shut < 2 ^ 64
     room_set st is =
@@ -359,12 +295,12 @@ module _ (m : Running) (t pid : ℕ) (ready : ReadyCall) (next : IsNextStep m t 
         omega (arith, room, old, new, same)
 
     -- a call that sets ids is made, and the other held calls of its process are renewed
-    pub setting : (left : UnderWay) (rows : List ThreadRow) → HaveRenewed parts.processes pid t shut between rows left
-        → IsStep m (choice.Thread t) (Some (Used t ready.seq ready.call ready.regs ready.args ready.ids outcome.result (SetIds given ∷ renewals_from m.workers.calls.next (numbers_from m.system.processes pid t 1 m.threads)))) (with_parts m parts left rows)
+    pub setting : (left : UnderWay) (rows : List ThreadRow) → HaveRenewed parts.processes ready.pid t shut between rows left
+        → IsStep m (choice.Thread t) (Some (Used t ready.drawing ready.call ready.regs ready.args ready.ids outcome.result (SetIds given ∷ renewals_from m.workers.calls.next (numbers_from m.system.processes ready.pid t 1 m.threads)))) (with_parts m parts left rows)
     setting left rows have = λ st is.
         let given_here = effect_given st in
-        let entry_by : ℕ → Entry = λ n. Used t ready.seq ready.call ready.regs ready.args ready.ids outcome.result (SetIds given ∷ renewals_from n (numbers_from m.system.processes pid t 1 m.threads)) in
+        let entry_by : ℕ → Entry = λ n. Used t ready.drawing ready.call ready.regs ready.args ready.ids outcome.result (SetIds given ∷ renewals_from n (numbers_from m.system.processes ready.pid t 1 m.threads)) in
         subst (λ (n : ℕ). (entry_of m.input st (choice.Thread t) ≡ Some (entry_by n)) × Refines (with_parts m parts left rows) (state_after m.input st (entry_by n))) (sym is.workers.agrees.next) (
-          entry_here m st is t pid ready next process row row_is outcome parts done_is given given_here,
-          set_here m st is t pid ready next process row row_is outcome parts done_is given given_here between closes rows left have,
+          entry_here m st is t ready can row row_is outcome parts done_is given given_here,
+          set_here m st is t ready can row row_is outcome parts done_is given given_here between closes rows left have,
         )

@@ -84,10 +84,20 @@ abbrev copies_of : Snapshot → Option Turn → Snapshot
 copies_of s None = s
 copies_of s (Some Idle) = s
 copies_of s (Some (Working q)) = s
-copies_of s (Some (Ready own)) = own
+copies_of s (Some (Ready q own)) = own
 
-pub same_copies : (kept : UnderWay) (w : ℕ) (one two : Snapshot) → turn_of_worker kept w ≡ Some (Ready one) → turn_of_worker kept w ≡ Some (Ready two) → one ≡ two
-same_copies kept w one two first second = ap (copies_of one) (sym first ∙ second)
+-- the drawing of the message that a worker is ready with, or the given one
+abbrev drawing_of : ℕ → Option Turn → ℕ
+drawing_of d None = d
+drawing_of d (Some Idle) = d
+drawing_of d (Some (Working q)) = d
+drawing_of d (Some (Ready q own)) = q
+
+pub same_copies : (kept : UnderWay) (w p q : ℕ) (one two : Snapshot) → turn_of_worker kept w ≡ Some (Ready p one) → turn_of_worker kept w ≡ Some (Ready q two) → one ≡ two
+same_copies kept w p q one two first second = ap (copies_of one) (sym first ∙ second)
+
+same_drawing : (kept : UnderWay) (w p q : ℕ) (one two : Snapshot) → turn_of_worker kept w ≡ Some (Ready p one) → turn_of_worker kept w ≡ Some (Ready q two) → p ≡ q
+same_drawing kept w p q one two first second = ap (drawing_of p) (sym first ∙ second)
 
 -- an answer is applied iff its number is live
 pub applied_as : (delivered : Delivered) (live : Bool) → ((delivered ≡ Applied) ↔ (live ≡ true)) → is_applied delivered ≡ live
@@ -193,17 +203,19 @@ module _ (m : Running) (w : ℕ) (new : UnderWay) where
       (follows m.input st (law.is_live st) (stands m.input st.messages st.turns (law.is_live st) st.posted is.workers))
 
   -- a ready worker answers
-  pub answered : (s : Snapshot) (v : Verdict) (applied : Bool) → turn_of_worker m.workers w ≡ Some (Ready s) → v ≡ verdict (filters_of s.rule (policy_of m.input.policies s.policy)) s
-      → ((i : Input) (st : State) (alive : ℕ → Bool) → RepresentsMessages i st alive m.workers → applied ≡ alive s.seq) → HasTask m w tasks.Answer
-      → ((i : Input) (st : State) (alive : ℕ → Bool) → RepresentsMessages i st alive m.workers → v ≡ verdict (filters_of s.rule (policy_of i.policies s.policy)) s → RepresentsMessagesAfter i st (entry.Answered w s v (alive s.seq)) alive new)
+  pub answered : (q : ℕ) (s : Snapshot) (v : Verdict) (applied : Bool) → turn_of_worker m.workers w ≡ Some (Ready q s) → v ≡ verdict (filters_of s.rule (policy_of m.input.policies s.policy)) s
+      → ((i : Input) (st : State) (alive : ℕ → Bool) → RepresentsMessages i st alive m.workers → applied ≡ alive q) → HasTask m w tasks.Answer
+      → ((i : Input) (st : State) (alive : ℕ → Bool) → RepresentsMessages i st alive m.workers → v ≡ verdict (filters_of s.rule (policy_of i.policies s.policy)) s → RepresentsMessagesAfter i st (entry.Answered w s v (alive q)) alive new)
       → IsStep m (choice.Worker w) (Some (entry.Answered w s v applied)) (with_workers m new)
-  answered s v applied ready judged lives task after = λ st is.
+  answered q s v applied ready judged lives task after = λ st is.
       let own = task.law m.input st is.workers in
-      let here : own.0 ≡ s = same_copies m.workers w own.0 s own.1 ready in
-      let applies : applied ≡ law.is_live st s.seq = lives m.input st (law.is_live st) is.workers in
+      let here : own.1 ≡ s = same_copies m.workers w own.0 q own.1 s own.2 ready in
+      let there : own.0 ≡ q = same_drawing m.workers w own.0 q own.1 s own.2 ready in
+      let applies : applied ≡ law.is_live st q = lives m.input st (law.is_live st) is.workers in
       answered_step m st is w new w s v applied
-      (own.2 ∙ ap (λ (x : Snapshot). Some (entry.Answered w x (verdict (filters_of x.rule (policy_of m.input.policies x.policy)) x) (law.is_live st x.seq))) here
-      ∙ ap (λ (x : Verdict). Some (entry.Answered w s x (law.is_live st s.seq))) (sym judged) ∙ ap (λ (b : Bool). Some (entry.Answered w s v b)) (sym applies))
+      (own.3 ∙ ap (λ (x : Snapshot). Some (entry.Answered w x (verdict (filters_of x.rule (policy_of m.input.policies x.policy)) x) (law.is_live st own.0))) here
+      ∙ ap (λ (n : ℕ). Some (entry.Answered w s (verdict (filters_of s.rule (policy_of m.input.policies s.policy)) s) (law.is_live st n))) there
+      ∙ ap (λ (x : Verdict). Some (entry.Answered w s x (law.is_live st q))) (sym judged) ∙ ap (λ (b : Bool). Some (entry.Answered w s v b)) (sym applies))
       (subst (λ (b : Bool). RepresentsMessagesAfter m.input st (entry.Answered w s v b) (law.is_live st) new) (sym applies) (after m.input st (law.is_live st) is.workers judged))
 
 -- the process of a live message exists

@@ -1,18 +1,17 @@
 // The steps of threads. Each changes the machine as its entry says, and stores the entry in the caller's `added`. An entry has many words,
 // so it is written once and not passed on. It is written when nothing can fail any more, so that `added` is unchanged if a step fails.
-ghost use Rattle.std.specs.Prelude.{◌≡◌, OnOk, OnErr, Some};
+ghost use Rattle.std.specs.Prelude.{◌≡◌, OnOk, OnErr};
 ghost use Rattle.st_decide.specs.Machine.{IsNextStep, IsStep, SameState};
-ghost use Rattle.st_decide.specs.NextSteps.{CanBeDone};
-ghost use Rattle.st_model.specs.Processes.{pid_of, IsPid};
+ghost use Rattle.st_decide.specs.NextSteps.{CanStep};
 ghost use Rattle.st_decide.specs.declared.step.Step.TheVariants as steps;
 ghost use Rattle.st_trace.specs.declared.entry.Choice.TheVariants.{Thread};
 
 use crate::machine::Machine;
 use crate::placing::{leave, leave_none};
-use st_base::{Errno, Ids, Pid, Seq, Sequence, Tid};
-use st_calls::SysCall;
-use st_decide::{ReadyCall, Step};
-use st_trace::{CallArgs, CallResult, Cause, Entry};
+use st_base::Tid;
+use st_decide::{DeniedCall, FailedCall, Step, StoredWord};
+use st_threads::end_call;
+use st_trace::Entry;
 use std::alloc::{AllocError, Global};
 
 impl<'a> Machine<'a> {
@@ -32,16 +31,16 @@ impl<'a> Machine<'a> {
         &mut self,
         alloc: Global,
         tid: Tid,
-        place: u32,
-        word: u64,
+        stored: StoredWord,
         added: &mut Option<Entry>,
     ) -> Result<(), AllocError>
-        requires { IsNextStep self.old tid (steps.Store place word) }
+        requires { IsNextStep self.old tid (steps.Store stored) }
         ensures step { OnOk result (IsStep self.old (Thread tid) added.new self.new) }
         ensures err { OnErr result (SameState self.old self.new) }
         ensures place { OnErr result (added.new ≡ added.old) }
         ensures input { self.new.input ≡ self.old.input }
     {
+        let StoredWord { place, word } = stored;
         self.system.store(alloc, tid, place, word)?;
         self.threads[tid as usize - 1].go_on();
         leave(added, Entry::Stored { tid, place, word });
@@ -49,95 +48,24 @@ impl<'a> Machine<'a> {
     }
 
     // Lets a thread's call that isn't held fail before it is made.
-    fn fail(
-        &mut self,
-        alloc: Global,
-        tid: Tid,
-        call: SysCall,
-        regs: [u64; 6],
-        ids: Ids,
-        errno: Errno,
-        added: &mut Option<Entry>,
-    )
-        requires { IsNextStep self.old tid (steps.Fail call regs ids errno) }
+    fn fail(&mut self, alloc: Global, tid: Tid, failed: FailedCall, added: &mut Option<Entry>)
+        requires { IsNextStep self.old tid (steps.Fail failed) }
         ensures step { IsStep self.old (Thread tid) added.new self.new }
         ensures input { self.new.input ≡ self.old.input }
     {
         self.threads[tid as usize - 1].close();
-        let failed = ReadyCall {
-            seq: None,
-            call,
-            regs,
-            args: CallArgs::own(Sequence::new(alloc)),
-            ids,
-        };
-        leave(
-            added,
-            failed.entry(tid, CallResult::Failed(errno), Sequence::new(alloc)),
-        );
+        leave(added, failed.entry(alloc, tid));
     }
 
-    // Denies a thread's barred call.
-    fn deny_barred(&mut self, tid: Tid, errno: Errno, cause: Cause, added: &mut Option<Entry>)
-        requires { IsNextStep self.old tid (steps.Deny None errno cause) }
+    // Denies a thread's call. The number of a held call ends.
+    fn deny(&mut self, tid: Tid, denied: DeniedCall, added: &mut Option<Entry>)
+        requires { IsNextStep self.old tid (steps.Deny denied) }
         ensures step { IsStep self.old (Thread tid) added.new self.new }
         ensures input { self.new.input ≡ self.old.input }
     {
         self.threads[tid as usize - 1].close();
-        leave(
-            added,
-            Entry::Denied {
-                tid,
-                seq: None,
-                errno,
-                cause,
-            },
-        );
-    }
-
-    // Denies a thread's held call, and ends its number.
-    fn deny_held(
-        &mut self,
-        tid: Tid,
-        seq: Seq,
-        errno: Errno,
-        cause: Cause,
-        added: &mut Option<Entry>,
-    )
-        requires { IsNextStep self.old tid (steps.Deny (Some seq) errno cause) }
-        ensures step { IsStep self.old (Thread tid) added.new self.new }
-        ensures input { self.new.input ≡ self.old.input }
-    {
-        self.threads[tid as usize - 1].close();
-        self.workers.cancel(seq);
-        leave(
-            added,
-            Entry::Denied {
-                tid,
-                seq: Some(seq),
-                errno,
-                cause,
-            },
-        );
-    }
-
-    // Denies a thread's call.
-    fn deny(
-        &mut self,
-        tid: Tid,
-        seq: Option<Seq>,
-        errno: Errno,
-        cause: Cause,
-        added: &mut Option<Entry>,
-    )
-        requires { IsNextStep self.old tid (steps.Deny seq errno cause) }
-        ensures step { IsStep self.old (Thread tid) added.new self.new }
-        ensures input { self.new.input ≡ self.old.input }
-    {
-        match seq {
-            Some(seq) => self.deny_held(tid, seq, errno, cause, added),
-            None => self.deny_barred(tid, errno, cause, added),
-        }
+        end_call(&mut self.workers, denied.drawing);
+        leave(added, denied.entry(tid));
     }
 
     // Does a thread's next step. A step that waits adds no entry. If memory runs out, the abstract state is unchanged.
@@ -145,22 +73,18 @@ impl<'a> Machine<'a> {
         &mut self,
         alloc: Global,
         tid: Tid,
-        pid: Pid,
         step: Step,
         added: &mut Option<Entry>,
     ) -> Result<(), AllocError>
-        requires next { IsNextStep self.old tid step }
-        requires can { CanBeDone self.old.system step }
-        requires process { pid_of self.old.system.processes tid ≡ Some pid }
-        requires there { IsPid self.old.system.processes pid }
+        requires { CanStep self.old tid step }
         ensures step { OnOk result (IsStep self.old (Thread tid) added.new self.new) }
         ensures err { OnErr result (SameState self.old self.new) }
         ensures place { OnErr result (added.new ≡ added.old) }
         ensures input { self.new.input ≡ self.old.input }
     {
         match step {
-            Step::Enter { call, regs } => self.enter(alloc, tid, pid, call, regs, added),
-            Step::Make(ready) => self.use_call(alloc, tid, pid, ready, added),
+            Step::Enter(new) => self.enter(alloc, tid, &new, added),
+            Step::Make(ready) => self.use_call(alloc, tid, ready, added),
             Step::Wait => {
                 leave_none(added);
                 Ok(())
@@ -169,18 +93,13 @@ impl<'a> Machine<'a> {
                 self.end(tid, added);
                 Ok(())
             }
-            Step::Store { place, word } => self.store(alloc, tid, place, word, added),
-            Step::Fail {
-                call,
-                regs,
-                ids,
-                errno,
-            } => {
-                self.fail(alloc, tid, call, regs, ids, errno, added);
+            Step::Store(stored) => self.store(alloc, tid, stored, added),
+            Step::Fail(failed) => {
+                self.fail(alloc, tid, failed, added);
                 Ok(())
             }
-            Step::Deny { seq, errno, cause } => {
-                self.deny(tid, seq, errno, cause, added);
+            Step::Deny(denied) => {
+                self.deny(tid, denied, added);
                 Ok(())
             }
         }
@@ -199,11 +118,7 @@ impl<'a> Machine<'a> {
         ensures place { OnErr result (added.new ≡ added.old) }
         ensures input { self.new.input ≡ self.old.input }
     {
-        let Some(pid) = self.system.pid_of(tid) else {
-            leave_none(added);
-            return Ok(());
-        };
         let step = self.view().next_step(alloc, tid)?;
-        self.act(alloc, tid, pid, step, added)
+        self.act(alloc, tid, step, added)
     }
 }

@@ -148,13 +148,13 @@ impl<'a> Machine<'a> {
     pub fn view(&self) -> View<'_, 'a>
         ensures { result ≡ self.now }
     {
-        View::new(
-            self.input,
-            &self.system,
-            &self.workers,
-            &self.threads,
-            &self.answers,
-            &self.operator,
-        )
+        View {
+            input: self.input,
+            system: &self.system,
+            workers: &self.workers,
+            threads: &self.threads,
+            answers: &self.answers,
+            operator: &self.operator,
+        }
     }
 }

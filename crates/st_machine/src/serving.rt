@@ -8,11 +8,27 @@ ghost use Rattle.st_workers.specs.declared.task.Task.TheVariants as tasks;
 
 use crate::machine::Machine;
 use crate::placing::{leave, leave_none};
-use st_base::{Errno, Pid, Seq, Worker};
+use st_base::{Drawing, Errno, Pid, Worker};
 use st_messages::Delivered;
 use st_trace::Entry;
 use st_workers::Task;
 use std::alloc::{AllocError, Global};
+
+// What a worker copies: the word with an index in the memory of this process, for a part of a message.
+#[derive(Clone, Copy, Debug)]
+struct WordToCopy {
+    drawing: Drawing,
+    pid: Pid,
+    part: u32,
+    place: u32,
+}
+
+// The name that a worker looks at next, for a part of a message.
+#[derive(Clone, Copy, Debug)]
+struct NameToLook {
+    drawing: Drawing,
+    part: u32,
+}
 
 // Whether an answer was applied.
 fn is_applied(delivered: Delivered) -> bool
@@ -46,14 +62,27 @@ impl<'a> Machine<'a> {
             }
             Task::Claim => self.claim(alloc, worker, added),
             Task::Copy {
-                seq,
+                drawing,
                 pid,
                 part,
                 place,
-            } => self.copy(alloc, worker, seq, pid, part, place, added),
-            Task::Look { seq, part } => self.look(alloc, worker, seq, part, added),
-            Task::Fault { seq, errno } => {
-                self.fault(worker, seq, errno, added);
+            } => {
+                let asked = WordToCopy {
+                    drawing,
+                    pid,
+                    part,
+                    place,
+                };
+                self.copy(alloc, worker, asked, added)
+            }
+            Task::Look { drawing, part } => self.look(
+                alloc,
+                worker,
+                NameToLook { drawing, part },
+                added,
+            ),
+            Task::Fault { drawing, errno } => {
+                self.fault(worker, drawing, errno, added);
                 Ok(())
             }
             Task::Answer => {
@@ -76,36 +105,39 @@ impl<'a> Machine<'a> {
         ensures place { OnErr result (added.new ≡ added.old) }
         ensures input { self.new.input ≡ self.old.input }
     {
-        let seq = self.workers.claim(alloc, worker)?;
-        leave(added, Entry::Claimed { worker, seq });
+        let drawing = self.workers.claim(alloc, worker)?;
+        leave(
+            added,
+            Entry::Claimed {
+                worker,
+                seq: drawing,
+            },
+        );
         Ok(())
     }
 
-    // Lets a worker copy the word with an index in the memory of this process, which is its message's.
+    // Lets a worker copy a word of its message's process.
     fn copy(
         &mut self,
         alloc: Global,
         worker: Worker,
-        seq: Seq,
-        pid: Pid,
-        part: u32,
-        place: u32,
+        asked: WordToCopy,
         added: &mut Option<Entry>,
     ) -> Result<(), AllocError>
-        requires task { HasTask self.old worker (tasks.Copy seq pid part place) }
+        requires { HasTask self.old worker (tasks.Copy asked.drawing asked.pid asked.part asked.place) }
         ensures step { OnOk result (IsStep self.old (Worker worker) added.new self.new) }
         ensures err { OnErr result (SameState self.old self.new) }
         ensures place { OnErr result (added.new ≡ added.old) }
         ensures input { self.new.input ≡ self.old.input }
     {
-        let word = self.system.word(pid, place);
+        let word = self.system.word(asked.pid, asked.place);
         self.workers.copy(alloc, worker, word)?;
         leave(
             added,
             Entry::Copied {
-                seq,
-                part,
-                place,
+                seq: asked.drawing,
+                part: asked.part,
+                place: asked.place,
                 word,
             },
         );
@@ -117,11 +149,10 @@ impl<'a> Machine<'a> {
         &mut self,
         alloc: Global,
         worker: Worker,
-        seq: Seq,
-        part: u32,
+        asked: NameToLook,
         added: &mut Option<Entry>,
     ) -> Result<(), AllocError>
-        requires { HasTask self.old worker (tasks.Look seq part) }
+        requires { HasTask self.old worker (tasks.Look asked.drawing asked.part) }
         ensures step { OnOk result (IsStep self.old (Worker worker) added.new self.new) }
         ensures err { OnErr result (SameState self.old self.new) }
         ensures place { OnErr result (added.new ≡ added.old) }
@@ -134,8 +165,8 @@ impl<'a> Machine<'a> {
         leave(
             added,
             Entry::Looked {
-                seq,
-                part,
+                seq: asked.drawing,
+                part: asked.part,
                 name,
                 seen: text,
             },
@@ -144,13 +175,19 @@ impl<'a> Machine<'a> {
     }
 
     // Lets a worker mark its message as faulted with this error.
-    fn fault(&mut self, worker: Worker, seq: Seq, errno: Errno, added: &mut Option<Entry>)
-        requires { HasTask self.old worker (tasks.Fault seq errno) }
+    fn fault(&mut self, worker: Worker, drawing: Drawing, errno: Errno, added: &mut Option<Entry>)
+        requires { HasTask self.old worker (tasks.Fault drawing errno) }
         ensures step { IsStep self.old (Worker worker) added.new self.new }
         ensures input { self.new.input ≡ self.old.input }
     {
         self.workers.fault(worker);
-        leave(added, Entry::Faulted { seq, errno });
+        leave(
+            added,
+            Entry::Faulted {
+                seq: drawing,
+                errno,
+            },
+        );
     }
 
     // Lets a ready worker answer with the verdict of the filters that were read on its copies.
@@ -162,7 +199,7 @@ impl<'a> Machine<'a> {
     {
         let copies = self.workers.copies(worker);
         let verdict = self.answers.compiled().decide(copies);
-        let (snapshot, delivered) = self.workers.answer(worker, verdict);
+        let (_, snapshot, delivered) = self.workers.answer(worker, verdict);
         leave(
             added,
             Entry::Answered {

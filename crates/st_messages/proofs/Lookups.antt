@@ -28,31 +28,31 @@ abbrev pub moved : MsgState → Message → Message
 moved state message = record message { state = state }
 
 -- the state of the message at an index is changed
-pub set-at : (live : List Message) (seq : ℕ) (state : MsgState) (i : ℕ) (d : Message) → i < length live → is_message_of seq (get_or live i d) ≡ true → ((k : ℕ) → k < i → is_message_of seq (get_or live k d) ≡ false)
-    → set live i (record (get_or live i d) { state = state }) ≡ with_state_in live seq state
-set-at [] seq state i d inside here before = absurd (omega arith)
-set-at (m ∷ live) seq state zero d inside here before = rw here refl
-set-at (m ∷ live) seq state (suc i) d inside here before =
-    rw (before 0 (omega arith)) (ap (λ ms. m ∷ ms) (set-at live seq state i d (omega arith) here (λ k below. before (suc k) (omega arith))))
+pub set-at : (live : List Message) (drawing : ℕ) (state : MsgState) (i : ℕ) (d : Message) → i < length live → is_message_of drawing (get_or live i d) ≡ true → ((k : ℕ) → k < i → is_message_of drawing (get_or live k d) ≡ false)
+    → set live i (record (get_or live i d) { state = state }) ≡ with_state_in live drawing state
+set-at [] drawing state i d inside here before = absurd (omega arith)
+set-at (m ∷ live) drawing state zero d inside here before = rw here refl
+set-at (m ∷ live) drawing state (suc i) d inside here before =
+    rw (before 0 (omega arith)) (ap (λ ms. m ∷ ms) (set-at live drawing state i d (omega arith) here (λ k below. before (suc k) (omega arith))))
 
-found_moved-by : (m : Message) (live : List Message) (seq other : ℕ) (state : MsgState) (a b : Bool) → (m.seq == seq) ≡ a → (m.seq == other) ≡ b
-    → message_in (with_state_in live seq state) other ≡ cond (other == seq) (option_map (moved state) (message_in live seq)) (message_in live other)
-    → message_in (with_state_in (m ∷ live) seq state) other ≡ cond (other == seq) (option_map (moved state) (message_in (m ∷ live) seq)) (message_in (m ∷ live) other)
-found_moved-by m live seq other state true true is_seq is_other more =
-    let same : (other == seq) ≡ true = eq-eqb other seq (sym (eqb-true m.seq other is_other) ∙ eqb-true m.seq seq is_seq) in
-    rw (is_seq, same, is_other) refl
-found_moved-by m live seq other state true false is_seq is_other more =
-    let apart : (other == seq) ≡ false = ne_eqb other seq (λ e. true≢false (sym (eq-eqb m.seq other (eqb-true m.seq seq is_seq ∙ sym e)) ∙ is_other)) in
-    rw (is_seq, apart, is_other) refl
-found_moved-by m live seq other state false true is_seq is_other more =
-    let apart : (other == seq) ≡ false = ne_eqb other seq (λ e. true≢false (sym (eq-eqb m.seq seq (eqb-true m.seq other is_other ∙ e)) ∙ is_seq)) in
-    rw (is_seq, apart, is_other) refl
-found_moved-by m live seq other state false false is_seq is_other more = rw (is_seq, is_other) more
+found_moved-by : (m : Message) (live : List Message) (drawing other : ℕ) (state : MsgState) (a b : Bool) → (m.drawing == drawing) ≡ a → (m.drawing == other) ≡ b
+    → message_in (with_state_in live drawing state) other ≡ cond (other == drawing) (option_map (moved state) (message_in live drawing)) (message_in live other)
+    → message_in (with_state_in (m ∷ live) drawing state) other ≡ cond (other == drawing) (option_map (moved state) (message_in (m ∷ live) drawing)) (message_in (m ∷ live) other)
+found_moved-by m live drawing other state true true is_drawing is_other more =
+    let same : (other == drawing) ≡ true = eq-eqb other drawing (sym (eqb-true m.drawing other is_other) ∙ eqb-true m.drawing drawing is_drawing) in
+    rw (is_drawing, same, is_other) refl
+found_moved-by m live drawing other state true false is_drawing is_other more =
+    let apart : (other == drawing) ≡ false = ne_eqb other drawing (λ e. true≢false (sym (eq-eqb m.drawing other (eqb-true m.drawing drawing is_drawing ∙ sym e)) ∙ is_other)) in
+    rw (is_drawing, apart, is_other) refl
+found_moved-by m live drawing other state false true is_drawing is_other more =
+    let apart : (other == drawing) ≡ false = ne_eqb other drawing (λ e. true≢false (sym (eq-eqb m.drawing drawing (eqb-true m.drawing other is_other ∙ e)) ∙ is_drawing)) in
+    rw (is_drawing, apart, is_other) refl
+found_moved-by m live drawing other state false false is_drawing is_other more = rw (is_drawing, is_other) more
 
 -- the message of that number is changed, and each other is unchanged
-pub found_moved : (live : List Message) (seq other : ℕ) (state : MsgState) → message_in (with_state_in live seq state) other ≡ cond (other == seq) (option_map (moved state) (message_in live seq)) (message_in live other)
-found_moved [] seq other state = sym (cond_none (other == seq))
-found_moved (m ∷ live) seq other state = found_moved-by m live seq other state (m.seq == seq) (m.seq == other) refl refl (found_moved live seq other state)
+pub found_moved : (live : List Message) (drawing other : ℕ) (state : MsgState) → message_in (with_state_in live drawing state) other ≡ cond (other == drawing) (option_map (moved state) (message_in live drawing)) (message_in live other)
+found_moved [] drawing other state = sym (cond_none (other == drawing))
+found_moved (m ∷ live) drawing other state = found_moved-by m live drawing other state (m.drawing == drawing) (m.drawing == other) refl refl (found_moved live drawing other state)
 
 -- ---- the index of a message
 
@@ -74,115 +74,115 @@ found_first test live i d is =
     find_at test live ∙ ap (slice_get live) at ∙ slice_get-get_or live i d first.0
 
 module _ (live : List Message) (from to i : ℕ) (m : Message) (are : AreBetween from live to) (inside : i < length live) (m_is : m ≡ get_or live i m) where
-  here : is_message_of m.seq (get_or live i m) ≡ true
-  here = eq-eqb (get_or live i m).seq m.seq (ap (λ (x : Message). x.seq) (sym m_is))
+  here : is_message_of m.drawing (get_or live i m) ≡ true
+  here = eq-eqb (get_or live i m).drawing m.drawing (ap (λ (x : Message). x.drawing) (sym m_is))
 
-  before : (k : ℕ) → k < i → is_message_of m.seq (get_or live k m) ≡ false
+  before : (k : ℕ) → k < i → is_message_of m.drawing (get_or live k m) ≡ false
   before k below =
-      let less : (get_or live k m).seq < m.seq = subst (λ (x : Message). (get_or live k m).seq < x.seq) (sym m_is) (numbers_go_up live from to i k m are inside below) in
-      ne_eqb (get_or live k m).seq m.seq (λ e. omega (arith, e, less))
+      let less : (get_or live k m).drawing < m.drawing = subst (λ (x : Message). (get_or live k m).drawing < x.drawing) (sym m_is) (numbers_go_up live from to i k m are inside below) in
+      ne_eqb (get_or live k m).drawing m.drawing (λ e. omega (arith, e, less))
 
   -- a message is found at its index
-  pub found_there : message_in live m.seq ≡ Some m
+  pub found_there : message_in live m.drawing ≡ Some m
   found_there =
-      find_at (is_message_of m.seq) live
-      ∙ ap (slice_get live) (position_or_len_is (is_message_of m.seq) live i m (omega (arith, inside)) before (λ _. here))
+      find_at (is_message_of m.drawing) live
+      ∙ ap (slice_get live) (position_or_len_is (is_message_of m.drawing) live i m (omega (arith, inside)) before (λ _. here))
       ∙ slice_get-get_or live i m inside
       ∙ ap Some (sym m_is)
 
   -- the state of a message is changed at its index
-  pub set-placed : (state : MsgState) → set live i (moved state m) ≡ with_state_in live m.seq state
-  set-placed state = ap (λ (x : Message). set live i (moved state x)) m_is ∙ set-at live m.seq state i m inside here before
+  pub set-placed : (state : MsgState) → set live i (moved state m) ≡ with_state_in live m.drawing state
+  set-placed state = ap (λ (x : Message). set live i (moved state x)) m_is ∙ set-at live m.drawing state i m inside here before
 
 -- ---- the index of a number
 
-module _ (live : List Message) (from to seq : ℕ) (are : AreBetween from live to) where
+module _ (live : List Message) (from to drawing : ℕ) (are : AreBetween from live to) where
   -- no smaller number comes after a greater one
-  pub parted : IsPartitionedBy (λ (m : Message). nat_lt m.seq seq) live
+  pub parted : IsPartitionedBy (λ (m : Message). nat_lt m.drawing drawing) live
   parted i j d le inside passes = elim (cases_lt i j) [
-    | inl lt ↦ (let less = numbers_go_up live from to j i d are inside lt in let top = ltb-true (get_or live j d).seq seq passes in lt-ltb (get_or live i d).seq seq (omega (arith, less, top)))
-    | inr ge ↦ (let same : i ≡ j = omega (arith, le, ge) in ap (λ (n : ℕ). nat_lt (get_or live n d).seq seq) same ∙ passes)
+    | inl lt ↦ (let less = numbers_go_up live from to j i d are inside lt in let top = ltb-true (get_or live j d).drawing drawing passes in lt-ltb (get_or live i d).drawing drawing (omega (arith, less, top)))
+    | inr ge ↦ (let same : i ≡ j = omega (arith, le, ge) in ap (λ (n : ℕ). nat_lt (get_or live n d).drawing drawing) same ∙ passes)
   ]
 
   abbrev index : ℕ → Option ℕ
   index n = cond (nat_lt n (length live)) (Some n) None
 
   -- a message with the number is at its index
-  pub position_there : (i : ℕ) (d : Message) → i < length live → (get_or live i d).seq ≡ seq → position (is_message_of seq) live ≡ Some i
+  pub position_there : (i : ℕ) (d : Message) → i < length live → (get_or live i d).drawing ≡ drawing → position (is_message_of drawing) live ≡ Some i
   position_there i d inside is =
-      let at = position_or_len_is (is_message_of seq) live i d (omega (arith, inside)) (λ k below. ne_eqb (get_or live k d).seq seq (λ e. omega (arith, e, is, numbers_go_up live from to i k d are inside below))) (λ _. eq-eqb (get_or live i d).seq seq is) in
+      let at = position_or_len_is (is_message_of drawing) live i d (omega (arith, inside)) (λ k below. ne_eqb (get_or live k d).drawing drawing (λ e. omega (arith, e, is, numbers_go_up live from to i k d are inside below))) (λ _. eq-eqb (get_or live i d).drawing drawing is) in
       ap index at ∙ rw (lt-ltb i (length live) inside) refl
 
   -- no message has the number
-  position_nowhere : (d : Message) → ((k : ℕ) → k < length live → (get_or live k d).seq ≢ seq) → position (is_message_of seq) live ≡ None
+  position_nowhere : (d : Message) → ((k : ℕ) → k < length live → (get_or live k d).drawing ≢ drawing) → position (is_message_of drawing) live ≡ None
   position_nowhere d none =
-      let at = position_or_len_is (is_message_of seq) live (length live) d (omega arith) (λ k inside. ne_eqb (get_or live k d).seq seq (none k inside)) (λ inside. absurd (omega (arith, inside))) in
+      let at = position_or_len_is (is_message_of drawing) live (length live) d (omega arith) (λ k inside. ne_eqb (get_or live k d).drawing drawing (none k inside)) (λ inside. absurd (omega (arith, inside))) in
       ap index at ∙ rw (le-ltb (length live) (length live) (omega arith)) refl
 
-  module _ (i : ℕ) (point : IsPartitionPoint (λ (m : Message). nat_lt m.seq seq ≡ true) (λ (m : Message). nat_lt m.seq seq ≡ false) live i) where
-    less : (k : ℕ) (d : Message) → k < i → (get_or live k d).seq ≢ seq
-    less k d before e = let lt = ltb-true (get_or live k d).seq seq (point.0 k d (omega arith) before) in omega (arith, lt, e)
+  module _ (i : ℕ) (point : IsPartitionPoint (λ (m : Message). nat_lt m.drawing drawing ≡ true) (λ (m : Message). nat_lt m.drawing drawing ≡ false) live i) where
+    less : (k : ℕ) (d : Message) → k < i → (get_or live k d).drawing ≢ drawing
+    less k d before e = let lt = ltb-true (get_or live k d).drawing drawing (point.0 k d (omega arith) before) in omega (arith, lt, e)
 
     -- all numbers are smaller
-    pub position_past : length live ≤ i → position (is_message_of seq) live ≡ None
+    pub position_past : length live ≤ i → position (is_message_of drawing) live ≡ None
     position_past end = position_nowhere (waiting_message 0 0) (λ k inside. less k (waiting_message 0 0) (omega (arith, end, inside)))
 
     -- the numbers are smaller or greater
-    pub position_between : (d : Message) → i < length live → (get_or live i d).seq ≢ seq → position (is_message_of seq) live ≡ None
+    pub position_between : (d : Message) → i < length live → (get_or live i d).drawing ≢ drawing → position (is_message_of drawing) live ≡ None
     position_between d inside apart = position_nowhere d (λ k within. elim (cases_lt k i) [
       | inl lt ↦ less k d lt
-      | inr ge ↦ (let least = ltb-false (get_or live i d).seq seq (point.1 i d (omega arith) inside) in elim (cases_eq k i) [
-        | inl e ↦ (λ same. apart (ap (λ (n : ℕ). (get_or live n d).seq) (sym e) ∙ same))
+      | inr ge ↦ (let least = ltb-false (get_or live i d).drawing drawing (point.1 i d (omega arith) inside) in elim (cases_eq k i) [
+        | inl e ↦ (λ same. apart (ap (λ (n : ℕ). (get_or live n d).drawing) (sym e) ∙ same))
         | inr ne ↦ (let more = numbers_go_up live from to k i d are within (omega (arith, ge, ne)) in λ same. omega (arith, more, least, same))
       ])
     ])
 
 -- ---- a message is removed
 
-none_without : (live : List Message) (from to seq : ℕ) → AreBetween from live to → seq < from → without_number live seq ≡ live
-none_without [] from to seq are below = refl
-none_without (m ∷ live) from to seq are below =
-    rw (ne_eqb m.seq seq (λ e. omega (arith, e, are.0))) (ap (λ (ms : List Message). m ∷ ms) (none_without live (suc m.seq) to seq are.1 (omega (arith, are.0))))
+none_without : (live : List Message) (from to drawing : ℕ) → AreBetween from live to → drawing < from → without_number live drawing ≡ live
+none_without [] from to drawing are below = refl
+none_without (m ∷ live) from to drawing are below =
+    rw (ne_eqb m.drawing drawing (λ e. omega (arith, e, are.0))) (ap (λ (ms : List Message). m ∷ ms) (none_without live (suc m.drawing) to drawing are.1 (omega (arith, are.0))))
 
 -- the message of a number is removed at its index
-pub removed-at : (live : List Message) (from to seq i : ℕ) (d : Message) → AreBetween from live to → i < length live → (get_or live i d).seq ≡ seq → remove live i ≡ without_number live seq
-removed-at [] from to seq i d are inside is = absurd (omega (arith, inside))
-removed-at (m ∷ live) from to seq zero d are inside is =
-    rw (eq-eqb m.seq seq is) (sym (none_without live (suc m.seq) to seq are.1 (omega (arith, is))))
-removed-at (m ∷ live) from to seq (suc i) d are inside is =
+pub removed-at : (live : List Message) (from to drawing i : ℕ) (d : Message) → AreBetween from live to → i < length live → (get_or live i d).drawing ≡ drawing → remove live i ≡ without_number live drawing
+removed-at [] from to drawing i d are inside is = absurd (omega (arith, inside))
+removed-at (m ∷ live) from to drawing zero d are inside is =
+    rw (eq-eqb m.drawing drawing is) (sym (none_without live (suc m.drawing) to drawing are.1 (omega (arith, is))))
+removed-at (m ∷ live) from to drawing (suc i) d are inside is =
     let less = numbers_go_up (m ∷ live) from to (suc i) 0 d are inside (omega arith) in
-    rw (ne_eqb m.seq seq (λ e. omega (arith, e, is, less))) (ap (λ (ms : List Message). m ∷ ms) (removed-at live (suc m.seq) to seq i d are.1 (omega (arith, inside)) is))
+    rw (ne_eqb m.drawing drawing (λ e. omega (arith, e, is, less))) (ap (λ (ms : List Message). m ∷ ms) (removed-at live (suc m.drawing) to drawing i d are.1 (omega (arith, inside)) is))
 
-found_without-by : (m : Message) (live : List Message) (seq other : ℕ) (a b : Bool) → (m.seq == seq) ≡ a → (m.seq == other) ≡ b
-    → message_in (without_number live seq) other ≡ cond (other == seq) None (message_in live other)
-    → message_in (without_number (m ∷ live) seq) other ≡ cond (other == seq) None (message_in (m ∷ live) other)
-found_without-by m live seq other true true is_seq is_other more =
-    let same : (other == seq) ≡ true = eq-eqb other seq (sym (eqb-true m.seq other is_other) ∙ eqb-true m.seq seq is_seq) in
-    let none : message_in (without_number live seq) other ≡ None = more ∙ rw same refl in
-    rw (is_seq, same) none
-found_without-by m live seq other true false is_seq is_other more = rw (is_seq, is_other) more
-found_without-by m live seq other false true is_seq is_other more =
-    let apart : (other == seq) ≡ false = ne_eqb other seq (λ e. true≢false (sym (eq-eqb m.seq seq (eqb-true m.seq other is_other ∙ e)) ∙ is_seq)) in
-    rw (is_seq, apart, is_other) refl
-found_without-by m live seq other false false is_seq is_other more = rw (is_seq, is_other) more
+found_without-by : (m : Message) (live : List Message) (drawing other : ℕ) (a b : Bool) → (m.drawing == drawing) ≡ a → (m.drawing == other) ≡ b
+    → message_in (without_number live drawing) other ≡ cond (other == drawing) None (message_in live other)
+    → message_in (without_number (m ∷ live) drawing) other ≡ cond (other == drawing) None (message_in (m ∷ live) other)
+found_without-by m live drawing other true true is_drawing is_other more =
+    let same : (other == drawing) ≡ true = eq-eqb other drawing (sym (eqb-true m.drawing other is_other) ∙ eqb-true m.drawing drawing is_drawing) in
+    let none : message_in (without_number live drawing) other ≡ None = more ∙ rw same refl in
+    rw (is_drawing, same) none
+found_without-by m live drawing other true false is_drawing is_other more = rw (is_drawing, is_other) more
+found_without-by m live drawing other false true is_drawing is_other more =
+    let apart : (other == drawing) ≡ false = ne_eqb other drawing (λ e. true≢false (sym (eq-eqb m.drawing drawing (eqb-true m.drawing other is_other ∙ e)) ∙ is_drawing)) in
+    rw (is_drawing, apart, is_other) refl
+found_without-by m live drawing other false false is_drawing is_other more = rw (is_drawing, is_other) more
 
 -- no message is found under that number, and each other is unchanged
-pub found_without : (live : List Message) (seq other : ℕ) → message_in (without_number live seq) other ≡ cond (other == seq) None (message_in live other)
-found_without [] seq other = sym (cond_none (other == seq))
-found_without (m ∷ live) seq other = found_without-by m live seq other (m.seq == seq) (m.seq == other) refl refl (found_without live seq other)
+pub found_without : (live : List Message) (drawing other : ℕ) → message_in (without_number live drawing) other ≡ cond (other == drawing) None (message_in live other)
+found_without [] drawing other = sym (cond_none (other == drawing))
+found_without (m ∷ live) drawing other = found_without-by m live drawing other (m.drawing == drawing) (m.drawing == other) refl refl (found_without live drawing other)
 
 -- ---- a message is appended
 
 -- each other number is unchanged
-pub found_other : (live : List Message) (seq tid other : ℕ) → other ≢ seq → message_in (live ++ waiting_message seq tid ∷ []) other ≡ message_in live other
-found_other live seq tid other apart =
-    find-append (is_message_of other) live (waiting_message seq tid ∷ []) ∙ rw (ne_eqb seq other (λ e. apart (sym e))) (option_or_none (message_in live other))
+pub found_other : (live : List Message) (drawing tid other : ℕ) → other ≢ drawing → message_in (live ++ waiting_message drawing tid ∷ []) other ≡ message_in live other
+found_other live drawing tid other apart =
+    find-append (is_message_of other) live (waiting_message drawing tid ∷ []) ∙ rw (ne_eqb drawing other (λ e. apart (sym e))) (option_or_none (message_in live other))
 
 -- the message is found under its number, and each other is unchanged
-pub found_posted : (live : List Message) (seq tid other : ℕ) → message_in live seq ≡ None → message_in (live ++ waiting_message seq tid ∷ []) other ≡ cond (other == seq) (Some (waiting_message seq tid)) (message_in live other)
-found_posted live seq tid other none = elim (cases_eq other seq) [
+pub found_posted : (live : List Message) (drawing tid other : ℕ) → message_in live drawing ≡ None → message_in (live ++ waiting_message drawing tid ∷ []) other ≡ cond (other == drawing) (Some (waiting_message drawing tid)) (message_in live other)
+found_posted live drawing tid other none = elim (cases_eq other drawing) [
   | inl e ↦
       let none_there : message_in live other ≡ None = ap (message_in live) e ∙ none in
-      find-append (is_message_of other) live (waiting_message seq tid ∷ []) ∙ rw (none_there, eq-eqb seq other (sym e), eq-eqb other seq e) refl
-  | inr ne ↦ found_other live seq tid other ne ∙ rw (ne_eqb other seq ne) refl
+      find-append (is_message_of other) live (waiting_message drawing tid ∷ []) ∙ rw (none_there, eq-eqb drawing other (sym e), eq-eqb other drawing e) refl
+  | inr ne ↦ found_other live drawing tid other ne ∙ rw (ne_eqb other drawing ne) refl
 ]

@@ -13,54 +13,54 @@ use Rattle.st_messages.proofs.Whole.{states_moved, waiting_live}
 
 -- no message is found under a number that was given
 abbrev IsDead : ℕ → HeldCalls → Type 0
-IsDead seq calls = (seq < calls.next) × (message_of_number calls seq ≡ None)
+IsDead drawing calls = (drawing < calls.next) × (message_of_number calls drawing ≡ None)
 
 both_none : {X : Type 0} (b : Bool) (o : Option X) → o ≡ None → cond b None o ≡ None
 both_none true o is = refl
 both_none false o is = is
 
-dead-moved : (seq other : ℕ) (state : MsgState) (calls : HeldCalls) → IsDead seq calls → IsDead seq (with_state calls other state)
-dead-moved seq other state calls dead = (
+dead-moved : (drawing other : ℕ) (state : MsgState) (calls : HeldCalls) → IsDead drawing calls → IsDead drawing (with_state calls other state)
+dead-moved drawing other state calls dead = (
   dead.0,
-  found_moved calls.live other seq state ∙ elim (cases_eq seq other) [
-    | inl e ↦ rw (eq-eqb seq other e) (ap (λ o. option_map (moved state) (message_in calls.live o)) (sym e) ∙ ap (option_map (moved state)) dead.1)
-    | inr ne ↦ rw (ne_eqb seq other ne) dead.1
+  found_moved calls.live other drawing state ∙ elim (cases_eq drawing other) [
+    | inl e ↦ rw (eq-eqb drawing other e) (ap (λ o. option_map (moved state) (message_in calls.live o)) (sym e) ∙ ap (option_map (moved state)) dead.1)
+    | inr ne ↦ rw (ne_eqb drawing other ne) dead.1
   ],
 )
 
-dead-cancelled : (seq other : ℕ) (calls : HeldCalls) → IsDead seq calls → IsDead seq (calls_after_cancel calls other)
-dead-cancelled seq other calls dead = (dead.0, found_without calls.live other seq ∙ both_none (seq == other) (message_of_number calls seq) dead.1)
+dead-cancelled : (drawing other : ℕ) (calls : HeldCalls) → IsDead drawing calls → IsDead drawing (calls_after_cancel calls other)
+dead-cancelled drawing other calls dead = (dead.0, found_without calls.live other drawing ∙ both_none (drawing == other) (message_of_number calls drawing) dead.1)
 
-dead-posted : (seq tid : ℕ) (calls : HeldCalls) → IsDead seq calls → IsDead seq (calls_after_post calls tid)
-dead-posted seq tid calls dead = (omega (arith, dead.0), found_other calls.live calls.next tid seq (λ e. omega (arith, e, dead.0)) ∙ dead.1)
+dead-posted : (drawing tid : ℕ) (calls : HeldCalls) → IsDead drawing calls → IsDead drawing (calls_after_post calls tid)
+dead-posted drawing tid calls dead = (omega (arith, dead.0), found_other calls.live calls.next tid drawing (λ e. omega (arith, e, dead.0)) ∙ dead.1)
 
-dead-renewed : (seq other : ℕ) (calls : HeldCalls) (o : Option Message) → IsDead seq calls → IsDead seq (calls_after_renew_of calls other o)
-dead-renewed seq other calls None dead = dead
-dead-renewed seq other calls (Some message) dead = dead-posted seq message.tid (calls_after_cancel calls other) (dead-cancelled seq other calls dead)
+dead-renewed : (drawing other : ℕ) (calls : HeldCalls) (o : Option Message) → IsDead drawing calls → IsDead drawing (calls_after_renew_of calls other o)
+dead-renewed drawing other calls None dead = dead
+dead-renewed drawing other calls (Some message) dead = dead-posted drawing message.tid (calls_after_cancel calls other) (dead-cancelled drawing other calls dead)
 
-stays_dead : (seq : ℕ) (old new : HeldCalls) → IsDead seq old → LeadsTo old new → IsDead seq new
-stays_dead seq old new dead Stays = dead
-stays_dead seq old new dead (Posts {calls = calls} tid before) = dead-posted seq tid calls (stays_dead seq old calls dead before)
-stays_dead seq old new dead (Moves {calls = calls} other state before) = dead-moved seq other state calls (stays_dead seq old calls dead before)
-stays_dead seq old new dead (Renews {calls = calls} other before) = dead-renewed seq other calls (message_of_number calls other) (stays_dead seq old calls dead before)
-stays_dead seq old new dead (Cancels {calls = calls} other before) = dead-cancelled seq other calls (stays_dead seq old calls dead before)
+stays_dead : (drawing : ℕ) (old new : HeldCalls) → IsDead drawing old → LeadsTo old new → IsDead drawing new
+stays_dead drawing old new dead Stays = dead
+stays_dead drawing old new dead (Posts {calls = calls} tid before) = dead-posted drawing tid calls (stays_dead drawing old calls dead before)
+stays_dead drawing old new dead (Moves {calls = calls} other state before) = dead-moved drawing other state calls (stays_dead drawing old calls dead before)
+stays_dead drawing old new dead (Renews {calls = calls} other before) = dead-renewed drawing other calls (message_of_number calls other) (stays_dead drawing old calls dead before)
+stays_dead drawing old new dead (Cancels {calls = calls} other before) = dead-cancelled drawing other calls (stays_dead drawing old calls dead before)
 
 no_message : (o : Option Message) → option_map (λ (message : Message). message.state) o ≡ None → o ≡ None
 no_message None is = refl
 no_message (Some m) is = cc
 
 pub dead_numbers_stay : DeadNumbersStay
-dead_numbers_stay old new seq given none leads =
-    ap (option_map (λ (message : Message). message.state)) (stays_dead seq old new (given, no_message (message_of_number old seq) none) leads).1
+dead_numbers_stay old new drawing given none leads =
+    ap (option_map (λ (message : Message). message.state)) (stays_dead drawing old new (given, no_message (message_of_number old drawing) none) leads).1
 
-renewed_stale : (calls : HeldCalls) (seq : ℕ) (o : Option Message) → message_of_number calls seq ≡ o → seq < calls.next → message_of_number (calls_after_renew_of calls seq o) seq ≡ None
-renewed_stale calls seq None is given = is
-renewed_stale calls seq (Some message) is given =
-    let out : message_of_number (calls_after_cancel calls seq) seq ≡ None = found_without calls.live seq seq ∙ rw (eq-eqb seq seq refl) refl in
-    (dead-posted seq message.tid (calls_after_cancel calls seq) (given, out)).1
+renewed_stale : (calls : HeldCalls) (drawing : ℕ) (o : Option Message) → message_of_number calls drawing ≡ o → drawing < calls.next → message_of_number (calls_after_renew_of calls drawing o) drawing ≡ None
+renewed_stale calls drawing None is given = is
+renewed_stale calls drawing (Some message) is given =
+    let out : message_of_number (calls_after_cancel calls drawing) drawing ≡ None = found_without calls.live drawing drawing ∙ rw (eq-eqb drawing drawing refl) refl in
+    (dead-posted drawing message.tid (calls_after_cancel calls drawing) (given, out)).1
 
 pub renewed_are_stale : RenewedAreStale
-renewed_are_stale calls seq given = ap (λ (o : Option Message). is_claimed_state (option_map (λ (message : Message). message.state) o)) (renewed_stale calls seq (message_of_number calls seq) refl given)
+renewed_are_stale calls drawing given = ap (λ (o : Option Message). is_claimed_state (option_map (λ (message : Message). message.state) o)) (renewed_stale calls drawing (message_of_number calls drawing) refl given)
 
 apart : (worker : ℕ) → Claimed worker ≢ Waiting
 apart worker is = cc

@@ -32,56 +32,56 @@ thread_moved (Some m) state = refl
 
 -- ---- a message has another state
 
-module _ (calls : HeldCalls) (seq : ℕ) (state : MsgState) where
-  pub states_moved : is_live_number calls seq ≡ true → ChangesState calls seq (Some state) (with_state calls seq state)
+module _ (calls : HeldCalls) (drawing : ℕ) (state : MsgState) where
+  pub states_moved : is_live_number calls drawing ≡ true → ChangesState calls drawing (Some state) (with_state calls drawing state)
   states_moved live other =
-      ap state_of (found_moved calls.live seq other state) ∙ under_cond state_of (other == seq) _ _ ∙ ap (λ (s : Option MsgState). cond (other == seq) s (message_state calls other)) (state_moved (message_of_number calls seq) state live)
+      ap state_of (found_moved calls.live drawing other state) ∙ under_cond state_of (other == drawing) _ _ ∙ ap (λ (s : Option MsgState). cond (other == drawing) s (message_state calls other)) (state_moved (message_of_number calls drawing) state live)
 
-  pub threads_moved : (other : ℕ) → thread_of_number (with_state calls seq state) other ≡ thread_of_number calls other
+  pub threads_moved : (other : ℕ) → thread_of_number (with_state calls drawing state) other ≡ thread_of_number calls other
   threads_moved other =
-      ap thread_of (found_moved calls.live seq other state) ∙ under_cond thread_of (other == seq) _ _ ∙ elim (cases_eq other seq) [
-        | inl e ↦ rw (eq-eqb other seq e) (thread_moved (message_of_number calls seq) state ∙ ap (thread_of_number calls) (sym e))
-        | inr ne ↦ rw (ne_eqb other seq ne) refl
+      ap thread_of (found_moved calls.live drawing other state) ∙ under_cond thread_of (other == drawing) _ _ ∙ elim (cases_eq other drawing) [
+        | inl e ↦ rw (eq-eqb other drawing e) (thread_moved (message_of_number calls drawing) state ∙ ap (thread_of_number calls) (sym e))
+        | inr ne ↦ rw (ne_eqb other drawing ne) refl
       ]
 
-  pub whole-moved : AreValidCalls calls → is_live_number calls seq ≡ true → ((worker : ℕ) → state ≡ Claimed worker → HasWorker calls worker) → AreValidCalls (with_state calls seq state)
+  pub whole-moved : AreValidCalls calls → is_live_number calls drawing ≡ true → ((worker : ℕ) → state ≡ Claimed worker → HasWorker calls worker) → AreValidCalls (with_state calls drawing state)
   whole-moved whole live worker_is = record {
-    ordered = between-moved calls.live seq state 1 calls.next whole.ordered;
+    ordered = between-moved calls.live drawing state 1 calls.next whole.ordered;
     threads = λ a b tid a_is b_is. whole.threads a b tid (sym (threads_moved a) ∙ a_is) (sym (threads_moved b) ∙ b_is);
-    workers = λ other worker is. elim (cases_eq other seq) [
-      | inl e ↦ worker_is worker (same_Some state (Claimed worker) (sym (states_moved live other ∙ rw (eq-eqb other seq e) refl) ∙ is))
-      | inr ne ↦ whole.workers other worker (sym (states_moved live other ∙ rw (ne_eqb other seq ne) refl) ∙ is)
+    workers = λ other worker is. elim (cases_eq other drawing) [
+      | inl e ↦ worker_is worker (same_Some state (Claimed worker) (sym (states_moved live other ∙ rw (eq-eqb other drawing e) refl) ∙ is))
+      | inr ne ↦ whole.workers other worker (sym (states_moved live other ∙ rw (ne_eqb other drawing ne) refl) ∙ is)
     ];
   }
 
 -- ---- a message is removed
 
-module _ (calls : HeldCalls) (seq : ℕ) where
-  pub states_cancelled : ChangesState calls seq None (calls_after_cancel calls seq)
-  states_cancelled other = ap state_of (found_without calls.live seq other) ∙ under_cond state_of (other == seq) None (message_of_number calls other)
+module _ (calls : HeldCalls) (drawing : ℕ) where
+  pub states_cancelled : ChangesState calls drawing None (calls_after_cancel calls drawing)
+  states_cancelled other = ap state_of (found_without calls.live drawing other) ∙ under_cond state_of (other == drawing) None (message_of_number calls other)
 
-  pub threads_cancelled : (other : ℕ) → thread_of_number (calls_after_cancel calls seq) other ≡ cond (other == seq) None (thread_of_number calls other)
-  threads_cancelled other = ap thread_of (found_without calls.live seq other) ∙ under_cond thread_of (other == seq) None (message_of_number calls other)
+  pub threads_cancelled : (other : ℕ) → thread_of_number (calls_after_cancel calls drawing) other ≡ cond (other == drawing) None (thread_of_number calls other)
+  threads_cancelled other = ap thread_of (found_without calls.live drawing other) ∙ under_cond thread_of (other == drawing) None (message_of_number calls other)
 
   -- what a number that is still live has, it had before
-  cancelled_had : {X : Type 0} (other : ℕ) (x : X) (new old : Option X) → new ≡ cond (other == seq) None old → new ≡ Some x → (other ≢ seq) × (old ≡ Some x)
-  cancelled_had other x new old is has = elim (cases_eq other seq) [
-    | inl e ↦ absurd (none-some x (sym (is ∙ rw (eq-eqb other seq e) refl) ∙ has))
-    | inr ne ↦ (ne, sym (is ∙ rw (ne_eqb other seq ne) refl) ∙ has)
+  cancelled_had : {X : Type 0} (other : ℕ) (x : X) (new old : Option X) → new ≡ cond (other == drawing) None old → new ≡ Some x → (other ≢ drawing) × (old ≡ Some x)
+  cancelled_had other x new old is has = elim (cases_eq other drawing) [
+    | inl e ↦ absurd (none-some x (sym (is ∙ rw (eq-eqb other drawing e) refl) ∙ has))
+    | inr ne ↦ (ne, sym (is ∙ rw (ne_eqb other drawing ne) refl) ∙ has)
   ]
 
-  pub whole-cancelled : AreValidCalls calls → AreValidCalls (calls_after_cancel calls seq)
+  pub whole-cancelled : AreValidCalls calls → AreValidCalls (calls_after_cancel calls drawing)
   whole-cancelled whole = record {
-    ordered = between-without calls.live seq 1 calls.next whole.ordered;
+    ordered = between-without calls.live drawing 1 calls.next whole.ordered;
     threads = λ a b tid a_is b_is. whole.threads a b tid (cancelled_had a tid _ _ (threads_cancelled a) a_is).1 (cancelled_had b tid _ _ (threads_cancelled b) b_is).1;
     workers = λ other worker is. whole.workers other worker (cancelled_had other (Claimed worker) _ _ (states_cancelled other) is).1;
   }
 
   -- the thread has no number left
-  pub cancelled_none : (tid : ℕ) → AreValidCalls calls → thread_of_number calls seq ≡ Some tid → HasNoNumber (calls_after_cancel calls seq) tid
+  pub cancelled_none : (tid : ℕ) → AreValidCalls calls → thread_of_number calls drawing ≡ Some tid → HasNoNumber (calls_after_cancel calls drawing) tid
   cancelled_none tid whole is other other_is =
       let had = cancelled_had other tid _ _ (threads_cancelled other) other_is in
-      had.0 (whole.threads other seq tid had.1 is)
+      had.0 (whole.threads other drawing tid had.1 is)
 
 -- ---- a message is appended
 
@@ -125,34 +125,34 @@ module _ (calls : HeldCalls) (tid : ℕ) (whole : AreValidCalls calls) where
 
 -- ---- a message is removed, and its call is posted again
 
-module _ (calls : HeldCalls) (seq : ℕ) (whole : AreValidCalls calls) (message : Message) (is : message_of_number calls seq ≡ Some message) where
-  renewed : calls_after_renew calls seq ≡ calls_after_post (calls_after_cancel calls seq) message.tid
-  renewed = ap (calls_after_renew_of calls seq) is
+module _ (calls : HeldCalls) (drawing : ℕ) (whole : AreValidCalls calls) (message : Message) (is : message_of_number calls drawing ≡ Some message) where
+  renewed : calls_after_renew calls drawing ≡ calls_after_post (calls_after_cancel calls drawing) message.tid
+  renewed = ap (calls_after_renew_of calls drawing) is
 
-  pub whole-renewed : AreValidCalls (calls_after_renew calls seq)
-  whole-renewed = subst AreValidCalls (sym renewed) (whole-posted (calls_after_cancel calls seq) message.tid (whole-cancelled calls seq whole) (cancelled_none calls seq message.tid whole (ap thread_of is)))
+  pub whole-renewed : AreValidCalls (calls_after_renew calls drawing)
+  whole-renewed = subst AreValidCalls (sym renewed) (whole-posted (calls_after_cancel calls drawing) message.tid (whole-cancelled calls drawing whole) (cancelled_none calls drawing message.tid whole (ap thread_of is)))
 
-  pub states_renewed : RenewsState calls seq calls.next (calls_after_renew calls seq)
+  pub states_renewed : RenewsState calls drawing calls.next (calls_after_renew calls drawing)
   states_renewed other =
       ap (λ (new : HeldCalls). message_state new other) renewed
-      ∙ states_posted (calls_after_cancel calls seq) message.tid (whole-cancelled calls seq whole) other
-      ∙ ap (λ (s : Option MsgState). cond (other == calls.next) (Some Waiting) s) (states_cancelled calls seq other)
+      ∙ states_posted (calls_after_cancel calls drawing) message.tid (whole-cancelled calls drawing whole) other
+      ∙ ap (λ (s : Option MsgState). cond (other == calls.next) (Some Waiting) s) (states_cancelled calls drawing other)
 
-  pub thread_renewed : thread_of_number (calls_after_renew calls seq) calls.next ≡ thread_of_number calls seq
+  pub thread_renewed : thread_of_number (calls_after_renew calls drawing) calls.next ≡ thread_of_number calls drawing
   thread_renewed =
       ap (λ (new : HeldCalls). thread_of_number new calls.next) renewed
-      ∙ threads_posted (calls_after_cancel calls seq) message.tid (whole-cancelled calls seq whole) calls.next
+      ∙ threads_posted (calls_after_cancel calls drawing) message.tid (whole-cancelled calls drawing whole) calls.next
       ∙ rw (eq-eqb calls.next calls.next refl) (sym (ap thread_of is))
 
 -- ---- the message that is claimed
 
-pub least_waiting : (calls : HeldCalls) (first : Message) → AreValidCalls calls → find is_unclaimed calls.live ≡ Some first → IsLeastWaiting calls first.seq
+pub least_waiting : (calls : HeldCalls) (first : Message) → AreValidCalls calls → find is_unclaimed calls.live ≡ Some first → IsLeastWaiting calls first.drawing
 least_waiting calls first whole is =
     let least = (first_waits calls.live 1 calls.next first whole.ordered is).1 in
     record { waiting = ap state_of least.found ∙ ap Some least.waits; least = least.least }
 
-pub waiting_live : (calls : HeldCalls) (seq : ℕ) → IsWaiting calls seq → is_live_number calls seq ≡ true
-waiting_live calls seq is = by (message_of_number calls seq) is where
+pub waiting_live : (calls : HeldCalls) (drawing : ℕ) → IsWaiting calls drawing → is_live_number calls drawing ≡ true
+waiting_live calls drawing is = by (message_of_number calls drawing) is where
   by : (o : Option Message) → state_of o ≡ Some Waiting → is_some o ≡ true
   by None is = absurd (none-some Waiting is)
   by (Some m) is = refl

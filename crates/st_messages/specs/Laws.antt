@@ -8,17 +8,17 @@ use Rattle.st_messages.specs.Messages.{HeldCalls, is_claimed, message_state, wit
 pub data LeadsTo : HeldCalls → HeldCalls → Type 0 where
   Stays : {calls : HeldCalls} → LeadsTo calls calls
   Posts : {old calls : HeldCalls} (tid : ℕ) → LeadsTo old calls → LeadsTo old (calls_after_post calls tid)
-  Moves : {old calls : HeldCalls} (seq : ℕ) (state : MsgState) → LeadsTo old calls → LeadsTo old (with_state calls seq state)
-  Renews : {old calls : HeldCalls} (seq : ℕ) → LeadsTo old calls → LeadsTo old (calls_after_renew calls seq)
-  Cancels : {old calls : HeldCalls} (seq : ℕ) → LeadsTo old calls → LeadsTo old (calls_after_cancel calls seq)
+  Moves : {old calls : HeldCalls} (drawing : ℕ) (state : MsgState) → LeadsTo old calls → LeadsTo old (with_state calls drawing state)
+  Renews : {old calls : HeldCalls} (drawing : ℕ) → LeadsTo old calls → LeadsTo old (calls_after_renew calls drawing)
+  Cancels : {old calls : HeldCalls} (drawing : ℕ) → LeadsTo old calls → LeadsTo old (calls_after_cancel calls drawing)
 
 -- a number that was given and isn't live is never live again
 abbrev pub DeadNumbersStay : Type 0
-DeadNumbersStay = (old new : HeldCalls) (seq : ℕ) → seq < old.next → message_state old seq ≡ None → LeadsTo old new → message_state new seq ≡ None
+DeadNumbersStay = (old new : HeldCalls) (drawing : ℕ) → drawing < old.next → message_state old drawing ≡ None → LeadsTo old new → message_state new drawing ≡ None
 
 -- an answer to a number that was renewed is stale
 abbrev pub RenewedAreStale : Type 0
-RenewedAreStale = (calls : HeldCalls) (seq : ℕ) → seq < calls.next → is_claimed (calls_after_renew calls seq) seq ≡ false
+RenewedAreStale = (calls : HeldCalls) (drawing : ℕ) → drawing < calls.next → is_claimed (calls_after_renew calls drawing) drawing ≡ false
 
 -- the next claim takes a greater number
 abbrev pub ClaimsGoUp : Type 0

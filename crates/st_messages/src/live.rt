@@ -4,23 +4,23 @@ ghost use Rattle.std.specs.VecDeque.{deque_capacity};
 ghost use Rattle.st_messages.specs.Messages.{is_message_of, is_unclaimed, message_in, without_number, AreBetween};
 
 use crate::message::{Message, MsgState};
-use st_base::Seq;
+use st_base::Drawing;
 use std::collections::VecDeque;
 
-// The index of the message of this number, if it is its number less that of the first message. Calls usually end in the order in which they
-// were entered, and then it is.
+// The index of the message of this drawing, if it is its drawing less that of the first message. Calls usually end in the order in which
+// they were entered, and then it is.
 #[inline]
-fn guess_of(live: &VecDeque<Message>, seq: Seq) -> Option<usize>
+fn guess_of(live: &VecDeque<Message>, drawing: Drawing) -> Option<usize>
     requires { (to : ℕ) × AreBetween 1 live.now.items to }
-    ensures { IfSome result (λ place. position (is_message_of seq) live.now.items ≡ Some place) }
+    ensures { IfSome result (λ place. position (is_message_of drawing) live.now.items ≡ Some place) }
 {
     let first = live.front()?;
-    let place = seq.checked_sub(first.seq)? as usize;
+    let place = drawing.checked_sub(first.drawing)? as usize;
     if place == 0 {
         return Some(0);
     }
     let message = live.get(place)?;
-    if message.seq == seq {
+    if message.drawing == drawing {
         Some(place)
     } else {
         None
@@ -29,38 +29,56 @@ fn guess_of(live: &VecDeque<Message>, seq: Seq) -> Option<usize>
 
 // The same for any message, in logarithmic time.
 #[inline(never)]
-fn search_of(live: &VecDeque<Message>, seq: Seq) -> Option<usize>
+fn search_of(live: &VecDeque<Message>, drawing: Drawing) -> Option<usize>
     requires { (to : ℕ) × AreBetween 1 live.now.items to }
-    ensures { result ≡ position (is_message_of seq) live.now.items }
+    ensures { result ≡ position (is_message_of drawing) live.now.items }
 {
-    let place = live.partition_point(|message| message.seq < seq);
+    let place = live.partition_point(|message| message.drawing < drawing);
     let message = live.get(place)?;
-    if message.seq == seq {
+    if message.drawing == drawing {
         Some(place)
     } else {
         None
     }
 }
 
-/// The index of the message of this number.
+// The index of the last message, if it is of this drawing. A thread whose calls are answered at once goes on while others wait, and then it
+// is.
 #[inline]
-pub fn place_of(live: &VecDeque<Message>, seq: Seq) -> Option<usize>
+fn last_of(live: &VecDeque<Message>, drawing: Drawing) -> Option<usize>
     requires { (to : ℕ) × AreBetween 1 live.now.items to }
-    ensures { result ≡ position (is_message_of seq) live.now.items }
+    ensures { IfSome result (λ place. position (is_message_of drawing) live.now.items ≡ Some place) }
 {
-    match guess_of(live, seq) {
-        Some(place) => Some(place),
-        None => search_of(live, seq),
+    let last = live.back()?;
+    if last.drawing == drawing {
+        Some(live.len() - 1)
+    } else {
+        None
     }
 }
 
-/// The message of this number, if it is live.
-#[inline(always)]
-pub fn message_of(live: &VecDeque<Message>, seq: Seq) -> Option<Message>
+/// The index of the message of this drawing.
+#[inline]
+pub fn place_of(live: &VecDeque<Message>, drawing: Drawing) -> Option<usize>
     requires { (to : ℕ) × AreBetween 1 live.now.items to }
-    ensures { result ≡ message_in live.now.items seq }
+    ensures { result ≡ position (is_message_of drawing) live.now.items }
 {
-    let place = place_of(live, seq)?;
+    if let Some(place) = guess_of(live, drawing) {
+        return Some(place);
+    }
+    match last_of(live, drawing) {
+        Some(place) => Some(place),
+        None => search_of(live, drawing),
+    }
+}
+
+/// The message of this drawing, if it is live.
+#[inline(always)]
+pub fn message_of(live: &VecDeque<Message>, drawing: Drawing) -> Option<Message>
+    requires { (to : ℕ) × AreBetween 1 live.now.items to }
+    ensures { result ≡ message_in live.now.items drawing }
+{
+    let place = place_of(live, drawing)?;
     Some(live[place])
 }
 
@@ -87,14 +105,14 @@ pub fn first_waiting(live: &VecDeque<Message>) -> Option<Message>
 
 /// Removes a live message and returns it, which leaves room for another. The first to be posted usually ends first, and then no other is
 /// moved.
-pub fn take(live: &mut VecDeque<Message>, seq: Seq) -> Message
-    requires there { is_some (message_in live.old.items seq) ≡ true }
+pub fn take(live: &mut VecDeque<Message>, drawing: Drawing) -> Message
+    requires there { is_some (message_in live.old.items drawing) ≡ true }
     requires ordered { (to : ℕ) × AreBetween 1 live.old.items to }
-    ensures message { message_in live.old.items seq ≡ Some result }
-    ensures others { live.new.items ≡ without_number live.old.items seq }
+    ensures message { message_in live.old.items drawing ≡ Some result }
+    ensures others { live.new.items ≡ without_number live.old.items drawing }
     ensures room { length live.new.items < deque_capacity live.new }
 {
-    let Some(place) = place_of(live, seq) else {
+    let Some(place) = place_of(live, drawing) else {
         unreachable!()
     };
     let Some(message) = live.remove(place) else {

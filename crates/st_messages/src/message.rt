@@ -1,5 +1,15 @@
-use st_base::{Errno, Seq, Tid, Worker};
+ghost use Rattle.std.specs.Prelude.{◌≡◌};
+
+use st_base::{Drawing, Errno, Seq, Tid, Worker};
 use st_calls::Verdict;
+
+/// The number by which entries name the message of a drawing. No number comes again, so it is the drawing.
+#[inline]
+pub fn seq_of(drawing: Drawing) -> Seq
+    ensures { result ≡ drawing }
+{
+    drawing
+}
 
 /// How far a message has come.
 #[derive(Clone, Copy, Debug, PartialEq, Eq)]
@@ -26,7 +36,7 @@ pub enum Delivered {
 /// A live message: the held call of a thread.
 #[derive(Clone, Copy, Debug, PartialEq, Eq)]
 pub struct Message {
-    pub seq: Seq,
+    pub drawing: Drawing,
     pub tid: Tid,
     pub state: MsgState,
 }

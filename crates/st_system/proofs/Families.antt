@@ -1,13 +1,14 @@
 -- Calls of each kind as they are made over the parts, unless memory runs out.
 use native.Mathlib.Omega.{arith}
-use Rattle.std.proofs.Common.{◌≡◌, ◌≢◌, ℕ, true, None, subst, sym}
+use Rattle.std.proofs.Common.{◌≡◌, ◌≢◌, ℕ, true, Option, None, Some, refl, subst, sym}
 use Rattle.std.proofs.lemmas.Bool.{false_from_ne_true}
+use Rattle.std.specs.Option.{option_map, unwrap_or}
 use Rattle.std.specs.Prelude.{Result, Ok, Err, IfOk, OnErr, OnOk}
 use Rattle.st_calls.specs.declared.call.SysCall.{SysCall}
 use Rattle.st_calls.specs.declared.call.SysCall.TheVariants.{Chdir, Execve, Fork, Exit, Kill, GetPid, GetUid, GetEuid, SetUid, SetEuid, SetGid, SetEgid, Socket, Bind, Connect}
 use Rattle.st_memory.specs.Memory.{Memories, byte_in, is_space_live}
 use Rattle.st_model.specs.Descriptors.{Table, has_table}
-use Rattle.st_model.specs.Processes.{Processes, IsPid, next_pid, pid_of, process_at}
+use Rattle.st_model.specs.Processes.{Processes, StartedThread, IsPid, next_pid, pid_of, process_at, thread_at}
 use Rattle.st_model.specs.Tree.{Tree}
 use Rattle.st_procs.specs.Laws.{AreOrdered}
 use Rattle.st_effects.specs.Changes.{memory_after}
@@ -20,7 +21,7 @@ use Rattle.st_request.specs.Processes.{AreProcessesAfter}
 use Rattle.st_request.specs.Ready.{IsReady}
 use Rattle.st_request.specs.declared.outcome.Outcome.{Outcome}
 use Rattle.st_system.specs.Steps.{CanMake, IsCallMade, IsOnProcesses}
-use Rattle.st_system.specs.System.{IsValidSystem, Parts}
+use Rattle.st_system.specs.System.{HasOwner, IsValidSystem, Parts}
 use Rattle.st_system.proofs.After.{made}
 use Rattle.st_system.proofs.Executing.{left_binary, whole_binary}
 use Rattle.st_system.proofs.OnProcesses.{left_processes, whole_processes}
@@ -62,9 +63,14 @@ made_binary_if (Err error) parts x request there processes memories outcome afte
 pub can_call : (parts : Parts) → IsValidSystem parts → (pid : ℕ) → IsPid parts.processes pid → CanCall parts.descriptors parts.processes parts.memories pid
 can_call parts x pid there = let r = x.ready pid there in record { table = r.table; process = there; space = r.space }
 
+-- a thread without a process hasn't started
+unstarted : (processes : Processes) (o : Option StartedThread) → HasOwner processes o → unwrap_or (option_map (λ (thread : StartedThread). thread.pid) o) 0 ≡ 0 → option_map (λ (thread : StartedThread). thread.pid) o ≡ None
+unstarted processes None owner none = refl
+unstarted processes (Some thread) owner none = let low = owner.0 in absurd (omega (arith, low, none))
+
 pub allows : (parts : Parts) → IsValidSystem parts → (request : Request) (call : SysCall) → IsOnProcesses call → CanMake call parts request → CanMakeCall call parts.descriptors parts.processes parts.memories request
 allows parts x request Fork on can = record {
-  thread = can.thread;
+  thread = unstarted parts.processes (thread_at parts.processes request.child) (x.owners request.child) can.thread;
   table = false_from_ne_true (has_table parts.descriptors (next_pid parts.processes)) (λ has. let low = (x.tables (next_pid parts.processes) has).1 in omega (arith, low));
   pids = can.pids;
   spaces = can.spaces;
@@ -84,8 +90,8 @@ allows parts x request Connect on can = can
 allows parts x request call on can = absurd on
 
 -- the child's thread hasn't started
-unstarted_of : (call : SysCall) (parts : Parts) (request : Request) → CanMake call parts request → call ≡ Fork → pid_of parts.processes request.child ≡ None
-unstarted_of call parts request can is = (subst (λ (c : SysCall). CanMake c parts request) is can).thread
+unstarted_of : (call : SysCall) (parts : Parts) → IsValidSystem parts → (request : Request) → CanMake call parts request → call ≡ Fork → pid_of parts.processes request.child ≡ None
+unstarted_of call parts x request can is = unstarted parts.processes (thread_at parts.processes request.child) (x.owners request.child) (subst (λ (c : SysCall). CanMake c parts request) is can).thread
 
 pub whole_processes_if : {E : Type 0} (result : Result Outcome E) (parts : Parts) → IsValidSystem parts → (request : Request) → IsPid parts.processes request.pid → (table : Table) (processes : Processes) (memories : Memories) (call : SysCall)
     → IsOnProcesses call → CanMake call parts request → IfOk result (λ given. IsProcessCallExecuted call request given parts.descriptors parts.processes parts.memories table processes memories)
@@ -95,7 +101,7 @@ pub whole_processes_if : {E : Type 0} (result : Result Outcome E) (parts : Parts
     → OnErr result ((table ≡ parts.descriptors) × ((processes ≡ parts.processes) × (memories ≡ parts.memories)))
     → IsValidSystem (record { tree = parts.tree; descriptors = table; processes = processes; memories = memories })
 whole_processes_if (Ok given) parts x request there table processes memories call on can done ordered ready child err =
-    whole_processes parts x request there given table processes memories call on done ordered ready child (unstarted_of call parts request can)
+    whole_processes parts x request there given table processes memories call on done ordered ready child (unstarted_of call parts x request can)
 whole_processes_if (Err error) parts x request there table processes memories call on can done ordered ready child err =
     subst IsValidSystem (λ k. record { tree = parts.tree; descriptors = sym err.0 k; processes = sym err.1.0 k; memories = sym err.1.1 k }) x
 
@@ -107,5 +113,5 @@ pub made_processes_if : {E : Type 0} (result : Result Outcome E) (parts : Parts)
     → IfOk result (λ given. IsCallMade call request given parts (record { tree = parts.tree; descriptors = table; processes = processes; memories = memories }))
 made_processes_if (Ok given) parts x request there table processes memories call on can done ordered ready child = λ i st y is starts seq.
     made call request given parts _ x.ordered (x.ready request.pid there).space
-    (left_processes parts x request there given table processes memories call on done ordered ready child (unstarted_of call parts request can)) i st y is starts seq
+    (left_processes parts x request there given table processes memories call on done ordered ready child (unstarted_of call parts x request can)) i st y is starts seq
 made_processes_if (Err error) parts x request there table processes memories call on can done ordered ready child = tt

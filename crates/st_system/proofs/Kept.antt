@@ -1,18 +1,16 @@
 -- After a store, the system represents the state of the law's machine.
-use native.Mathlib.Omega.{arith}
-use Rattle.std.proofs.Common.{◌==◌, ◌≡◌, ◌≢◌, ◌∙◌, ℕ, true, false, not, Option, Some, None, refl, ap, sym}
-use Rattle.std.proofs.lemmas.Bool.{eq-eqb, ne_eqb}
+use Rattle.std.proofs.Common.{◌≡◌, ◌≢◌, ◌∙◌, ℕ, true, false, not, Option, Some, None, refl, ap, sym}
 use Rattle.std.specs.Option.{option_map}
-use Rattle.std.specs.Prelude.{Result, Ok, Err, IsErr, OnOk, is_some}
+use Rattle.std.specs.Prelude.{Result, Ok, Err, IsErr, OnOk}
 use Rattle.st_memory.specs.Memory.{Memories, byte_in, is_space_live, KeepsSpaces}
 use Rattle.st_model.specs.Memory.{memory_after_store, word_of}
 use Rattle.st_model.specs.Process.{Process}
-use Rattle.st_model.specs.Processes.{Processes, StartedThread, has_not_ended, process_at, thread_at}
+use Rattle.st_model.specs.Processes.{StartedThread, has_not_ended, process_at, thread_at}
 use Rattle.st_trace.specs.declared.entry.Entry.TheVariants.{Stored}
 use Rattle.st_law.specs.declared.input.Input.{Input}
 use Rattle.st_law.specs.Machine.{state_after}
 use Rattle.st_law.specs.State.{State, ThreadState}
-use Rattle.st_system.specs.System.{HasOwner, IsSystem, IsThreadState, Parts, is_given_up}
+use Rattle.st_system.specs.System.{IsSystem, IsThreadState, Parts, is_given_up}
 use Rattle.st_system.proofs.Memory.{agree_stored, live_kept, same_given_up}
 
 -- the process of a thread, by whether it has started
@@ -64,8 +62,3 @@ word_is i st parts x pid place live word is =
 pub started_runs : (o : Option StartedThread) (row : ThreadState) → IsThreadState o row → row.owner ≢ 0 → row.ended ≡ false → has_not_ended o ≡ true
 started_runs None row x started running = absurd (started x.0)
 started_runs (Some thread) row x started running = ap not (sym x.1 ∙ running)
-
--- whether a thread has started, by its row
-pub started_is : (processes : Processes) (o : Option StartedThread) (row : ThreadState) → IsThreadState o row → HasOwner processes o → is_some (option_map (λ (thread : StartedThread). thread.pid) o) ≡ not (row.owner == 0)
-started_is processes None row x owner = sym (ap not (eq-eqb row.owner 0 x.0))
-started_is processes (Some thread) row x owner = let low = owner.0 in sym (ap not (ne_eqb row.owner 0 (λ zero. let same = x.0 in omega (arith, low, zero, same))))

@@ -1,10 +1,10 @@
 -- How steps change the system, compared with how their entries change the state of the law's machine.
-use Rattle.std.specs.Prelude.{◌≡◌, ◌<◌, ◌^◌, ◌-◌, ℕ, suc, if◌then◌else◌, List, [], ◌++◌, Option, None}
+use Rattle.std.specs.Prelude.{◌≡◌, ◌<◌, ◌^◌, ◌-◌, ℕ, suc, if◌then◌else◌, List, [], ◌++◌, Option}
 use Rattle.st_calls.specs.Call.{sets_ids}
 use Rattle.st_calls.specs.declared.call.SysCall.{SysCall}
 use Rattle.st_calls.specs.declared.call.SysCall.TheVariants.{Fork, Execve, Exit, Kill, GetPid, GetUid, GetEuid, SetUid, SetEuid, SetGid, SetEgid, Socket, Bind, Connect}
 use Rattle.st_memory.specs.Memory.{next_space}
-use Rattle.st_model.specs.Processes.{next_pid, pid_of}
+use Rattle.st_model.specs.Processes.{next_pid, owner_of}
 use Rattle.st_effects.specs.Effect.{effect}
 use Rattle.st_effects.specs.Processes.{renewals}
 use Rattle.st_effects.specs.System as effects
@@ -33,9 +33,9 @@ abbrev pub HasChild : Input → SysCall → Request → Type 0
 HasChild i Fork request = IsThread i request.child
 HasChild i _ request = Unit {0}
 
--- the thread of the child hasn't started, and numbers are left for its process and its memory
+-- the thread of the child has no process yet, and numbers are left for its process and its memory
 pub record HasRoomForChild (parts : Parts) (request : Request) : Type 0 where
-  pub thread : pid_of parts.processes request.child ≡ None
+  pub thread : owner_of parts.processes request.child ≡ 0
   pub pids : next_pid parts.processes < 2 ^ 32 - 1
   pub spaces : next_space parts.memories < 2 ^ 32
 

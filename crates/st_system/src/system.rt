@@ -1,4 +1,4 @@
-ghost use Rattle.std.specs.Prelude.{◌≡◌, ◌≤◌, ◌<◌, ◌==◌, not, is_some, ℕ, true, cond, length, IsSome, IfSome, IfOk, OnErr, OnOk};
+ghost use Rattle.std.specs.Prelude.{◌≡◌, ◌≤◌, ◌<◌, ℕ, true, cond, length, IsSome, IfSome, IfOk, OnErr, OnOk};
 ghost use Rattle.st_fds.specs.Table.{KeepsTables};
 ghost use Rattle.st_model.specs.DescriptorCalls.{table_after_close_all};
 ghost use Rattle.st_model.specs.Descriptors.{has_table};
@@ -82,14 +82,6 @@ impl System {
         ensures there { IfSome result (IsPid self.now.processes) }
     {
         self.procs.pid_of(tid)
-    }
-
-    /// Whether a thread has started.
-    pub fn has_started(&self, tid: Tid) -> bool
-        ensures started { result ≡ is_some (pid_of self.now.processes tid) }
-        ensures law { (i : Input) (st : State) → IsSystem i st self.now → result ≡ not ((st.threads tid).owner == 0) }
-    {
-        self.procs.pid_of(tid).is_some()
     }
 
     /// Whether a process hasn't ended: it never had a thread, or has a thread that hasn't ended.

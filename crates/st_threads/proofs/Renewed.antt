@@ -81,27 +81,27 @@ module _ (process : Process) (q : ℕ) (numbers : List ℕ) (between left : Unde
 
 -- ---- an optional number is renewed
 
-pub lives_if : (seq : Option ℕ) (numbers : List ℕ) (workers : UnderWay) → CanRenew workers (with_number seq numbers) → IfSome seq (λ q. calls.is_live_number workers.calls q ≡ true)
+pub lives_if : (drawing : Option ℕ) (numbers : List ℕ) (workers : UnderWay) → CanRenew workers (with_number drawing numbers) → IfSome drawing (λ q. calls.is_live_number workers.calls q ≡ true)
 lives_if None numbers workers can = tt
 lives_if (Some q) numbers workers can = lives_as can.input can.state can.alive workers q can.kept ∙ can.live.0
 
-next_if : (process : Process) (seq : Option ℕ) (numbers : List ℕ) (between left : UnderWay) → CanRenew between (with_number seq numbers) → RenewsIf process seq between left → left.calls.next ≡ next_after between.calls.next seq
+next_if : (process : Process) (drawing : Option ℕ) (numbers : List ℕ) (between left : UnderWay) → CanRenew between (with_number drawing numbers) → RenewsIf process drawing between left → left.calls.next ≡ next_after between.calls.next drawing
 next_if process None numbers between left can renews = ap (λ (w : UnderWay). w.calls.next) renews
 next_if process (Some q) numbers between left can renews = one_next process q numbers between left can renews
 
-can_if : (process : Process) (seq : Option ℕ) (numbers : List ℕ) (between left : UnderWay) → CanRenew between (with_number seq numbers) → RenewsIf process seq between left → CanRenew left numbers
+can_if : (process : Process) (drawing : Option ℕ) (numbers : List ℕ) (between left : UnderWay) → CanRenew between (with_number drawing numbers) → RenewsIf process drawing between left → CanRenew left numbers
 can_if process None numbers between left can renews = subst (λ (w : UnderWay). CanRenew w numbers) (sym renews) can
 can_if process (Some q) numbers between left can renews = one_can process q numbers between left can renews
 
-all_if : (process : Process) (seq : Option ℕ) (numbers : List ℕ) (between left new : UnderWay) → RenewsIf process seq between left → RenewsAll process numbers left new → RenewsAll process (with_number seq numbers) between new
+all_if : (process : Process) (drawing : Option ℕ) (numbers : List ℕ) (between left new : UnderWay) → RenewsIf process drawing between left → RenewsAll process numbers left new → RenewsAll process (with_number drawing numbers) between new
 all_if process None numbers between left new renews all = subst (λ (w : UnderWay). RenewsAll process numbers w new) renews all
 all_if process (Some q) numbers between left new renews all = (left, renews, all)
 
-one_length : (seq : Option ℕ) (numbers : List ℕ) → length (with_number seq numbers) ≡ length (with_number seq []) + length numbers
+one_length : (drawing : Option ℕ) (numbers : List ℕ) → length (with_number drawing numbers) ≡ length (with_number drawing []) + length numbers
 one_length None numbers = omega arith
 one_length (Some q) numbers = omega arith
 
-next_most : (next : ℕ) (seq : Option ℕ) → next_after next seq ≤ next + 1
+next_most : (next : ℕ) (drawing : Option ℕ) → next_after next drawing ≤ next + 1
 next_most next None = omega arith
 next_most next (Some q) = omega arith
 
@@ -144,42 +144,42 @@ module _ (processes : Processes) (pid caller : ℕ) where
           take_whole (row ∷ l) zero e = absurd (omega (arith, e))
           take_whole (row ∷ l) (suc k) e = ap (λ (m : List ThreadRow). row ∷ m) (take_whole l k (omega (arith, e)))
 
-    module _ (row : ThreadRow) (inside : n < length now) (here : drop n now ≡ row ∷ drop (n + 1) now) (seq : Option ℕ) (seq_is : seq ≡ number_renewed processes pid caller (n + 1) row) where
+    module _ (row : ThreadRow) (inside : n < length now) (here : drop n now ≡ row ∷ drop (n + 1) now) (drawing : Option ℕ) (drawing_is : drawing ≡ number_renewed processes pid caller (n + 1) row) where
       after : n + 1 ≡ suc n
       after = omega arith
 
-      seq_here : seq ≡ number_renewed processes pid caller (suc n) row
-      seq_here = seq_is ∙ ap (λ (k : ℕ). number_renewed processes pid caller k row) after
+      drawing_here : drawing ≡ number_renewed processes pid caller (suc n) row
+      drawing_here = drawing_is ∙ ap (λ (k : ℕ). number_renewed processes pid caller k row) after
 
       abbrev rest : List ℕ
       rest = numbers (suc (suc n)) (drop (n + 1) now)
 
-      numbers_are : numbers (suc n) (drop n now) ≡ with_number seq rest
-      numbers_are = ap (numbers (suc n)) here ∙ ap (λ (s : Option ℕ). with_number s rest) (sym seq_here)
+      numbers_are : numbers (suc n) (drop n now) ≡ with_number drawing rest
+      numbers_are = ap (numbers (suc n)) here ∙ ap (λ (s : Option ℕ). with_number s rest) (sym drawing_here)
 
-      can : CanRenew between (with_number seq rest)
+      can : CanRenew between (with_number drawing rest)
       can = subst (CanRenew between) numbers_are so_far.can
 
-      copies : cwds ≡ replicate (length (with_number seq rest)) process.cwd
+      copies : cwds ≡ replicate (length (with_number drawing rest)) process.cwd
       copies = so_far.copies ∙ ap (λ (l : List ℕ). replicate (length l) process.cwd) numbers_are
 
-      count : length cwds ≡ length (with_number seq rest)
-      count = ap length copies ∙ length-replicate (length (with_number seq rest)) process.cwd
+      count : length cwds ≡ length (with_number drawing rest)
+      count = ap length copies ∙ length-replicate (length (with_number drawing rest)) process.cwd
 
-      pub next_lives : IfSome seq (λ q. calls.is_live_number between.calls q ≡ true)
-      next_lives = lives_if seq rest between can
+      pub next_lives : IfSome drawing (λ q. calls.is_live_number between.calls q ≡ true)
+      next_lives = lives_if drawing rest between can
 
       room : between.calls.next + 1 + length (drop (n + 1) now) < 2 ^ 64
       room = let left = so_far.room in let more = ap length here in omega (arith, left, more)
 
-      pub next_room : IfSome seq (λ q. between.calls.next < 2 ^ 64 - 1)
-      next_room = by seq where
+      pub next_room : IfSome drawing (λ q. between.calls.next < 2 ^ 64 - 1)
+      next_room = by drawing where
         by : (o : Option ℕ) → IfSome o (λ q. between.calls.next < 2 ^ 64 - 1)
         by None = tt
         by (Some q) = let left = room in omega (arith, left)
 
-      pub next_copy : IfSome seq (λ q. cwds ≢ [])
-      next_copy = by seq count where
+      pub next_copy : IfSome drawing (λ q. cwds ≢ [])
+      next_copy = by drawing count where
         by : (o : Option ℕ) → length cwds ≡ length (with_number o rest) → IfSome o (λ q. cwds ≢ [])
         by None e = tt
         by (Some q) e = λ none. let nothing = ap length none in omega (arith, e, nothing)
@@ -187,34 +187,34 @@ module _ (processes : Processes) (pid caller : ℕ) where
       pub next_same : cwds ≡ replicate (length cwds) process.cwd
       next_same = copies ∙ ap (λ (k : ℕ). replicate k process.cwd) (sym count)
 
-      module _ (left : UnderWay) (kept : RenewsIf process seq between left) (fewer : List Components) (one : length cwds ≡ length (with_number seq []) + length fewer) (same : fewer ≡ replicate (length fewer) process.cwd) where
+      module _ (left : UnderWay) (kept : RenewsIf process drawing between left) (fewer : List Components) (one : length cwds ≡ length (with_number drawing []) + length fewer) (same : fewer ≡ replicate (length fewer) process.cwd) where
         abbrev rows_next : List ThreadRow
-        rows_next = set now n (row_renewed between.calls.next seq row)
+        rows_next = set now n (row_renewed between.calls.next drawing row)
 
         left_over : drop (n + 1) rows_next ≡ drop (n + 1) now
-        left_over = drop-set-lt (n + 1) now n (row_renewed between.calls.next seq row) (omega arith)
+        left_over = drop-set-lt (n + 1) now n (row_renewed between.calls.next drawing row) (omega arith)
 
-        next_is : left.calls.next ≡ next_after between.calls.next seq
-        next_is = next_if process seq rest between left can kept
+        next_is : left.calls.next ≡ next_after between.calls.next drawing
+        next_is = next_if process drawing rest between left can kept
 
         numbers_then : numbers (suc (n + 1)) (drop (n + 1) rows_next) ≡ rest
         numbers_then = λ k. numbers (suc (after k)) (left_over k)
 
         rows_then : take (n + 1) rows_next ++ renewed left.calls.next (suc (n + 1)) (drop (n + 1) rows_next) ≡ take n now ++ renewed between.calls.next (suc n) (drop n now)
-        rows_then = (λ k. take_more_set now n (row_renewed between.calls.next seq row) inside k ++ renewed (next_is k) (suc (after k)) (left_over k))
-            ∙ append_assoc (take n now) (row_renewed between.calls.next seq row ∷ []) (renewed (next_after between.calls.next seq) (suc (suc n)) (drop (n + 1) now))
-            ∙ ap (λ (s : Option ℕ). take n now ++ (row_renewed between.calls.next s row ∷ renewed (next_after between.calls.next s) (suc (suc n)) (drop (n + 1) now))) seq_here
+        rows_then = (λ k. take_more_set now n (row_renewed between.calls.next drawing row) inside k ++ renewed (next_is k) (suc (after k)) (left_over k))
+            ∙ append_assoc (take n now) (row_renewed between.calls.next drawing row ∷ []) (renewed (next_after between.calls.next drawing) (suc (suc n)) (drop (n + 1) now))
+            ∙ ap (λ (s : Option ℕ). take n now ++ (row_renewed between.calls.next s row ∷ renewed (next_after between.calls.next s) (suc (suc n)) (drop (n + 1) now))) drawing_here
             ∙ ap (λ (l : List ThreadRow). take n now ++ renewed between.calls.next (suc n) l) (sym here)
 
         few : length fewer ≡ length rest
-        few = let a = one in let b = count in let d = one_length seq rest in omega (arith, a, b, d)
+        few = let a = one in let b = count in let d = one_length drawing rest in omega (arith, a, b, d)
 
         -- the next thread's call has got one, too, if it is renewed
         pub next_renewed : RenewedSoFar before workers (n + 1) rows_next left fewer
         next_renewed = record {
           rows = rows_then ∙ so_far.rows;
-          all = λ new all. so_far.all new (subst (λ (l : List ℕ). RenewsAll process l between new) (sym numbers_are) (all_if process seq rest between left new kept (subst (λ (l : List ℕ). RenewsAll process l left new) numbers_then all)));
-          can = subst (CanRenew left) (sym numbers_then) (can_if process seq rest between left can kept);
+          all = λ new all. so_far.all new (subst (λ (l : List ℕ). RenewsAll process l between new) (sym numbers_are) (all_if process drawing rest between left new kept (subst (λ (l : List ℕ). RenewsAll process l left new) numbers_then all)));
+          can = subst (CanRenew left) (sym numbers_then) (can_if process drawing rest between left can kept);
           copies = same ∙ ap (λ (k : ℕ). replicate k process.cwd) (few ∙ ap length (sym numbers_then));
-          room = let most = next_most between.calls.next seq in let is = next_is in let before = room in let tail = ap length left_over in omega (arith, most, is, before, tail);
+          room = let most = next_most between.calls.next drawing in let is = next_is in let before = room in let tail = ap length left_over in omega (arith, most, is, before, tail);
         }

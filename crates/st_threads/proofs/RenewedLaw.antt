@@ -200,9 +200,9 @@ module _ (processes : Processes) (pid caller : ℕ) where
 
     -- ---- which numbers the changes give
 
-    seq_others : (q next : ℕ) (ns : List ℕ) → AreOthers q ns → seq_after q (renewals_from next ns) ≡ q
-    seq_others q next [] x = refl
-    seq_others q next (p ∷ ns) x = ap (λ (n : ℕ). seq_after n (renewals_from (suc next) ns)) (ap (λ (b : Bool). cond b next q) (ne_eqb p q x.0)) ∙ seq_others q (suc next) ns x.1
+    drawing_others : (q next : ℕ) (ns : List ℕ) → AreOthers q ns → seq_after q (renewals_from next ns) ≡ q
+    drawing_others q next [] x = refl
+    drawing_others q next (p ∷ ns) x = ap (λ (n : ℕ). seq_after n (renewals_from (suc next) ns)) (ap (λ (b : Bool). cond b next q) (ne_eqb p q x.0)) ∙ drawing_others q (suc next) ns x.1
 
     -- the number of a thread after one was given or not
     abbrev number_later : ℕ → Option ℕ → ℕ → ℕ
@@ -211,11 +211,11 @@ module _ (processes : Processes) (pid caller : ℕ) where
 
     here : (u next : ℕ) → low ≤ next → (row : ThreadRow) (rows : List ThreadRow) → Tagged u (row ∷ rows) → (o : Option ℕ) → number u row ≡ o → (q : ℕ) → number_held row ≡ Some q
         → seq_after q (renewals_from next (with_number o (numbers (suc u) rows))) ≡ number_later next o q
-    here u next high row rows tags None e q held = let tid = (tags.0 q held).tid in seq_others q next (numbers (suc u) rows) (others q rows (suc u) tags.1 (omega (arith, tid)))
+    here u next high row rows tags None e q held = let tid = (tags.0 q held).tid in drawing_others q next (numbers (suc u) rows) (others q rows (suc u) tags.1 (omega (arith, tid)))
     here u next high row rows tags (Some p) e q held =
         let same : p ≡ q = same_Some p q (sym (of_held u row p e) ∙ held) in
         ap (λ (n : ℕ). seq_after n (renewals_from (suc next) (numbers (suc u) rows))) (ap (λ (b : Bool). cond b next q) (eq-eqb p q same))
-        ∙ seq_others next (suc next) (numbers (suc u) rows) (below_fresh next high rows (suc u) tags.1)
+        ∙ drawing_others next (suc next) (numbers (suc u) rows) (below_fresh next high rows (suc u) tags.1)
 
     later : (u next : ℕ) (row : ThreadRow) (rows : List ThreadRow) → Tagged u (row ∷ rows) → (o : Option ℕ) → number u row ≡ o → (q : ℕ) → suc u ≤ owner q
         → seq_after q (renewals_from next (with_number o (numbers (suc u) rows))) ≡ seq_after q (renewals_from (next_after next o) (numbers (suc u) rows))

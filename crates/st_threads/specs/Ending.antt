@@ -43,11 +43,11 @@ pub record HaveCalls (rows : List ThreadRow) (workers : UnderWay) : Type 0 where
 
 -- its number, if it has one, is no longer live
 abbrev pub life_without_number : (ℕ → Bool) → Option ℕ → ℕ → Bool
-life_without_number alive seq other = if is_number other seq then false else alive other
+life_without_number alive drawing other = if is_number other drawing then false else alive other
 
 -- the messages and workers after the call has ended
 abbrev pub EndsCall : Option ℕ → UnderWay → UnderWay → Type 0
-EndsCall seq old new = (i : Input) (st : State) (alive : ℕ → Bool) → RepresentsMessages i st alive old → RepresentsMessages i st (life_without_number alive seq) new
+EndsCall drawing old new = (i : Input) (st : State) (alive : ℕ → Bool) → RepresentsMessages i st alive old → RepresentsMessages i st (life_without_number alive drawing) new
 
 -- ---- threads that are dying
 

@@ -6,18 +6,18 @@ ghost use Rattle.st_messages.specs.Messages.{is_live_number};
 
 use crate::caller::CallingThread;
 use crate::thread::Thread;
-use st_base::{Pid, Seq, Tid};
+use st_base::{Drawing, Pid, Tid};
 use st_system::System;
 use st_trace::Change;
 use st_workers::Workers;
 
-/// Ends the call of this number, if there is one.
-pub fn end_call(workers: &mut Workers, seq: Option<Seq>)
-    requires { IfSome seq (λ q. is_live_number workers.old.calls q ≡ true) }
-    ensures { EndsCall seq workers.old workers.new }
+/// Ends the call of this drawing, if there is one.
+pub fn end_call(workers: &mut Workers, drawing: Option<Drawing>)
+    requires { IfSome drawing (λ q. is_live_number workers.old.calls q ≡ true) }
+    ensures { EndsCall drawing workers.old workers.new }
 {
-    if let Some(seq) = seq {
-        workers.cancel(seq);
+    if let Some(drawing) = drawing {
+        workers.cancel(drawing);
     }
 }
 
@@ -27,7 +27,7 @@ fn make_dying(thread: &mut Thread<'_>, workers: &mut Workers)
     ensures thread { thread.new ≡ row_dying_if true thread.old }
     ensures kept { EndsCall (number_held thread.old) workers.old workers.new }
 {
-    end_call(workers, thread.number_held());
+    end_call(workers, thread.drawing_held());
     thread.die();
 }
 

@@ -3,7 +3,7 @@ ghost use Rattle.st_law.specs.State.{child_of_pending};
 ghost use Rattle.st_law.specs.Threads.{child_of_next};
 ghost use Rattle.st_threads.specs.Thread.{first_row, number_held, row_entered};
 
-use st_base::{Seq, Tid};
+use st_base::{Drawing, Tid};
 use st_calls::SysCall;
 use st_trace::{Instr, Way};
 use std::marker::Model;
@@ -33,7 +33,7 @@ impl Model for PendingCall {
 pub struct Thread<'a> {
     left: &'a [Instr],
     pending: Option<PendingCall>,
-    number: Seq,
+    drawing: Drawing,
     dying: bool,
     ended: bool,
 }
@@ -43,7 +43,7 @@ impl<'a> Model for Thread<'a> {
 
     ghost Value = { ThreadRow };
 
-    ghost view = { λ t. record { left = t.left.now; pending = t.pending; number = t.number; dying = t.dying; ended = t.ended } };
+    ghost view = { λ t. record { left = t.left.now; pending = t.pending; number = t.drawing; dying = t.dying; ended = t.ended } };
 }
 
 // The instructions after the first one.
@@ -74,7 +74,7 @@ impl<'a> Thread<'a> {
         Thread {
             left: body,
             pending: None,
-            number: 0,
+            drawing: 0,
             dying: false,
             ended: false,
         }
@@ -94,22 +94,22 @@ impl<'a> Thread<'a> {
         self.pending
     }
 
-    /// The number of its held call.
-    pub fn number(&self) -> Seq
+    /// The drawing of its held call.
+    pub fn drawing(&self) -> Drawing
         ensures { result ≡ self.now.number }
     {
-        self.number
+        self.drawing
     }
 
-    /// The number of the call that it holds. A dying thread holds none.
-    pub fn number_held(&self) -> Option<Seq>
+    /// The drawing of the call that it holds. A dying thread holds none.
+    pub fn drawing_held(&self) -> Option<Drawing>
         ensures { result ≡ number_held self.now }
     {
         if self.dying {
             return None;
         }
         match self.pending?.way {
-            Way::Held(_) => Some(self.number),
+            Way::Held(_) => Some(self.drawing),
             Way::Fast | Way::Barred(_) | Way::Untraced => None,
         }
     }
@@ -145,12 +145,12 @@ impl<'a> Thread<'a> {
         self.left = rest_of(self.left);
     }
 
-    /// Enters the call of its next instruction, and goes on after it. A held call has the number of its message.
+    /// Enters the call of its next instruction, and goes on after it. A held call has the drawing of its message.
     pub fn enter(&mut self, call: SysCall, regs: [u64; 6], way: Way)
         ensures { self.new ≡ row_entered self.old call regs way }
     {
-        if let Way::Held(seq) = way {
-            self.number = seq;
+        if let Way::Held(drawing) = way {
+            self.drawing = drawing;
         }
         self.pending = Some(PendingCall {
             call,
@@ -168,11 +168,11 @@ impl<'a> Thread<'a> {
         self.pending = None;
     }
 
-    /// Gives the call that it holds a new number.
-    pub fn renew(&mut self, seq: Seq)
-        ensures { self.new ≡ record self.old { number = seq } }
+    /// Gives the call that it holds a new drawing.
+    pub fn renew(&mut self, drawing: Drawing)
+        ensures { self.new ≡ record self.old { number = drawing } }
     {
-        self.number = seq;
+        self.drawing = drawing;
     }
 
     /// Makes it dying: it can only end.

@@ -16,7 +16,9 @@ use Rattle.st_messages.proofs.Whole.{states_moved, threads_moved}
 use Rattle.st_trace.specs.declared.entry.Entry.TheVariants as entry
 use Rattle.st_law.specs.declared.input.Input.{Input}
 use Rattle.st_filter.specs.Policies.{read_filters}
-use Rattle.st_law.specs.State.{progress_of_message, snapshot_of_message, Message, State}
+use Rattle.st_effects.specs.Progress.{Progress, Word, Look, Stuck, Ready as Whole}
+use Rattle.st_law.specs.Messages.{Head}
+use Rattle.st_law.specs.State.{progress_of_message, snapshot_of_message, snapshot_of_progress, Message, State}
 use Rattle.st_workers.specs.Refinement.{at_work, AgreesWithMachine, HasMessageFlags, IsDead, RepresentsMessages, RepresentsMessagesAfter, IsLive, IsTurn, AreValidWorkers}
 use Rattle.st_workers.specs.UnderWay.{found_in, turn_of_worker, UnderWay}
 use Rattle.st_workers.specs.declared.turn.Turn.TheVariants.{Idle, Ready}
@@ -39,7 +41,18 @@ stale_by : (d : Delivered) → (d ≡ Applied → ⊥) → d ≡ Stale
 stale_by Applied unlike = absurd (unlike refl)
 stale_by Stale unlike = refl
 
-module _ (old new : UnderWay) (w : ℕ) (s : Snapshot) (v : Verdict) (delivered : Delivered) (ready : turn_of_worker old w ≡ Some (Ready s)) (is : IsDelivered old.calls new.calls s.seq v delivered)
+own_number : (q : ℕ) (o : Option Head) (p : Progress) (s : Snapshot) → snapshot_of_progress q o p ≡ Some s → q ≡ s.seq
+own_number q (Some head) (Whole args) s e = ap (λ (u : Snapshot). u.seq) (same_Some _ s e)
+own_number q (Some head) (Word part place) s e = absurd (none-some s e)
+own_number q (Some head) (Look part name) s e = absurd (none-some s e)
+own_number q (Some head) (Stuck errno) s e = absurd (none-some s e)
+own_number q None p s e = absurd (none-some s e)
+
+-- the number in the copies of a ready worker is that of its message
+pub ready_number : (kept : UnderWay) → AreValidWorkers kept → (w q : ℕ) (s : Snapshot) → turn_of_worker kept w ≡ Some (Ready q s) → q ≡ s.seq
+ready_number kept whole w q s ready = own_number q (whole.messages q).head (progress_of_message (whole.messages q)) s (whole.agrees.workers w (Ready q s) ready).1
+
+module _ (old new : UnderWay) (w : ℕ) (s : Snapshot) (v : Verdict) (delivered : Delivered) (ready : turn_of_worker old w ≡ Some (Ready s.seq s)) (is : IsDelivered old.calls new.calls s.seq v delivered)
     (slots : new.slots ≡ old.slots) (put : new.turns ≡ set old.turns (w - 1) Idle) where
   answered_other : (a : Bool) (q : ℕ) (m : Message) → q ≢ s.seq → message_worked (entry.Answered w s v a) q m ≡ m
   answered_other a q m ne =
@@ -53,8 +66,8 @@ module _ (old new : UnderWay) (w : ℕ) (s : Snapshot) (v : Verdict) (delivered 
   stale_come m was = record { claimed = was.claimed; fault = was.fault; answered = ap (λ (b : Bool). b || m.answered) (and_false (s.seq == s.seq)) ∙ was.answered }
 
   module _ (messages : ℕ → Message) (turns : ℕ → Option ℕ) (alive : ℕ → Bool) (posted : ℕ) (agrees : AgreesWithMachine messages turns alive posted (found_in old)) where
-    at : IsTurn messages alive (turns w) (Ready s)
-    at = agrees.workers w (Ready s) ready
+    at : IsTurn messages alive (turns w) (Ready s.seq s)
+    at = agrees.workers w (Ready s.seq s) ready
 
     came : HasMessageFlags (messages s.seq) true None false
     came = agrees.turned w s.seq at.0
@@ -94,8 +107,8 @@ module _ (old new : UnderWay) (w : ℕ) (s : Snapshot) (v : Verdict) (delivered 
 
       applied_step : IsStep messages (all_worked (entry.Answered w s v true) messages) turns (all_turned (entry.Answered w s v true) turns) alive posted old new w s.seq Idle
       applied_step = record {
-        from = (number_within old.turns w (Ready s) ready).0;
-        to = (number_within old.turns w (Ready s) ready).1;
+        from = (number_within old.turns w (Ready s.seq s) ready).0;
+        to = (number_within old.turns w (Ready s.seq s) ready).1;
         put = put;
         next = ap (λ (c : HeldCalls). c.next) calls;
         others = λ q ne. answered_other true q (messages q) ne;
@@ -137,8 +150,8 @@ module _ (old new : UnderWay) (w : ℕ) (s : Snapshot) (v : Verdict) (delivered 
 
       stale_step : s.seq ≤ posted → IsStep messages (all_worked (entry.Answered w s v false) messages) turns (all_turned (entry.Answered w s v false) turns) alive posted old new w s.seq Idle
       stale_step within = record {
-        from = (number_within old.turns w (Ready s) ready).0;
-        to = (number_within old.turns w (Ready s) ready).1;
+        from = (number_within old.turns w (Ready s.seq s) ready).0;
+        to = (number_within old.turns w (Ready s.seq s) ready).1;
         put = put;
         next = ap (λ (c : HeldCalls). c.next) stale_calls;
         others = λ q ne. answered_other false q (messages q) ne;

@@ -59,7 +59,7 @@ module _ (old new : Found) (p : ℕ) (ended : IsEnded old new p) (messages : ℕ
     turn_left None o_is t is = absurd (none-some t is)
     turn_left (Some Idle) o_is t is = absurd (idle_at_none messages alive (turns w) p (agrees.workers w Idle o_is) turned live)
     turn_left (Some (Working q)) o_is t is = subst (IsTurn messages later (turns w)) (same_Some Idle t is) (at_idle q (agrees.workers w (Working q) o_is))
-    turn_left (Some (Ready s)) o_is t is = subst (IsTurn messages later (turns w)) (same_Some (Ready s) t is) (agrees.workers w (Ready s) o_is)
+    turn_left (Some (Ready q s)) o_is t is = subst (IsTurn messages later (turns w)) (same_Some (Ready q s) t is) (agrees.workers w (Ready q s) o_is)
 
     each_claimed : old.state p ≡ Some (Claimed w) → (v : ℕ) → Stays turns turns p old new v ⊎ Moves turns turns messages alive later p w new v
     each_claimed state_is v = elim (cases_eq v w) [

@@ -85,9 +85,9 @@ module _ (messages after : ℕ → Message) (turns turned : ℕ → Option ℕ) 
   turn_still o (Working q) other is =
       let ne : q ≢ p = λ e. other (is.0 ∙ ap Some e) in
       (is.0, changes.lives q ne ∙ is.1, ap (λ (m : Message). is_ready (progress_of_message m)) (changes.others q ne) ∙ is.2)
-  turn_still o (Ready s) other is =
-      let ne : s.seq ≢ p = λ e. other (is.0 ∙ ap Some e) in
-      (is.0, ap (snapshot_of_message s.seq) (changes.others s.seq ne) ∙ is.1)
+  turn_still o (Ready q s) other is =
+      let ne : q ≢ p = λ e. other (is.0 ∙ ap Some e) in
+      (is.0, ap (snapshot_of_message q) (changes.others q ne) ∙ is.1)
 
   come_still : (w q : ℕ) → turned w ≡ Some q → HasMessageFlags (after q) true None false
   come_still w q is = elim (changes.each w) [

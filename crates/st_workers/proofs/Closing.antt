@@ -29,7 +29,7 @@ module _ (closed : ℕ → Bool) (messages : ℕ → Message) (turns : ℕ → O
   turn_closed None Idle is = is
   turn_closed (Some q) Idle is = is
   turn_closed o (Working q) is = is
-  turn_closed o (Ready s) is = is
+  turn_closed o (Ready q s) is = is
 
   agrees_closed : (found : Found) → AgreesWithMachine messages turns alive posted found → AgreesWithMachine (λ q. with_closed (closed q) (messages q)) turns alive posted found
   agrees_closed found agrees = record {

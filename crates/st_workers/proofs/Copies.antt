@@ -25,14 +25,14 @@ use Rattle.st_workers.specs.Refinement.{head_of, IsSlotOf}
 
 -- ---- the slot of a number
 
-slot_number-by : (slot : Slot) (slots : List Slot) (seq : ℕ) (found : Slot) (b : Bool) → is_slot_of seq slot ≡ b → cond b (Some slot) (slot_at slots seq) ≡ Some found → (slot_at slots seq ≡ Some found → found.head.seq ≡ seq) → found.head.seq ≡ seq
-slot_number-by slot slots seq found true b_is is more = ap (λ (s : Slot). s.head.seq) (sym (same_Some slot found is)) ∙ eqb-true slot.head.seq seq b_is
-slot_number-by slot slots seq found false b_is is more = more is
+slot_number-by : (slot : Slot) (slots : List Slot) (drawing : ℕ) (found : Slot) (b : Bool) → is_slot_of drawing slot ≡ b → cond b (Some slot) (slot_at slots drawing) ≡ Some found → (slot_at slots drawing ≡ Some found → found.head.drawing ≡ drawing) → found.head.drawing ≡ drawing
+slot_number-by slot slots drawing found true b_is is more = ap (λ (s : Slot). s.head.drawing) (sym (same_Some slot found is)) ∙ eqb-true slot.head.drawing drawing b_is
+slot_number-by slot slots drawing found false b_is is more = more is
 
 -- a slot that is found has the number that it was looked for under
-pub slot_number : (slots : List Slot) (seq : ℕ) (found : Slot) → slot_at slots seq ≡ Some found → found.head.seq ≡ seq
-slot_number [] seq found is = absurd (none-some found is)
-slot_number (slot ∷ slots) seq found is = slot_number-by slot slots seq found (is_slot_of seq slot) refl is (slot_number slots seq found)
+pub slot_number : (slots : List Slot) (drawing : ℕ) (found : Slot) → slot_at slots drawing ≡ Some found → found.head.drawing ≡ drawing
+slot_number [] drawing found is = absurd (none-some found is)
+slot_number (slot ∷ slots) drawing found is = slot_number-by slot slots drawing found (is_slot_of drawing slot) refl is (slot_number slots drawing found)
 
 -- ---- the progress of a message
 
@@ -52,7 +52,7 @@ module _ (message : Message) (tid : ℕ) (slot : Slot) (is : IsSlotOf message ti
   slot_sealed = record { head = is.head; count = is.count; words = is.words; lookups = is.lookups }
 
   -- the sealed copies of a slot are the snapshot of its message
-  pub same_snapshot : (q : ℕ) (args : List ArgText) → slot.head.seq ≡ q → slot_progress slot ≡ Ready args → snapshot_of_message q message ≡ Some (snapshot_with slot.head args)
+  pub same_snapshot : (q : ℕ) (args : List ArgText) → slot.head.drawing ≡ q → slot_progress slot ≡ Ready args → snapshot_of_message q message ≡ Some (snapshot_with slot.head args)
   same_snapshot q args number ready =
       (λ k. snapshot_of_progress q (is.head k) ((same_progress ∙ ready) k))
       ∙ ap (λ (n : ℕ). Some (law.snapshot_with n (head_of tid slot.head) args)) (sym number)

@@ -13,7 +13,7 @@ mod Renewals
 mod Same
 mod Sealed
 mod Served
-mod States
+pub mod States
 mod Steps
 mod Taken
 mod Tasks

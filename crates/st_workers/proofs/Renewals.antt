@@ -40,7 +40,7 @@ renewed_calls calls p m is = ap (calls_after_renew_of calls p) is
 
 -- a head under another number, with these ids and this directory
 abbrev pub fresh_head : kept.Head → ℕ → Ids → Components → kept.Head
-fresh_head head seq ids cwd = record head { seq = seq; ids = ids; cwd = cwd }
+fresh_head head drawing ids cwd = record head { drawing = drawing; ids = ids; cwd = cwd }
 
 module _ (old new : UnderWay) (p : ℕ) (ids : Ids) (cwd : Components) (here : is_live_number old.calls p ≡ true) (calls : new.calls ≡ calls_after_renew old.calls p) (thread : thread_of_number new.calls old.calls.next ≡ thread_of_number old.calls p)
     (states : RenewsState old.calls p old.calls.next new.calls) (slots : IfSome (slot_at old.slots p) (λ slot. RenewsSlot old.slots p old.calls.next (renewed slot old.calls.next ids cwd) new.slots))

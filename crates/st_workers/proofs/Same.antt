@@ -49,11 +49,11 @@ next_free-by kept whole false is = (whole.agrees.dead kept.calls.next is).slot
 pub next_free : (kept : UnderWay) → AreValidWorkers kept → slot_at kept.slots kept.calls.next ≡ None
 next_free kept whole = next_free-by kept whole (whole.alive kept.calls.next) refl
 
-none_still : (old : List Slot) (seq other : ℕ) (b : Bool) → (other == seq) ≡ b → slot_at old seq ≡ None → cond b None (slot_at old other) ≡ slot_at old other
-none_still old seq other true is free = sym (ap (slot_at old) (eqb-true other seq is) ∙ free)
-none_still old seq other false is free = refl
+none_still : (old : List Slot) (drawing other : ℕ) (b : Bool) → (other == drawing) ≡ b → slot_at old drawing ≡ None → cond b None (slot_at old other) ≡ slot_at old other
+none_still old drawing other true is free = sym (ap (slot_at old) (eqb-true other drawing is) ∙ free)
+none_still old drawing other false is free = refl
 
-pub none_then : (old mid new : List Slot) (seq : ℕ) (slot : Slot) → slot_at old seq ≡ None → ChangesSlot old seq (Some slot) mid → ChangesSlot mid seq None new → AreSame old new
-none_then old mid new seq slot free first second other =
-    let both : ChangesSlot old seq None new = last_change old mid new seq (Some slot) None first second in
-    both other ∙ none_still old seq other (other == seq) refl free
+pub none_then : (old mid new : List Slot) (drawing : ℕ) (slot : Slot) → slot_at old drawing ≡ None → ChangesSlot old drawing (Some slot) mid → ChangesSlot mid drawing None new → AreSame old new
+none_then old mid new drawing slot free first second other =
+    let both : ChangesSlot old drawing None new = last_change old mid new drawing (Some slot) None first second in
+    both other ∙ none_still old drawing other (other == drawing) refl free

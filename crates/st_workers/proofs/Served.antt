@@ -29,7 +29,7 @@ use Rattle.st_workers.proofs.Turns.{number_within}
 
 -- an entry that fills the slot of a number, and leaves everything else unchanged
 pub record Fills (e : Entry) (p : ℕ) (slot filled : Slot) : Type 0 where
-  pub number : filled.head.seq ≡ slot.head.seq
+  pub number : filled.head.drawing ≡ slot.head.drawing
   pub other : (q : ℕ) (m : Message) → q ≢ p → message_worked e q m ≡ m
   pub come : (m : Message) → HasMessageFlags m true None false → HasMessageFlags (message_worked e p m) true None false
   pub kept : (m : Message) (tid : ℕ) → IsSlotOf m tid slot → IsSlotOf (message_worked e p m) tid filled

@@ -145,16 +145,14 @@ waiting_unturned m waits come = not_claimed m come waits
 
 -- ---- the turn by a slot
 
-turn_for-ready : (after : ℕ → Message) (alive : ℕ → Bool) (o : Option ℕ) (p tid : ℕ) (slot : Slot) (s : Snapshot) → IsSlotOf (after p) tid slot → slot.head.seq ≡ p → o ≡ Some p
-    → slot_progress slot ≡ Whole s.parts → s ≡ snapshot_with slot.head s.parts → IsTurn after alive o (Ready s)
-turn_for-ready after alive o p tid slot s is number turned ready sealed =
-    let e : s.seq ≡ p = ap (λ (x : Snapshot). x.seq) sealed ∙ number in
-    (turned ∙ ap Some (sym e), ap (λ (n : ℕ). snapshot_of_message n (after n)) e ∙ same_snapshot (after p) tid slot is p s.parts number ready ∙ ap Some (sym sealed))
+turn_for-ready : (after : ℕ → Message) (alive : ℕ → Bool) (o : Option ℕ) (p tid : ℕ) (slot : Slot) (s : Snapshot) → IsSlotOf (after p) tid slot → slot.head.drawing ≡ p → o ≡ Some p
+    → slot_progress slot ≡ Whole s.parts → s ≡ snapshot_with slot.head s.parts → IsTurn after alive o (Ready p s)
+turn_for-ready after alive o p tid slot s is number turned ready sealed = (turned, same_snapshot (after p) tid slot is p s.parts number ready ∙ ap Some (sym sealed))
 
 -- the turn of a worker at a live number, by the slot of the number
-pub turn_is : (after : ℕ → Message) (alive : ℕ → Bool) (o : Option ℕ) (p tid : ℕ) (slot : Slot) (t : Turn) → IsSlotOf (after p) tid slot → slot.head.seq ≡ p → o ≡ Some p → alive p ≡ true → IsTurnFor p slot t → IsTurn after alive o t
+pub turn_is : (after : ℕ → Message) (alive : ℕ → Bool) (o : Option ℕ) (p tid : ℕ) (slot : Slot) (t : Turn) → IsSlotOf (after p) tid slot → slot.head.drawing ≡ p → o ≡ Some p → alive p ≡ true → IsTurnFor p slot t → IsTurn after alive o t
 turn_is after alive o p tid slot Idle is number turned live turn = absurd turn
 turn_is after alive o p tid slot (Working q) is number turned live turn =
     let e : q ≡ p = turn.0 in
     (turned ∙ ap Some (sym e), ap alive e ∙ live, ap (λ (n : ℕ). is_ready (progress_of_message (after n))) e ∙ ap is_ready (same_progress (after p) tid slot is) ∙ turn.1)
-turn_is after alive o p tid slot (Ready s) is number turned live turn = turn_for-ready after alive o p tid slot s is number turned turn.0 turn.1
+turn_is after alive o p tid slot (Ready q s) is number turned live turn = subst (λ (n : ℕ). IsTurn after alive o (Ready n s)) (sym turn.0) (turn_for-ready after alive o p tid slot s is number turned turn.1 turn.2)

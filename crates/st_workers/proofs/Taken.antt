@@ -35,46 +35,46 @@ put_again old new w was read t at here same put =
     let its : get_or old.turns (w - 1) t ≡ was = same_Some (get_or old.turns (w - 1) t) was (sym (item_here old.turns w t within.0 within.1) ∙ at) in
     put ∙ ap (set old.turns (w - 1)) (same ∙ read_is old.turns w was read at here ∙ sym its) ∙ set-get_or old.turns (w - 1) t
 
-module _ (old new : UnderWay) (w seq : ℕ) (t : Turn) (working : turn_of_worker old w ≡ Some (Working seq)) (whole : AreValidWorkers old) (calls : new.calls ≡ old.calls) (put : new.turns ≡ set old.turns (w - 1) t) where
-  slot : (slot : Slot) × (slot_at old.slots seq ≡ Some slot)
-  slot = working_slot old whole w seq working
+module _ (old new : UnderWay) (w drawing : ℕ) (t : Turn) (working : turn_of_worker old w ≡ Some (Working drawing)) (whole : AreValidWorkers old) (calls : new.calls ≡ old.calls) (put : new.turns ≡ set old.turns (w - 1) t) where
+  slot : (slot : Slot) × (slot_at old.slots drawing ≡ Some slot)
+  slot = working_slot old whole w drawing working
 
-  module _ (word : ℕ) (slots : IfSome (slot_at old.slots seq) (λ slot. ChangesSlot old.slots seq (Some (sealed_if_ready (after_word slot word))) new.slots))
-      (turn : IfSome (slot_at old.slots seq) (λ slot. IsTurnFor seq (after_word slot word) t)) where
-    slots_word : ChangesSlot old.slots seq (Some (sealed_if_ready (after_word slot.0 word))) new.slots
-    slots_word = known (slot_at old.slots seq) (λ s. ChangesSlot old.slots seq (Some (sealed_if_ready (after_word s word))) new.slots) slot.0 slot.1 slots
+  module _ (word : ℕ) (slots : IfSome (slot_at old.slots drawing) (λ slot. ChangesSlot old.slots drawing (Some (sealed_if_ready (after_word slot word))) new.slots))
+      (turn : IfSome (slot_at old.slots drawing) (λ slot. IsTurnFor drawing (after_word slot word) t)) where
+    slots_word : ChangesSlot old.slots drawing (Some (sealed_if_ready (after_word slot.0 word))) new.slots
+    slots_word = known (slot_at old.slots drawing) (λ s. ChangesSlot old.slots drawing (Some (sealed_if_ready (after_word s word))) new.slots) slot.0 slot.1 slots
 
-    turn_word : IsTurnFor seq (after_word slot.0 word) t
-    turn_word = known (slot_at old.slots seq) (λ s. IsTurnFor seq (after_word s word) t) slot.0 slot.1 turn
+    turn_word : IsTurnFor drawing (after_word slot.0 word) t
+    turn_word = known (slot_at old.slots drawing) (λ s. IsTurnFor drawing (after_word s word) t) slot.0 slot.1 turn
 
     pub copied_whole : IsCopy (task_of old w) → AreValidWorkers new
     copied_whole is =
-        let asked = word_asked old w seq slot.0 working slot.1 is in
-        served_whole (entry.Copied seq asked.0 asked.1 word) old new w seq slot.0 (after_word slot.0 word) t working slot.1 calls slots_word put turn_word (fills_word seq asked.0 asked.1 word slot.0 asked.2) whole
+        let asked = word_asked old w drawing slot.0 working slot.1 is in
+        served_whole (entry.Copied drawing asked.0 asked.1 word) old new w drawing slot.0 (after_word slot.0 word) t working slot.1 calls slots_word put turn_word (fills_word drawing asked.0 asked.1 word slot.0 asked.2) whole
 
     pub copied_follows : (q pid part place : ℕ) → task_of old w ≡ task.Copy q pid part place → RepresentsAfterEntry old (entry.Copied q part place word) new
     copied_follows q pid part place e =
-        let asked = copy_is old w seq slot.0 working slot.1 q pid part place e in
-        let follows : RepresentsAfterEntry old (entry.Copied seq part place word) new = λ i st alive is.
-        served_kept (entry.Copied seq part place word) old new w seq slot.0 (after_word slot.0 word) t working slot.1 calls slots_word put turn_word (fills_word seq part place word slot.0 asked.1) i st.messages st.turns alive st.posted is in
+        let asked = copy_is old w drawing slot.0 working slot.1 q pid part place e in
+        let follows : RepresentsAfterEntry old (entry.Copied drawing part place word) new = λ i st alive is.
+        served_kept (entry.Copied drawing part place word) old new w drawing slot.0 (after_word slot.0 word) t working slot.1 calls slots_word put turn_word (fills_word drawing part place word slot.0 asked.1) i st.messages st.turns alive st.posted is in
         subst (λ (n : ℕ). RepresentsAfterEntry old (entry.Copied n part place word) new) asked.0 follows
 
-  module _ (seen : SeenText) (slots : IfSome (slot_at old.slots seq) (λ slot. ChangesSlot old.slots seq (Some (sealed_if_ready (after_look slot seen))) new.slots))
-      (turn : IfSome (slot_at old.slots seq) (λ slot. IsTurnFor seq (after_look slot seen) t)) where
-    slots_look : ChangesSlot old.slots seq (Some (sealed_if_ready (after_look slot.0 seen))) new.slots
-    slots_look = known (slot_at old.slots seq) (λ s. ChangesSlot old.slots seq (Some (sealed_if_ready (after_look s seen))) new.slots) slot.0 slot.1 slots
+  module _ (seen : SeenText) (slots : IfSome (slot_at old.slots drawing) (λ slot. ChangesSlot old.slots drawing (Some (sealed_if_ready (after_look slot seen))) new.slots))
+      (turn : IfSome (slot_at old.slots drawing) (λ slot. IsTurnFor drawing (after_look slot seen) t)) where
+    slots_look : ChangesSlot old.slots drawing (Some (sealed_if_ready (after_look slot.0 seen))) new.slots
+    slots_look = known (slot_at old.slots drawing) (λ s. ChangesSlot old.slots drawing (Some (sealed_if_ready (after_look s seen))) new.slots) slot.0 slot.1 slots
 
-    turn_look : IsTurnFor seq (after_look slot.0 seen) t
-    turn_look = known (slot_at old.slots seq) (λ s. IsTurnFor seq (after_look s seen) t) slot.0 slot.1 turn
+    turn_look : IsTurnFor drawing (after_look slot.0 seen) t
+    turn_look = known (slot_at old.slots drawing) (λ s. IsTurnFor drawing (after_look s seen) t) slot.0 slot.1 turn
 
     pub looked_whole : IsLook (task_of old w) → AreValidWorkers new
     looked_whole is =
-        let asked = look_asked old w seq slot.0 working slot.1 is in
-        served_whole (entry.Looked seq asked.0 asked.1 seen) old new w seq slot.0 (after_look slot.0 seen) t working slot.1 calls slots_look put turn_look (fills_look seq asked.0 asked.1 asked.1 seen slot.0 asked.2) whole
+        let asked = look_asked old w drawing slot.0 working slot.1 is in
+        served_whole (entry.Looked drawing asked.0 asked.1 seen) old new w drawing slot.0 (after_look slot.0 seen) t working slot.1 calls slots_look put turn_look (fills_look drawing asked.0 asked.1 asked.1 seen slot.0 asked.2) whole
 
     pub looked_follows : (q part : ℕ) (name : Components) → task_of old w ≡ task.Look q part → RepresentsAfterEntry old (entry.Looked q part name seen) new
     looked_follows q part name e =
-        let asked = look_is old w seq slot.0 working slot.1 q part e in
-        let follows : RepresentsAfterEntry old (entry.Looked seq part name seen) new = λ i st alive is.
-        served_kept (entry.Looked seq part name seen) old new w seq slot.0 (after_look slot.0 seen) t working slot.1 calls slots_look put turn_look (fills_look seq part asked.1 name seen slot.0 asked.2) i st.messages st.turns alive st.posted is in
+        let asked = look_is old w drawing slot.0 working slot.1 q part e in
+        let follows : RepresentsAfterEntry old (entry.Looked drawing part name seen) new = λ i st alive is.
+        served_kept (entry.Looked drawing part name seen) old new w drawing slot.0 (after_look slot.0 seen) t working slot.1 calls slots_look put turn_look (fills_look drawing part asked.1 name seen slot.0 asked.2) i st.messages st.turns alive st.posted is in
         subst (λ (n : ℕ). RepresentsAfterEntry old (entry.Looked n part name seen) new) asked.0 follows

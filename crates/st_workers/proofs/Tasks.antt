@@ -32,12 +32,12 @@ use Rattle.st_workers.proofs.Copies.{same_progress}
 
 idle_claims : (o : Option ℕ) → idle_task o ≡ task.Claim → IsSome o
 idle_claims None e = cc
-idle_claims (Some seq) e = refl
+idle_claims (Some drawing) e = refl
 
-slot_claims : (seq : ℕ) (o : Option Slot) → task_of_slot seq o ≡ task.Claim → ⊥
-slot_claims seq None e = cc
-slot_claims seq (Some slot) e = by (slot_progress slot) e where
-  by : (p : Progress) → task_at seq slot.head.pid p ≡ task.Claim → ⊥
+slot_claims : (drawing : ℕ) (o : Option Slot) → task_of_slot drawing o ≡ task.Claim → ⊥
+slot_claims drawing None e = cc
+slot_claims drawing (Some slot) e = by (slot_progress slot) e where
+  by : (p : Progress) → task_at drawing slot.head.pid p ≡ task.Claim → ⊥
   by (Word part place) e = cc
   by (Look part name) e = cc
   by (Stuck errno) e = cc
@@ -47,46 +47,46 @@ slot_claims seq (Some slot) e = by (slot_progress slot) e where
 pub claims_idle : (kept : UnderWay) (o : Option Turn) → task_of_turn kept o ≡ task.Claim → (o ≡ Some Idle) × IsSome (first_waiting kept.calls)
 claims_idle kept None e = cc
 claims_idle kept (Some Idle) e = (refl, idle_claims (first_waiting kept.calls) e)
-claims_idle kept (Some (Working seq)) e = absurd (slot_claims seq (slot_at kept.slots seq) e)
-claims_idle kept (Some (Ready s)) e = cc
+claims_idle kept (Some (Working drawing)) e = absurd (slot_claims drawing (slot_at kept.slots drawing) e)
+claims_idle kept (Some (Ready q s)) e = cc
 
 idle_idles : (o : Option ℕ) → IsBusy (idle_task o) → ⊥
 idle_idles None x = x
-idle_idles (Some seq) x = x
+idle_idles (Some drawing) x = x
 
 -- a worker that is busy is at some number
-pub busy_works : (kept : UnderWay) (o : Option Turn) → IsBusy (task_of_turn kept o) → (seq : ℕ) × (o ≡ Some (Working seq))
+pub busy_works : (kept : UnderWay) (o : Option Turn) → IsBusy (task_of_turn kept o) → (drawing : ℕ) × (o ≡ Some (Working drawing))
 busy_works kept None x = absurd x
 busy_works kept (Some Idle) x = absurd (idle_idles (first_waiting kept.calls) x)
-busy_works kept (Some (Working seq)) x = (seq, refl)
-busy_works kept (Some (Ready s)) x = absurd x
+busy_works kept (Some (Working drawing)) x = (drawing, refl)
+busy_works kept (Some (Ready q s)) x = absurd x
 
 idle_rests : (o : Option ℕ) → idle_task o ≡ task.Answer → ⊥
 idle_rests None e = cc
-idle_rests (Some seq) e = cc
+idle_rests (Some drawing) e = cc
 
-ready_task : (seq pid : ℕ) (p : Progress) → task_at seq pid p ≡ task.Answer → is_ready p ≡ true
-ready_task seq pid (Word part place) e = cc
-ready_task seq pid (Look part name) e = cc
-ready_task seq pid (Stuck errno) e = cc
-ready_task seq pid (Whole args) e = refl
+ready_task : (drawing pid : ℕ) (p : Progress) → task_at drawing pid p ≡ task.Answer → is_ready p ≡ true
+ready_task drawing pid (Word part place) e = cc
+ready_task drawing pid (Look part name) e = cc
+ready_task drawing pid (Stuck errno) e = cc
+ready_task drawing pid (Whole args) e = refl
 
 module _ (kept : UnderWay) (whole : AreValidWorkers kept) (w : ℕ) where
-  not_working : (seq : ℕ) → turn_of_worker kept w ≡ Some (Working seq) → task_of_slot seq (slot_at kept.slots seq) ≡ task.Answer → ⊥
-  not_working seq working e =
-      let at : IsTurn whole.messages whole.alive (whole.turns w) (Working seq) = whole.agrees.workers w (Working seq) working in
-      let live : IsLive whole.turns seq (whole.messages seq) (found_in kept) = whole.agrees.live seq at.1 in
-      let same = same_progress (whole.messages seq) live.tid live.slot live.is_slot in
-      true≢false (sym (ready_task seq live.slot.head.pid (slot_progress live.slot) (sym (ap (task_of_slot seq) live.slot_is) ∙ e)) ∙ sym (ap is_ready same) ∙ at.2)
+  not_working : (drawing : ℕ) → turn_of_worker kept w ≡ Some (Working drawing) → task_of_slot drawing (slot_at kept.slots drawing) ≡ task.Answer → ⊥
+  not_working drawing working e =
+      let at : IsTurn whole.messages whole.alive (whole.turns w) (Working drawing) = whole.agrees.workers w (Working drawing) working in
+      let live : IsLive whole.turns drawing (whole.messages drawing) (found_in kept) = whole.agrees.live drawing at.1 in
+      let same = same_progress (whole.messages drawing) live.tid live.slot live.is_slot in
+      true≢false (sym (ready_task drawing live.slot.head.pid (slot_progress live.slot) (sym (ap (task_of_slot drawing) live.slot_is) ∙ e)) ∙ sym (ap is_ready same) ∙ at.2)
 
-  answers_by : (o : Option Turn) → turn_of_worker kept w ≡ o → task_of_turn kept o ≡ task.Answer → (s : Snapshot) × (turn_of_worker kept w ≡ Some (Ready s))
+  answers_by : (o : Option Turn) → turn_of_worker kept w ≡ o → task_of_turn kept o ≡ task.Answer → (q : ℕ) × (s : Snapshot) × (turn_of_worker kept w ≡ Some (Ready q s))
   answers_by None o_is e = cc
   answers_by (Some Idle) o_is e = absurd (idle_rests (first_waiting kept.calls) e)
-  answers_by (Some (Working seq)) o_is e = absurd (not_working seq o_is e)
-  answers_by (Some (Ready s)) o_is e = (s, o_is)
+  answers_by (Some (Working drawing)) o_is e = absurd (not_working drawing o_is e)
+  answers_by (Some (Ready q s)) o_is e = (q, s, o_is)
 
   -- a worker whose task is to answer is ready
-  pub answers_ready : task_of kept w ≡ task.Answer → (s : Snapshot) × (turn_of_worker kept w ≡ Some (Ready s))
+  pub answers_ready : task_of kept w ≡ task.Answer → (q : ℕ) × (s : Snapshot) × (turn_of_worker kept w ≡ Some (Ready q s))
   answers_ready e = answers_by (turn_of_worker kept w) refl e
 
 -- ---- the entry of the law's machine
@@ -206,12 +206,12 @@ module _ (i : Input) (st : State) (kept : UnderWay) (w : ℕ) (is : RepresentsMe
   answer_by q (Look part name) s p_is ready e = absurd (true≢false (sym ready))
   answer_by q (Stuck errno) s p_is ready e = absurd (true≢false (sym ready))
 
-  pub ready_is : (s : Snapshot) → turn_of_worker kept w ≡ Some (Ready s) → worker_entry i st w ≡ Some (entry.Answered w s (verdict (read_at i st s.policy s.rule) s) (is_live st s.seq))
-  ready_is s ready =
-      let turn : IsTurn st.messages (is_live st) (st.turns w) (Ready s) = is.agrees.workers w (Ready s) ready in
-      let whole : is_ready (progress_in st s.seq) ≡ true = sealed_ready s.seq (st.messages s.seq).head (progress_in st s.seq) s turn.1 in
-      let at : worker_at st w ≡ Some s.seq = ap (seq_at_work st) turn.0 ∙ ap (λ (b : Bool). cond b (Some s.seq) None) (or_right (is_live st s.seq) (is_ready (progress_in st s.seq)) whole) in
-      entry_by i st w (Some s.seq) there at ∙ answer_by s.seq (progress_in st s.seq) s refl whole turn.1
+  pub ready_is : (q : ℕ) (s : Snapshot) → turn_of_worker kept w ≡ Some (Ready q s) → worker_entry i st w ≡ Some (entry.Answered w s (verdict (read_at i st s.policy s.rule) s) (is_live st q))
+  ready_is q s ready =
+      let turn : IsTurn st.messages (is_live st) (st.turns w) (Ready q s) = is.agrees.workers w (Ready q s) ready in
+      let whole : is_ready (progress_in st q) ≡ true = sealed_ready q (st.messages q).head (progress_in st q) s turn.1 in
+      let at : worker_at st w ≡ Some q = ap (seq_at_work st) turn.0 ∙ ap (λ (b : Bool). cond b (Some q) None) (or_right (is_live st q) (is_ready (progress_in st q)) whole) in
+      entry_by i st w (Some q) there at ∙ answer_by q (progress_in st q) s refl whole turn.1
 
 -- ---- preconditions of the code
 
@@ -230,68 +230,68 @@ working_slot kept whole w q working =
 
 -- ---- preconditions by the task
 
-word_by : (seq pid : ℕ) (p : Progress) → IsCopy (task_at seq pid p) → (part : ℕ) × (place : ℕ) × (p ≡ Word part place)
-word_by seq pid (Word part place) is = (part, place, refl)
-word_by seq pid (Look part name) is = absurd is
-word_by seq pid (Stuck errno) is = absurd is
-word_by seq pid (Whole args) is = absurd is
+word_by : (drawing pid : ℕ) (p : Progress) → IsCopy (task_at drawing pid p) → (part : ℕ) × (place : ℕ) × (p ≡ Word part place)
+word_by drawing pid (Word part place) is = (part, place, refl)
+word_by drawing pid (Look part name) is = absurd is
+word_by drawing pid (Stuck errno) is = absurd is
+word_by drawing pid (Whole args) is = absurd is
 
-look_by : (seq pid : ℕ) (p : Progress) → IsLook (task_at seq pid p) → (part : ℕ) × (name : Components) × (p ≡ Look part name)
-look_by seq pid (Word part place) is = absurd is
-look_by seq pid (Look part name) is = (part, name, refl)
-look_by seq pid (Stuck errno) is = absurd is
-look_by seq pid (Whole args) is = absurd is
+look_by : (drawing pid : ℕ) (p : Progress) → IsLook (task_at drawing pid p) → (part : ℕ) × (name : Components) × (p ≡ Look part name)
+look_by drawing pid (Word part place) is = absurd is
+look_by drawing pid (Look part name) is = (part, name, refl)
+look_by drawing pid (Stuck errno) is = absurd is
+look_by drawing pid (Whole args) is = absurd is
 
-fault_by : (seq pid : ℕ) (p : Progress) → IsFault (task_at seq pid p) → (errno : Errno) × (p ≡ Stuck errno)
-fault_by seq pid (Word part place) is = absurd is
-fault_by seq pid (Look part name) is = absurd is
-fault_by seq pid (Stuck errno) is = (errno, refl)
-fault_by seq pid (Whole args) is = absurd is
+fault_by : (drawing pid : ℕ) (p : Progress) → IsFault (task_at drawing pid p) → (errno : Errno) × (p ≡ Stuck errno)
+fault_by drawing pid (Word part place) is = absurd is
+fault_by drawing pid (Look part name) is = absurd is
+fault_by drawing pid (Stuck errno) is = (errno, refl)
+fault_by drawing pid (Whole args) is = absurd is
 
-copy_parts : (seq pid : ℕ) (p : Progress) (q its part place : ℕ) → task_at seq pid p ≡ task.Copy q its part place → (seq ≡ q) × (p ≡ Word part place)
-copy_parts seq pid (Word a b) q its part place e = (cc, cc)
-copy_parts seq pid (Look a b) q its part place e = cc
-copy_parts seq pid (Stuck errno) q its part place e = cc
-copy_parts seq pid (Whole args) q its part place e = cc
+copy_parts : (drawing pid : ℕ) (p : Progress) (q its part place : ℕ) → task_at drawing pid p ≡ task.Copy q its part place → (drawing ≡ q) × (p ≡ Word part place)
+copy_parts drawing pid (Word a b) q its part place e = (cc, cc)
+copy_parts drawing pid (Look a b) q its part place e = cc
+copy_parts drawing pid (Stuck errno) q its part place e = cc
+copy_parts drawing pid (Whole args) q its part place e = cc
 
-look_parts : (seq pid : ℕ) (p : Progress) (q part : ℕ) → task_at seq pid p ≡ task.Look q part → (seq ≡ q) × (name : Components) × (p ≡ Look part name)
-look_parts seq pid (Word a b) q part e = cc
-look_parts seq pid (Look a b) q part e = (cc, b, cc)
-look_parts seq pid (Stuck errno) q part e = cc
-look_parts seq pid (Whole args) q part e = cc
+look_parts : (drawing pid : ℕ) (p : Progress) (q part : ℕ) → task_at drawing pid p ≡ task.Look q part → (drawing ≡ q) × (name : Components) × (p ≡ Look part name)
+look_parts drawing pid (Word a b) q part e = cc
+look_parts drawing pid (Look a b) q part e = (cc, b, cc)
+look_parts drawing pid (Stuck errno) q part e = cc
+look_parts drawing pid (Whole args) q part e = cc
 
-fault_parts : (seq pid : ℕ) (p : Progress) (q : ℕ) (errno : Errno) → task_at seq pid p ≡ task.Fault q errno → (seq ≡ q) × (p ≡ Stuck errno)
-fault_parts seq pid (Word a b) q errno e = cc
-fault_parts seq pid (Look a b) q errno e = cc
-fault_parts seq pid (Stuck x) q errno e = (cc, cc)
-fault_parts seq pid (Whole args) q errno e = cc
+fault_parts : (drawing pid : ℕ) (p : Progress) (q : ℕ) (errno : Errno) → task_at drawing pid p ≡ task.Fault q errno → (drawing ≡ q) × (p ≡ Stuck errno)
+fault_parts drawing pid (Word a b) q errno e = cc
+fault_parts drawing pid (Look a b) q errno e = cc
+fault_parts drawing pid (Stuck x) q errno e = (cc, cc)
+fault_parts drawing pid (Whole args) q errno e = cc
 
-module _ (kept : UnderWay) (w seq : ℕ) (slot : Slot) (working : turn_of_worker kept w ≡ Some (Working seq)) (there : slot_at kept.slots seq ≡ Some slot) where
+module _ (kept : UnderWay) (w drawing : ℕ) (slot : Slot) (working : turn_of_worker kept w ≡ Some (Working drawing)) (there : slot_at kept.slots drawing ≡ Some slot) where
   -- the task of a worker at a number is what the slot of the number needs next
-  pub task_is : task_of kept w ≡ task_at seq slot.head.pid (slot_progress slot)
-  task_is = ap (task_of_turn kept) working ∙ ap (task_of_slot seq) there
+  pub task_is : task_of kept w ≡ task_at drawing slot.head.pid (slot_progress slot)
+  task_is = ap (task_of_turn kept) working ∙ ap (task_of_slot drawing) there
 
   pub word_asked : IsCopy (task_of kept w) → (part : ℕ) × (place : ℕ) × (slot_progress slot ≡ Word part place)
-  word_asked is = word_by seq slot.head.pid (slot_progress slot) (subst IsCopy task_is is)
+  word_asked is = word_by drawing slot.head.pid (slot_progress slot) (subst IsCopy task_is is)
 
   pub look_asked : IsLook (task_of kept w) → (part : ℕ) × (name : Components) × (slot_progress slot ≡ Look part name)
-  look_asked is = look_by seq slot.head.pid (slot_progress slot) (subst IsLook task_is is)
+  look_asked is = look_by drawing slot.head.pid (slot_progress slot) (subst IsLook task_is is)
 
   pub fault_asked : IsFault (task_of kept w) → (errno : Errno) × (slot_progress slot ≡ Stuck errno)
-  fault_asked is = fault_by seq slot.head.pid (slot_progress slot) (subst IsFault task_is is)
+  fault_asked is = fault_by drawing slot.head.pid (slot_progress slot) (subst IsFault task_is is)
 
-  pub copy_is : (q pid part place : ℕ) → task_of kept w ≡ task.Copy q pid part place → (seq ≡ q) × (slot_progress slot ≡ Word part place)
-  copy_is q pid part place e = copy_parts seq slot.head.pid (slot_progress slot) q pid part place (sym task_is ∙ e)
+  pub copy_is : (q pid part place : ℕ) → task_of kept w ≡ task.Copy q pid part place → (drawing ≡ q) × (slot_progress slot ≡ Word part place)
+  copy_is q pid part place e = copy_parts drawing slot.head.pid (slot_progress slot) q pid part place (sym task_is ∙ e)
 
-  pub look_is : (q part : ℕ) → task_of kept w ≡ task.Look q part → (seq ≡ q) × (name : Components) × (slot_progress slot ≡ Look part name)
-  look_is q part e = look_parts seq slot.head.pid (slot_progress slot) q part (sym task_is ∙ e)
+  pub look_is : (q part : ℕ) → task_of kept w ≡ task.Look q part → (drawing ≡ q) × (name : Components) × (slot_progress slot ≡ Look part name)
+  look_is q part e = look_parts drawing slot.head.pid (slot_progress slot) q part (sym task_is ∙ e)
 
-  pub fault_is : (q : ℕ) (errno : Errno) → task_of kept w ≡ task.Fault q errno → (seq ≡ q) × (slot_progress slot ≡ Stuck errno)
-  fault_is q errno e = fault_parts seq slot.head.pid (slot_progress slot) q errno (sym task_is ∙ e)
+  pub fault_is : (q : ℕ) (errno : Errno) → task_of kept w ≡ task.Fault q errno → (drawing ≡ q) × (slot_progress slot ≡ Stuck errno)
+  fault_is q errno e = fault_parts drawing slot.head.pid (slot_progress slot) q errno (sym task_is ∙ e)
 
 -- the slot of a number whose next task is a look
-pub look_slot : (kept : UnderWay) (w seq : ℕ) → AreValidWorkers kept → turn_of_worker kept w ≡ Some (Working seq) → IsLook (task_of kept w) → IsSome (slot_at kept.slots seq) × IfSome (slot_at kept.slots seq) (λ slot. IsLookNext (slot_progress slot))
-look_slot kept w seq whole working is =
-    let slot = working_slot kept whole w seq working in
-    let asked = look_asked kept w seq slot.0 working slot.1 is in
+pub look_slot : (kept : UnderWay) (w drawing : ℕ) → AreValidWorkers kept → turn_of_worker kept w ≡ Some (Working drawing) → IsLook (task_of kept w) → IsSome (slot_at kept.slots drawing) × IfSome (slot_at kept.slots drawing) (λ slot. IsLookNext (slot_progress slot))
+look_slot kept w drawing whole working is =
+    let slot = working_slot kept whole w drawing working in
+    let asked = look_asked kept w drawing slot.0 working slot.1 is in
     (subst IsSome (sym slot.1) refl, subst (λ (o : Option Slot). IfSome o (λ s. IsLookNext (slot_progress s))) (sym slot.1) (subst IsLookNext (sym asked.2) tt))

@@ -9,9 +9,9 @@ use Rattle.st_workers.specs.declared.turn.Turn.TheVariants.{Idle, Working, Ready
 
 -- a worker at this number is ready with the sealed copies if the slot is complete, and otherwise goes on
 abbrev pub IsTurnFor : ℕ → Slot → Turn → Type 0
-IsTurnFor seq slot Idle = ⊥
-IsTurnFor seq slot (Working q) = (q ≡ seq) × (is_ready (slot_progress slot) ≡ false)
-IsTurnFor seq slot (Ready s) = (slot_progress slot ≡ Whole s.parts) × (s ≡ snapshot_with slot.head s.parts)
+IsTurnFor drawing slot Idle = ⊥
+IsTurnFor drawing slot (Working q) = (q ≡ drawing) × (is_ready (slot_progress slot) ≡ false)
+IsTurnFor drawing slot (Ready q s) = (q ≡ drawing) × (slot_progress slot ≡ Whole s.parts) × (s ≡ snapshot_with slot.head s.parts)
 
 -- the slot of a message that a worker is at, which is sealed if it is complete
 abbrev pub sealed_if_ready : Slot → Slot
@@ -19,4 +19,4 @@ sealed_if_ready slot = record slot { is_sealed = is_ready (slot_progress slot) |
 
 -- each number's slot is unchanged
 abbrev pub AreSame : List Slot → List Slot → Type 0
-AreSame old new = (seq : ℕ) → slot_at new seq ≡ slot_at old seq
+AreSame old new = (drawing : ℕ) → slot_at new drawing ≡ slot_at old drawing

@@ -18,8 +18,8 @@ is_claimed_by (Some (Faulted errno)) worker = false
 abbrev pub left : Option Turn → Option Turn
 left None = None
 left (Some Idle) = Some Idle
-left (Some (Working seq)) = Some Idle
-left (Some (Ready copies)) = Some (Ready copies)
+left (Some (Working drawing)) = Some Idle
+left (Some (Ready q copies)) = Some (Ready q copies)
 
 -- the worker of a message has left it, and the turn of each other worker is unchanged
 abbrev pub HasLeft : List Turn → Option MsgState → List Turn → Type 0

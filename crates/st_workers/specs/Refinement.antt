@@ -105,7 +105,7 @@ at_work messages alive (Some q) = if alive q || is_ready (progress_of_message (m
 abbrev pub IsTurn : (ℕ → Message) → (ℕ → Bool) → Option ℕ → Turn → Type 0
 IsTurn messages alive turned Idle = at_work messages alive turned ≡ None
 IsTurn messages alive turned (Working q) = (turned ≡ Some q) × (alive q ≡ true) × (is_ready (progress_of_message (messages q)) ≡ false)
-IsTurn messages alive turned (Ready s) = (turned ≡ Some s.seq) × (snapshot_of_message s.seq (messages s.seq) ≡ Some s)
+IsTurn messages alive turned (Ready q s) = (turned ≡ Some q) × (snapshot_of_message q (messages q) ≡ Some s)
 
 -- ---- all of them
 
@@ -165,7 +165,7 @@ RenewsLife alive q fresh later = (other : ℕ) → later other ≡ (if other == 
 
 -- the messages after one of them was renewed under a new number, if this is its process
 abbrev pub messages_renewed : Process → ℕ → ℕ → (ℕ → Message) → ℕ → Message
-messages_renewed process seq fresh messages q = record (messages q) { head = head_after_change (λ p. (messages p).head) process q (messages q).head (Renewed seq fresh) }
+messages_renewed process drawing fresh messages q = record (messages q) { head = head_after_change (λ p. (messages p).head) process q (messages q).head (Renewed drawing fresh) }
 
 -- each worker has a turn, and what is found represents some messages and turns
 pub record AreValidWorkers (kept : UnderWay) : Type 0 where

@@ -23,26 +23,26 @@ use Rattle.st_workers.specs.declared.turn.Turn.TheVariants as turn
 -- what an idle worker does, by the first waiting number
 abbrev pub idle_task : Option ℕ → Task
 idle_task None = Rest
-idle_task (Some seq) = Claim
+idle_task (Some drawing) = Claim
 
 -- what a worker does at a number of this process, by the progress of its message
 abbrev pub task_at : ℕ → ℕ → Progress → Task
-task_at seq pid (Word part place) = Copy seq pid part place
-task_at seq pid (Look part name) = LookAt seq part
-task_at seq pid (Stuck errno) = Fault seq errno
-task_at seq pid (Ready args) = Answer
+task_at drawing pid (Word part place) = Copy drawing pid part place
+task_at drawing pid (Look part name) = LookAt drawing part
+task_at drawing pid (Stuck errno) = Fault drawing errno
+task_at drawing pid (Ready args) = Answer
 
 -- the same by the slot of the number
 abbrev pub task_of_slot : ℕ → Option Slot → Task
-task_of_slot seq None = Rest
-task_of_slot seq (Some slot) = task_at seq slot.head.pid (slot_progress slot)
+task_of_slot drawing None = Rest
+task_of_slot drawing (Some slot) = task_at drawing slot.head.pid (slot_progress slot)
 
 -- what a worker does, by its turn
 abbrev pub task_of_turn : UnderWay → Option Turn → Task
 task_of_turn kept None = Rest
 task_of_turn kept (Some turn.Idle) = idle_task (first_waiting kept.calls)
-task_of_turn kept (Some (turn.Working seq)) = task_of_slot seq (slot_at kept.slots seq)
-task_of_turn kept (Some (turn.Ready s)) = Answer
+task_of_turn kept (Some (turn.Working drawing)) = task_of_slot drawing (slot_at kept.slots drawing)
+task_of_turn kept (Some (turn.Ready q s)) = Answer
 
 -- what a worker does
 abbrev pub task_of : UnderWay → ℕ → Task
@@ -52,45 +52,45 @@ task_of kept worker = task_of_turn kept (turn_of_worker kept worker)
 abbrev pub IsBusy : Task → Type 0
 IsBusy Rest = ⊥
 IsBusy Claim = ⊥
-IsBusy (Copy seq pid part place) = Unit {0}
-IsBusy (LookAt seq part) = Unit {0}
-IsBusy (Fault seq errno) = Unit {0}
+IsBusy (Copy drawing pid part place) = Unit {0}
+IsBusy (LookAt drawing part) = Unit {0}
+IsBusy (Fault drawing errno) = Unit {0}
 IsBusy Answer = ⊥
 
 -- the task is to copy a word
 abbrev pub IsCopy : Task → Type 0
 IsCopy Rest = ⊥
 IsCopy Claim = ⊥
-IsCopy (Copy seq pid part place) = Unit {0}
-IsCopy (LookAt seq part) = ⊥
-IsCopy (Fault seq errno) = ⊥
+IsCopy (Copy drawing pid part place) = Unit {0}
+IsCopy (LookAt drawing part) = ⊥
+IsCopy (Fault drawing errno) = ⊥
 IsCopy Answer = ⊥
 
 -- the task is to look at a name
 abbrev pub IsLook : Task → Type 0
 IsLook Rest = ⊥
 IsLook Claim = ⊥
-IsLook (Copy seq pid part place) = ⊥
-IsLook (LookAt seq part) = Unit {0}
-IsLook (Fault seq errno) = ⊥
+IsLook (Copy drawing pid part place) = ⊥
+IsLook (LookAt drawing part) = Unit {0}
+IsLook (Fault drawing errno) = ⊥
 IsLook Answer = ⊥
 
 -- the task is to mark a message as faulted
 abbrev pub IsFault : Task → Type 0
 IsFault Rest = ⊥
 IsFault Claim = ⊥
-IsFault (Copy seq pid part place) = ⊥
-IsFault (LookAt seq part) = ⊥
-IsFault (Fault seq errno) = Unit {0}
+IsFault (Copy drawing pid part place) = ⊥
+IsFault (LookAt drawing part) = ⊥
+IsFault (Fault drawing errno) = Unit {0}
 IsFault Answer = ⊥
 
 -- the number that a task names is live, and the index of a word that it copies is inside memory
 abbrev pub CanServe : HeldCalls → Task → Type 0
 CanServe calls Rest = Unit {0}
 CanServe calls Claim = Unit {0}
-CanServe calls (Copy seq pid part place) = (is_live_here calls seq ≡ true) × (place < SPACE_WORDS)
-CanServe calls (LookAt seq part) = is_live_here calls seq ≡ true
-CanServe calls (Fault seq errno) = is_live_here calls seq ≡ true
+CanServe calls (Copy drawing pid part place) = (is_live_here calls drawing ≡ true) × (place < SPACE_WORDS)
+CanServe calls (LookAt drawing part) = is_live_here calls drawing ≡ true
+CanServe calls (Fault drawing errno) = is_live_here calls drawing ≡ true
 CanServe calls Answer = Unit {0}
 
 -- a message is of this process
@@ -101,7 +101,8 @@ IsOfProcess st q pid = option_map (λ (head : Head). head.pid) (st.messages q).h
 abbrev pub IsTask : Input → State → UnderWay → ℕ → Task → Type 0
 IsTask i st kept worker Rest = worker_entry i st worker ≡ None
 IsTask i st kept worker Claim = (q : ℕ) × (worker_entry i st worker ≡ Some (entry.Claimed worker q))
-IsTask i st kept worker (Copy seq pid part place) = (worker_entry i st worker ≡ Some (entry.Copied seq part place (word_for st seq place))) × IsOfProcess st seq pid
-IsTask i st kept worker (LookAt seq part) = (name : Components) × (worker_entry i st worker ≡ Some (entry.Looked seq part name (look st.tree name)))
-IsTask i st kept worker (Fault seq errno) = worker_entry i st worker ≡ Some (entry.Faulted seq errno)
-IsTask i st kept worker Answer = (s : Snapshot) × (turn_of_worker kept worker ≡ Some (turn.Ready s)) × (worker_entry i st worker ≡ Some (entry.Answered worker s (verdict (read_at i st s.policy s.rule) s) (is_live st s.seq)))
+IsTask i st kept worker (Copy drawing pid part place) = (worker_entry i st worker ≡ Some (entry.Copied drawing part place (word_for st drawing place))) × IsOfProcess st drawing pid
+IsTask i st kept worker (LookAt drawing part) = (name : Components) × (worker_entry i st worker ≡ Some (entry.Looked drawing part name (look st.tree name)))
+IsTask i st kept worker (Fault drawing errno) = worker_entry i st worker ≡ Some (entry.Faulted drawing errno)
+IsTask i st kept worker Answer =
+    (q : ℕ) × (s : Snapshot) × (turn_of_worker kept worker ≡ Some (turn.Ready q s)) × (worker_entry i st worker ≡ Some (entry.Answered worker s (verdict (read_at i st s.policy s.rule) s) (is_live st q)))

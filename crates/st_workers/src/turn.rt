@@ -1,7 +1,7 @@
 // The turns of workers, and how one is replaced. Dropping the old turn has a case for each kind of turn, so it is done only here.
 ghost use Rattle.std.specs.Prelude.{◌≡◌};
 
-use st_base::{Seq, Shared};
+use st_base::{Drawing, Shared};
 use st_calls::Snapshot;
 
 /// What a worker is at.
@@ -9,10 +9,10 @@ use st_calls::Snapshot;
 pub enum Turn {
     /// Nothing.
     Idle,
-    /// The message of this number, which isn't complete.
-    Working(Seq),
-    /// The answer to these copies, which were sealed in the step that completed them.
-    Ready(Shared<Snapshot>),
+    /// The message of this drawing, which isn't complete.
+    Working(Drawing),
+    /// The answer to the message of this drawing, with its copies, which were sealed in the step that completed them.
+    Ready(Drawing, Shared<Snapshot>),
 }
 
 // Replaces a turn.

@@ -27,7 +27,7 @@ ghost use Rattle.st_workers.specs.declared.task.Task.TheVariants.{Answer, Claim,
 use crate::filling;
 use crate::task::Task;
 use crate::turn::{Turn, put_turn};
-use st_base::{Ids, Seq, Shared, Tid, Worker};
+use st_base::{Drawing, Ids, Shared, Tid, Worker};
 use st_calls::{Snapshot, Verdict};
 use st_lookaside::{Head, Next, Slots};
 use st_messages::{Delivered, Messages, MsgState};
@@ -108,36 +108,36 @@ impl Workers {
         self.messages.workers()
     }
 
-    /// The number that the next call of `post` or `renew` returns.
-    pub fn next_seq(&self) -> Seq
+    /// The drawing that the next call of `post` or `renew` returns.
+    pub fn next_drawing(&self) -> Drawing
         ensures { result ≡ self.now.calls.next }
     {
-        self.messages.next_seq()
+        self.messages.next_drawing()
     }
 
-    /// How far a message has come; none iff the number isn't live.
-    pub fn state(&self, seq: Seq) -> Option<MsgState>
-        ensures state { result ≡ message_state self.now.calls seq }
-        ensures law { (i : Input) (st : State) → RepresentsMessages i st (is_live_in st) self.now → IsMessageStateOf i st seq result }
+    /// How far a message has come; none iff the drawing isn't live.
+    pub fn state(&self, drawing: Drawing) -> Option<MsgState>
+        ensures state { result ≡ message_state self.now.calls drawing }
+        ensures law { (i : Input) (st : State) → RepresentsMessages i st (is_live_in st) self.now → IsMessageStateOf i st drawing result }
     {
-        self.messages.state(seq)
+        self.messages.state(drawing)
     }
 
-    /// The thread whose held call has a live number; none if the number isn't live.
-    pub fn thread(&self, seq: Seq) -> Option<Tid>
-        ensures thread { result ≡ thread_of_number self.now.calls seq }
-        ensures law { IfSome result (λ tid. (i : Input) (st : State) → RepresentsMessages i st (is_live_in st) self.now → IsHeldBy st seq tid) }
+    /// The thread whose held call has a live drawing; none if the drawing isn't live.
+    pub fn thread(&self, drawing: Drawing) -> Option<Tid>
+        ensures thread { result ≡ thread_of_number self.now.calls drawing }
+        ensures law { IfSome result (λ tid. (i : Input) (st : State) → RepresentsMessages i st (is_live_in st) self.now → IsHeldBy st drawing tid) }
     {
-        self.messages.thread(seq)
+        self.messages.thread(drawing)
     }
 
-    /// The message of a live number.
-    pub fn head(&self, seq: Seq) -> &Head
-        requires { is_live_number self.now.calls seq ≡ true }
-        ensures head { IfSome (slot_at self.now.slots seq) (λ slot. result.now ≡ slot.head) }
-        ensures law { IfSome (thread_of_number self.now.calls seq) (λ tid. (i : Input) (st : State) → RepresentsMessages i st (is_live_in st) self.now → (st.messages seq).head ≡ Some (head_of tid result.now)) }
+    /// The message of a live drawing.
+    pub fn head(&self, drawing: Drawing) -> &Head
+        requires { is_live_number self.now.calls drawing ≡ true }
+        ensures head { IfSome (slot_at self.now.slots drawing) (λ slot. result.now ≡ slot.head) }
+        ensures law { IfSome (thread_of_number self.now.calls drawing) (λ tid. (i : Input) (st : State) → RepresentsMessages i st (is_live_in st) self.now → (st.messages drawing).head ≡ Some (head_of tid result.now)) }
     {
-        self.slots.slot(seq).head()
+        self.slots.slot(drawing).head()
     }
 
     /// The turn of a worker.
@@ -152,12 +152,12 @@ impl Workers {
     pub fn copies(&self, worker: Worker) -> &Snapshot
         requires worker { HasWorker self.now.calls worker }
         requires task { task_of self.now worker ≡ Answer }
-        ensures { turn_of_worker self.now worker ≡ Some (Ready result.now) }
+        ensures { (drawing : ℕ) × (turn_of_worker self.now worker ≡ Some (Ready drawing result.now)) }
     {
-        let Turn::Ready(snapshot) = &self.turns[worker as usize - 1] else {
+        let Turn::Ready(_, copies) = &self.turns[worker as usize - 1] else {
             unreachable!()
         };
-        snapshot.get()
+        copies.get()
     }
 
     /// What a worker does next.
@@ -173,76 +173,76 @@ impl Workers {
                 Some(_) => Task::Claim,
                 None => Task::Rest,
             },
-            Turn::Working(seq) => {
-                let slot = self.slots.slot(*seq);
-                filling::task_at(*seq, slot.head().pid, slot.next())
+            Turn::Working(drawing) => {
+                let slot = self.slots.slot(*drawing);
+                filling::task_at(*drawing, slot.head().pid, slot.next())
             }
-            Turn::Ready(_) => Task::Answer,
+            Turn::Ready(_, _) => Task::Answer,
         }
     }
 
-    /// Posts the held call of a thread that has none, under the next number. If memory runs out, the abstract state is unchanged.
-    pub fn post(&mut self, alloc: Global, tid: Tid, head: Head) -> Result<Seq, AllocError>
-        requires seq { head.seq ≡ self.old.calls.next }
+    /// Posts the held call of a thread that has none, under the next drawing. If memory runs out, the abstract state is unchanged.
+    pub fn post(&mut self, alloc: Global, tid: Tid, head: Head) -> Result<Drawing, AllocError>
+        requires drawing { head.drawing ≡ self.old.calls.next }
         requires thread { HasNoNumber self.old.calls tid }
         requires room { self.old.calls.next < 2 ^ 64 - 1 }
         requires short { IsShort head.cwd }
-        ensures seq { IfOk result (λ seq. seq ≡ self.old.calls.next) }
+        ensures drawing { IfOk result (λ drawing. drawing ≡ self.old.calls.next) }
         ensures workers { self.new.calls.workers ≡ self.old.calls.workers }
         ensures calls { OnOk result (self.new.calls ≡ calls_after_post self.old.calls tid) }
         ensures kept { OnOk result ((i : Input) (st : State) (alive later : ℕ → Bool) (call : SysCall) (regs : List ℕ) → RepresentsMessages i st alive self.old → head_of tid head ≡ new_head i tid (st.threads tid).owner (st.processes (st.threads tid).owner) call regs → ChangesLife alive (suc st.posted) true later → RepresentsMessagesAfter i st (entry.Entered tid call regs (Held (suc st.posted))) later self.new) }
         ensures err { OnErr result (SameWorkersState self.old self.new) }
     {
-        let seq = head.seq;
+        let drawing = head.drawing;
         self.slots.reserve(alloc, head)?;
         match self.messages.post(tid) {
-            Ok(seq) => Ok(seq),
+            Ok(drawing) => Ok(drawing),
             Err(error) => {
-                self.slots.drop_of(seq);
+                self.slots.drop_of(drawing);
                 Err(error)
             }
         }
     }
 
-    /// Lets an idle worker claim the least waiting number, and returns it. If memory runs out, nothing changes.
-    pub fn claim(&mut self, alloc: Global, worker: Worker) -> Result<Seq, AllocError>
+    /// Lets an idle worker claim the least waiting drawing, and returns it. If memory runs out, nothing changes.
+    pub fn claim(&mut self, alloc: Global, worker: Worker) -> Result<Drawing, AllocError>
         requires { task_of self.old worker ≡ Claim }
-        ensures calls { IfOk result (λ seq. self.new.calls ≡ with_state self.old.calls seq (Claimed worker)) }
+        ensures calls { IfOk result (λ drawing. self.new.calls ≡ with_state self.old.calls drawing (Claimed worker)) }
         ensures workers { self.new.calls.workers ≡ self.old.calls.workers }
-        ensures law { IfOk result (λ seq. (i : Input) (st : State) → RepresentsMessages i st (is_live_in st) self.old → worker_entry i st worker ≡ Some (entry.Claimed worker seq)) }
-        ensures kept { IfOk result (λ seq. RepresentsAfterEntry self.old (entry.Claimed worker seq) self.new) }
+        ensures law { IfOk result (λ drawing. (i : Input) (st : State) → RepresentsMessages i st (is_live_in st) self.old → worker_entry i st worker ≡ Some (entry.Claimed worker drawing)) }
+        ensures kept { IfOk result (λ drawing. RepresentsAfterEntry self.old (entry.Claimed worker drawing) self.new) }
         ensures err { OnErr result (self.new ≡ self.old) }
     {
-        let Some(seq) = self.messages.least_waiting() else {
+        let Some(drawing) = self.messages.least_waiting() else {
             unreachable!()
         };
-        let turn = filling::turn_for(&mut self.slots, alloc, seq)?;
+        let turn = filling::turn_for(&mut self.slots, alloc, drawing)?;
         put_turn(&mut self.turns[worker as usize - 1], turn);
         self.messages.claim(worker);
-        Ok(seq)
+        Ok(drawing)
     }
 
-    // The number that a worker is at.
-    fn seq_at(&self, worker: Worker) -> Seq
+    // The drawing that a worker is at.
+    fn drawing_at(&self, worker: Worker) -> Drawing
         requires { IsBusy (task_of self.now worker) }
         ensures { turn_of_worker self.now worker ≡ Some (Working result) }
     {
-        let Turn::Working(seq) = &self.turns[worker as usize - 1] else {
+        let Turn::Working(drawing) = &self.turns[worker as usize - 1] else {
             unreachable!()
         };
-        *seq
+        *drawing
     }
 
     /// Takes the word that a worker's task asks it to copy. If memory runs out, the abstract state is unchanged.
     pub fn copy(&mut self, alloc: Global, worker: Worker, word: u64) -> Result<(), AllocError>
         requires { IsCopy (task_of self.old worker) }
         ensures calls { self.new.calls ≡ self.old.calls }
-        ensures kept { OnOk result ((seq pid part place : ℕ) → task_of self.old worker ≡ Copy seq pid part place → RepresentsAfterEntry self.old (entry.Copied seq part place word) self.new) }
+        ensures kept { OnOk result ((drawing pid part place : ℕ) → task_of self.old worker ≡ Copy drawing pid part place → RepresentsAfterEntry self.old (entry.Copied drawing part place word) self.new) }
         ensures err { OnErr result (SameWorkersState self.old self.new) }
     {
-        let seq = self.seq_at(worker);
+        let drawing = self.drawing_at(worker);
         let turn = &mut self.turns[worker as usize - 1];
-        filling::take_word(&mut self.slots, turn, alloc, seq, word)
+        filling::take_word(&mut self.slots, turn, alloc, drawing, word)
     }
 
     /// The name that a worker's task asks it to look at. The walk of that name is readied, and the abstract state is unchanged.
@@ -251,93 +251,97 @@ impl Workers {
         ensures stands { SameWorkersState self.old self.new }
         ensures task { task_of self.new worker ≡ task_of self.old worker }
         ensures calls { self.new.calls ≡ self.old.calls }
-        ensures law { IfOk result (λ name. (i : Input) (st : State) (seq part : ℕ) → RepresentsMessages i st (is_live_in st) self.old → task_of self.old worker ≡ LookAt seq part → worker_entry i st worker ≡ Some (entry.Looked seq part name (look st.tree name))) }
+        ensures law { IfOk result (λ name. (i : Input) (st : State) (drawing part : ℕ) → RepresentsMessages i st (is_live_in st) self.old → task_of self.old worker ≡ LookAt drawing part → worker_entry i st worker ≡ Some (entry.Looked drawing part name (look st.tree name))) }
     {
-        let seq = self.seq_at(worker);
-        self.slots.next_name(alloc, seq)
+        let drawing = self.drawing_at(worker);
+        self.slots.next_name(alloc, drawing)
     }
 
     /// Takes the answer to a worker's look at its name. If memory runs out, the abstract state is unchanged.
     pub fn look(&mut self, alloc: Global, worker: Worker, seen: Seen<'_>) -> Result<(), AllocError>
         requires { IsLook (task_of self.old worker) }
         ensures calls { self.new.calls ≡ self.old.calls }
-        ensures kept { OnOk result ((seq part : ℕ) (name : Components) → task_of self.old worker ≡ LookAt seq part → RepresentsAfterEntry self.old (entry.Looked seq part name (seen_text seen.entry)) self.new) }
+        ensures kept { OnOk result ((drawing part : ℕ) (name : Components) → task_of self.old worker ≡ LookAt drawing part → RepresentsAfterEntry self.old (entry.Looked drawing part name (seen_text seen.entry)) self.new) }
         ensures err { OnErr result (SameWorkersState self.old self.new) }
     {
-        let seq = self.seq_at(worker);
+        let drawing = self.drawing_at(worker);
         let turn = &mut self.turns[worker as usize - 1];
-        filling::take_look(&mut self.slots, turn, alloc, seq, seen)
+        filling::take_look(&mut self.slots, turn, alloc, drawing, seen)
     }
 
     /// Marks the message of a worker as faulted with the error that its task names, and makes the worker idle. It takes no memory.
     pub fn fault(&mut self, worker: Worker)
         requires { IsFault (task_of self.old worker) }
         ensures workers { self.new.calls.workers ≡ self.old.calls.workers }
-        ensures calls { (seq : ℕ) (errno : Errno) → task_of self.old worker ≡ Fault seq errno → self.new.calls ≡ with_state self.old.calls seq (Faulted errno) }
-        ensures kept { (seq : ℕ) (errno : Errno) → task_of self.old worker ≡ Fault seq errno → RepresentsAfterEntry self.old (entry.Faulted seq errno) self.new }
+        ensures calls { (drawing : ℕ) (errno : Errno) → task_of self.old worker ≡ Fault drawing errno → self.new.calls ≡ with_state self.old.calls drawing (Faulted errno) }
+        ensures kept { (drawing : ℕ) (errno : Errno) → task_of self.old worker ≡ Fault drawing errno → RepresentsAfterEntry self.old (entry.Faulted drawing errno) self.new }
     {
-        let seq = self.seq_at(worker);
-        let Next::Fault(errno) = self.slots.next(seq) else {
+        let drawing = self.drawing_at(worker);
+        let Next::Fault(errno) = self.slots.next(drawing) else {
             unreachable!()
         };
         put_turn(&mut self.turns[worker as usize - 1], Turn::Idle);
-        self.messages.fault(seq, errno);
+        self.messages.fault(drawing, errno);
     }
 
-    /// Answers with the verdict on a worker's copies, returns these, and makes the worker idle. The answer is applied iff the number of the
-    /// copies is live. It takes no memory.
-    pub fn answer(&mut self, worker: Worker, verdict: Verdict) -> (Shared<Snapshot>, Delivered)
+    /// Answers with the verdict on a worker's copies, returns these and the drawing of their message, and makes the worker idle. The answer
+    /// is applied iff the message is live. It takes no memory.
+    pub fn answer(
+        &mut self,
+        worker: Worker,
+        verdict: Verdict,
+    ) -> (Drawing, Shared<Snapshot>, Delivered)
         requires { task_of self.old worker ≡ Answer }
-        ensures copies { turn_of_worker self.old worker ≡ Some (Ready result.0) }
-        ensures applied { (result.1 ≡ Applied) ↔ (is_live_number self.old.calls result.0.seq ≡ true) }
-        ensures lives { (i : Input) (st : State) (alive : ℕ → Bool) → RepresentsMessages i st alive self.old → is_live_number self.old.calls result.0.seq ≡ alive result.0.seq }
+        ensures copies { turn_of_worker self.old worker ≡ Some (Ready result.0 result.1) }
+        ensures applied { (result.2 ≡ Applied) ↔ (is_live_number self.old.calls result.0 ≡ true) }
+        ensures lives { (i : Input) (st : State) (alive : ℕ → Bool) → RepresentsMessages i st alive self.old → is_live_number self.old.calls result.0 ≡ alive result.0 }
         ensures workers { self.new.calls.workers ≡ self.old.calls.workers }
-        ensures calls { result.1 ≡ Applied → self.new.calls ≡ with_state self.old.calls result.0.seq (Answered verdict) }
-        ensures stale { result.1 ≡ Stale → self.new.calls ≡ self.old.calls }
-        ensures kept { (i : Input) (st : State) (alive : ℕ → Bool) → RepresentsMessages i st alive self.old → verdict ≡ judged (read_at i st result.0.policy result.0.rule) result.0 → RepresentsMessagesAfter i st (entry.Answered worker result.0 verdict (alive result.0.seq)) alive self.new }
+        ensures calls { result.2 ≡ Applied → self.new.calls ≡ with_state self.old.calls result.0 (Answered verdict) }
+        ensures stale { result.2 ≡ Stale → self.new.calls ≡ self.old.calls }
+        ensures kept { (i : Input) (st : State) (alive : ℕ → Bool) → RepresentsMessages i st alive self.old → verdict ≡ judged (read_at i st result.1.policy result.1.rule) result.1 → RepresentsMessagesAfter i st (entry.Answered worker result.1 verdict (alive result.0)) alive self.new }
     {
         let turn = std::mem::replace(&mut self.turns[worker as usize - 1], Turn::Idle);
-        let Turn::Ready(snapshot) = turn else {
+        let Turn::Ready(drawing, copies) = turn else {
             unreachable!()
         };
-        let delivered = self.messages.answer(snapshot.get().seq, verdict);
-        (snapshot, delivered)
+        let delivered = self.messages.answer(drawing, verdict);
+        (drawing, copies, delivered)
     }
 
     /// The copies of an answered message.
-    pub fn snapshot(&self, seq: Seq) -> &Shared<Snapshot>
-        requires { HasAnswer (message_state self.now.calls seq) }
-        ensures { (i : Input) (st : State) → RepresentsMessages i st (is_live_in st) self.now → snapshot_in st seq ≡ Some result.now }
+    pub fn snapshot(&self, drawing: Drawing) -> &Shared<Snapshot>
+        requires { HasAnswer (message_state self.now.calls drawing) }
+        ensures { (i : Input) (st : State) → RepresentsMessages i st (is_live_in st) self.now → snapshot_in st drawing ≡ Some result.now }
     {
-        self.slots.copies(seq)
+        self.slots.copies(drawing)
     }
 
-    /// Ends a live number, because its call is made or denied, or its thread is dying. A worker at this number becomes idle, unless it is
+    /// Ends a live drawing, because its call is made or denied, or its thread is dying. A worker at this drawing becomes idle, unless it is
     /// ready: then it still answers, but too late. It takes no memory.
-    pub fn cancel(&mut self, seq: Seq)
-        requires { is_live_number self.old.calls seq ≡ true }
-        ensures calls { self.new.calls ≡ calls_after_cancel self.old.calls seq }
-        ensures kept { (i : Input) (messages : ℕ → Message) (turns : ℕ → Option ℕ) (alive later : ℕ → Bool) (posted : ℕ) → RepresentsMachineMessages i messages turns alive posted self.old → ChangesLife alive seq false later → RepresentsMachineMessages i messages turns later posted self.new }
+    pub fn cancel(&mut self, drawing: Drawing)
+        requires { is_live_number self.old.calls drawing ≡ true }
+        ensures calls { self.new.calls ≡ calls_after_cancel self.old.calls drawing }
+        ensures kept { (i : Input) (messages : ℕ → Message) (turns : ℕ → Option ℕ) (alive later : ℕ → Bool) (posted : ℕ) → RepresentsMachineMessages i messages turns alive posted self.old → ChangesLife alive drawing false later → RepresentsMachineMessages i messages turns later posted self.new }
     {
-        leave(&mut self.turns, self.messages.state(seq));
-        self.messages.cancel(seq);
-        self.slots.drop_of(seq);
+        leave(&mut self.turns, self.messages.state(drawing));
+        self.messages.cancel(drawing);
+        self.slots.drop_of(drawing);
     }
 
-    /// Ends a live number, as `cancel` does, and posts its call again under the next number, which it returns, with these ids and this
+    /// Ends a live drawing, as `cancel` does, and posts its call again under the next drawing, which it returns, with these ids and this
     /// directory. Nothing that was copied or seen is kept. It takes no memory.
-    pub fn renew(&mut self, seq: Seq, ids: Ids, cwd: Shared<AbsName>) -> Seq
-        requires live { is_live_number self.old.calls seq ≡ true }
+    pub fn renew(&mut self, drawing: Drawing, ids: Ids, cwd: Shared<AbsName>) -> Drawing
+        requires live { is_live_number self.old.calls drawing ≡ true }
         requires room { self.old.calls.next < 2 ^ 64 - 1 }
         requires short { IsShort cwd }
-        ensures seq { result ≡ self.old.calls.next }
+        ensures drawing { result ≡ self.old.calls.next }
         ensures workers { self.new.calls.workers ≡ self.old.calls.workers }
-        ensures calls { self.new.calls ≡ calls_after_renew self.old.calls seq }
-        ensures kept { (i : Input) (messages : ℕ → Message) (turns : ℕ → Option ℕ) (alive later : ℕ → Bool) (posted : ℕ) (process : Process) → RepresentsMachineMessages i messages turns alive posted self.old → process.ids ≡ ids → process.cwd ≡ cwd → RenewsLife alive seq (suc posted) later → RepresentsMachineMessages i (messages_renewed process seq (suc posted) messages) turns later (suc posted) self.new }
+        ensures calls { self.new.calls ≡ calls_after_renew self.old.calls drawing }
+        ensures kept { (i : Input) (messages : ℕ → Message) (turns : ℕ → Option ℕ) (alive later : ℕ → Bool) (posted : ℕ) (process : Process) → RepresentsMachineMessages i messages turns alive posted self.old → process.ids ≡ ids → process.cwd ≡ cwd → RenewsLife alive drawing (suc posted) later → RepresentsMachineMessages i (messages_renewed process drawing (suc posted) messages) turns later (suc posted) self.new }
     {
-        leave(&mut self.turns, self.messages.state(seq));
-        let fresh = self.messages.renew(seq);
-        self.slots.renew(seq, fresh, ids, cwd);
+        leave(&mut self.turns, self.messages.state(drawing));
+        let fresh = self.messages.renew(drawing);
+        self.slots.renew(drawing, fresh, ids, cwd);
         fresh
     }
 }

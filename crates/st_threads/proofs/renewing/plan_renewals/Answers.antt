@@ -16,6 +16,6 @@ pub loop-i-preserved : goal.loop-i-preserved
 loop-i-preserved c =
     next_planned c.args.system.now.processes c.args.set.caller.pid c.args.set.caller.tid c.args.next c.args.threads.now (SetIds c.args.set.ids ∷ []) (process_at c.args.system.now.processes c.args.set.caller.pid).cwd
     c.loop-i.i c.loop-i.plan.changes c.loop-i.plan.cwds.items c.loop-i.plan.next c.loop-i.invariant
-    c.index-threads-i.result (drop_more c.args.threads.now c.loop-i.i c.index-threads-i.result c.loop-i-test.true ∙ ap (λ (row : ThreadRow). row ∷ drop (c.loop-i.i + 1) c.args.threads.now) (sym c.index-threads-i.is)) c.number_renewed-seq.result c.number_renewed-seq.ensures
+    c.index-threads-i.result (drop_more c.args.threads.now c.loop-i.i c.index-threads-i.result c.loop-i-test.true ∙ ap (λ (row : ThreadRow). row ∷ drop (c.loop-i.i + 1) c.args.threads.now) (sym c.index-threads-i.is)) c.drawing_renewed-drawing.result c.drawing_renewed-drawing.ensures
     c.add.new.self.changes c.add.new.self.cwds.items c.add.new.self.next c.in_ok-add.ensures.changes
-    (c.in_ok-add.ensures.cwds ∙ ap (λ (cwd : Components). c.loop-i.plan.cwds.items ++ replicate (length (with_number c.number_renewed-seq.result [])) cwd) c.cwd-cwd.ensures.cwd) c.in_ok-add.ensures.next
+    (c.in_ok-add.ensures.cwds ∙ ap (λ (cwd : Components). c.loop-i.plan.cwds.items ++ replicate (length (with_number c.drawing_renewed-drawing.result [])) cwd) c.cwd-cwd.ensures.cwd) c.in_ok-add.ensures.next

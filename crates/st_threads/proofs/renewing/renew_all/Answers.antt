@@ -23,20 +23,20 @@ here c = drop_more c.loop-i.threads c.loop-i.i c.index-threads-i.result (inside 
 
 pub renew_call-requires-clause-live : goal.renew_call-requires-clause-live
 renew_call-requires-clause-live c = next_lives c.args.system.now.processes c.args.caller.pid c.args.caller.tid c.args.threads.now c.args.workers.now c.loop-i.i c.loop-i.threads c.loop-i.workers c.loop-i.cwds.items c.loop-i.invariant
-    (row c) (inside c) (here c) c.number_renewed-seq.result c.number_renewed-seq.ensures
+    (row c) (inside c) (here c) c.drawing_renewed-drawing.result c.drawing_renewed-drawing.ensures
 
 pub renew_call-requires-clause-room : goal.renew_call-requires-clause-room
 renew_call-requires-clause-room c = next_room c.args.system.now.processes c.args.caller.pid c.args.caller.tid c.args.threads.now c.args.workers.now c.loop-i.i c.loop-i.threads c.loop-i.workers c.loop-i.cwds.items c.loop-i.invariant
-    (row c) (inside c) (here c) c.number_renewed-seq.result c.number_renewed-seq.ensures
+    (row c) (inside c) (here c) c.drawing_renewed-drawing.result c.drawing_renewed-drawing.ensures
 
 pub renew_call-requires-clause-cwds : goal.renew_call-requires-clause-cwds
 renew_call-requires-clause-cwds c = next_copy c.args.system.now.processes c.args.caller.pid c.args.caller.tid c.args.threads.now c.args.workers.now c.loop-i.i c.loop-i.threads c.loop-i.workers c.loop-i.cwds.items c.loop-i.invariant
-    (row c) (inside c) (here c) c.number_renewed-seq.result c.number_renewed-seq.ensures
+    (row c) (inside c) (here c) c.drawing_renewed-drawing.result c.drawing_renewed-drawing.ensures
 
 pub renew_call-requires-clause-short : goal.renew_call-requires-clause-short
 renew_call-requires-clause-short c = all_same IsShort c.loop-i.cwds.items (process_at c.args.system.now.processes c.args.caller.pid).cwd
     (next_same c.args.system.now.processes c.args.caller.pid c.args.caller.tid c.args.threads.now c.args.workers.now c.loop-i.i c.loop-i.threads c.loop-i.workers c.loop-i.cwds.items c.loop-i.invariant
-    (row c) (inside c) (here c) c.number_renewed-seq.result c.number_renewed-seq.ensures) c.requires.short
+    (row c) (inside c) (here c) c.drawing_renewed-drawing.result c.drawing_renewed-drawing.ensures) c.requires.short
 
 -- the thread that is tested is the thread whose call gets a number
 same_row : (rows : List ThreadRow) (i : ℕ) (a b : ThreadRow) → i < length rows → get_or rows i a ≡ get_or rows i b
@@ -48,13 +48,13 @@ loop-i-preserved c =
     let it = get_or c.loop-i.threads c.loop-i.i c.index-threads-i.result in
     let there = drop_more c.loop-i.threads c.loop-i.i c.index-threads-i.result within in
     let copies = next_same c.args.system.now.processes c.args.caller.pid c.args.caller.tid c.args.threads.now c.args.workers.now c.loop-i.i c.loop-i.threads c.loop-i.workers c.loop-i.cwds.items c.loop-i.invariant
-    it within there c.number_renewed-seq.result c.number_renewed-seq.ensures in
+    it within there c.drawing_renewed-drawing.result c.drawing_renewed-drawing.ensures in
     let process = process_at c.args.system.now.processes c.args.caller.pid in
     let same = same_row c.loop-i.threads c.loop-i.i c.index-threads-i.result c.index-threads-i-in-loop-i.result within in
     subst (λ (row : ThreadRow). RenewedSoFar c.args.system.now.processes c.args.caller.pid c.args.caller.tid c.args.threads.now c.args.workers.now (c.loop-i.i + 1) (set c.loop-i.threads c.loop-i.i row) c.renew_call.new.workers c.renew_call.new.cwds.items)
-    (ap (row_renewed c.loop-i.workers.calls.next c.number_renewed-seq.result) same ∙ sym c.renew_call.ensures.thread)
+    (ap (row_renewed c.loop-i.workers.calls.next c.drawing_renewed-drawing.result) same ∙ sym c.renew_call.ensures.thread)
     (next_renewed c.args.system.now.processes c.args.caller.pid c.args.caller.tid c.args.threads.now c.args.workers.now c.loop-i.i c.loop-i.threads c.loop-i.workers c.loop-i.cwds.items c.loop-i.invariant
-    it within there c.number_renewed-seq.result c.number_renewed-seq.ensures c.renew_call.new.workers (c.renew_call.ensures.kept process (sym c.ids-ids.ensures) copies) c.renew_call.new.cwds.items c.renew_call.ensures.count (c.renew_call.ensures.same process.cwd copies))
+    it within there c.drawing_renewed-drawing.result c.drawing_renewed-drawing.ensures c.renew_call.new.workers (c.renew_call.ensures.kept process (sym c.ids-ids.ensures) copies) c.renew_call.new.cwds.items c.renew_call.ensures.count (c.renew_call.ensures.same process.cwd copies))
 
 pub returns : goal.returns
 returns c = all_renewed c.args.system.now.processes c.args.caller.pid c.args.caller.tid c.args.threads.now c.args.workers.now c.loop-i.i c.loop-i.threads c.loop-i.workers c.loop-i.cwds.items c.loop-i.invariant

@@ -10,7 +10,7 @@ renew-requires-clause-short c = last_passes IsShort c.pop.new.self.items c.in-So
 pub returns-in-Some-pop-clause-kept : goal.returns-in-Some-pop-clause-kept
 returns-in-Some-pop-clause-kept c = λ process ids same.
     let cwd : c.in-Some-pop.cwd ≡ process.cwd = last_of c.pop.new.self.items c.in-Some-pop.cwd c.args.cwds.now.items process.cwd c.in-Some-pop.ensures.items same in
-    subst (λ (seq : Option ℕ). RenewsIf process seq c.args.workers.now c.renew.new.self) (sym c.in-Some.is)
+    subst (λ (drawing : Option ℕ). RenewsIf process drawing c.args.workers.now c.renew.new.self) (sym c.in-Some.is)
     (λ i messages turns alive later posted kept lives. c.renew.ensures.kept i messages turns alive later posted process kept ids (sym cwd) lives)
 
 pub returns-in-Some-pop-clause-same : goal.returns-in-Some-pop-clause-same

@@ -27,10 +27,10 @@ module _ (turns : List Turn) (worker : ℕ) (turn put : Turn) (here : item_at_nu
       ∙ ap (λ (o : Option MsgState). cond (is_claimed_by o other) (left (item_at_number turns other)) (item_at_number turns other)) (sym claimed)
 
 -- a turn that isn't at work stays
-stays : (turn : Turn) → ((seq : ℕ) → turn ≡ Working seq → ⊥) → left (Some turn) ≡ Some turn
+stays : (turn : Turn) → ((drawing : ℕ) → turn ≡ Working drawing → ⊥) → left (Some turn) ≡ Some turn
 stays Idle other = refl
-stays (Working seq) other = absurd (other seq refl)
-stays (Ready copies) other = refl
+stays (Working drawing) other = absurd (other drawing refl)
+stays (Ready q copies) other = refl
 
 pub returns-in-Working-clause-left : goal.returns-in-Working-clause-left
 returns-in-Working-clause-left c =

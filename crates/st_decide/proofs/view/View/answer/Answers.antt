@@ -4,11 +4,12 @@ use Rattle.st_learn.specs.Answers.{in_force}
 use Rattle.st_model.specs.Process.{Process}
 use Rattle.st_decide.specs.Machine.{Running}
 use Rattle.st_decide.specs.NextSteps.{IsAnswerOf}
+use Rattle.st_decide.proofs.Running.{running_of}
 use Rattle.st_decide.proofs.view.View.answer.Goals as goal
 
 pub returns : goal.returns
 returns c =
-    let m : Running = record { input = c.self.inside.input.now; system = c.self.inside.system.now; workers = c.self.inside.workers.now; threads = c.self.inside.threads.now; answers = c.self.inside.answers.now; operator = c.self.inside.operator.now } in
+    let m : Running = running_of c.self.inside in
     let answer : IsAnswerOf m c.args.pid c.args.call c.args.regs.now c.own.result = λ st is.
     let policy : (st.processes c.args.pid).policy ≡ c.bytes-policy.result.now = ap (λ (p : Process). p.policy) (is.system.processes c.args.pid) ∙ sym (c.bytes-policy.ensures ∙ c.get.ensures ∙ c.policy.ensures) in
     (λ k. fast (in_force m.input st (policy k) (sym c.of-rule.ensures k))) ∙ sym (c.own.ensures (in_force m.input st) is.answers.own) in

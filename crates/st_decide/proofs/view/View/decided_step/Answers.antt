@@ -1,22 +1,26 @@
-use Rattle.std.proofs.Common.{Some, sym, subst}
-use Rattle.std.specs.Prelude.{IfOk}
-use Rattle.st_calls.specs.declared.judged.Verdict.{Verdict}
-use Rattle.st_calls.specs.declared.judged.Verdict.TheVariants.{Refuse}
-use Rattle.st_messages.specs.declared.message.MsgState.TheVariants.{Answered}
-use Rattle.st_workers.specs.Refinement.{IsMessageStateOf}
-use Rattle.st_decide.specs.NextSteps.{IsDecidedStep, IsPermittedStep}
-use Rattle.st_decide.specs.declared.step.Step.{Step}
+use Rattle.std.proofs.Common.{◌∙◌, Some, ap, sym, subst}
+use Rattle.st_decide.specs.NextSteps.{IsDecidedStep, IsDecision, IsPermittedStep}
 use Rattle.st_decide.proofs.NextSteps.{if_ok}
-use Rattle.st_decide.proofs.Questions.{read_permits, read_refuses}
+use Rattle.st_decide.proofs.Questions.{denies, permits, refuses, waits}
 use Rattle.st_decide.proofs.view.View.decided_step.Goals as goal
 
-pub undecided_step-requires-clause-come : goal.undecided_step-requires-clause-come
-undecided_step-requires-clause-come c = λ st is. subst (λ (v : Verdict). IsMessageStateOf c.args.self.now.input st c.args.seq (Some (Answered v))) c.in-Unmatched.is (c.requires.come st is)
+pub returns-in-None-clause-step : goal.returns-in-None-clause-step
+returns-in-None-clause-step c = waits c.args.self.now c.args.caller.tid c.args.drawing c.args.read (subst (IsDecision c.args.self.now c.args.drawing c.args.read) c.in-None.is c.decision.ensures)
 
-pub returns-in-Permit-clause-step : goal.returns-in-Permit-clause-step
-returns-in-Permit-clause-step c = subst (λ (v : Verdict). IfOk c.permitted_step.result (IsDecidedStep c.args.self.now c.args.tid c.args.seq v)) (sym c.in-Permit.is)
-    (if_ok (IsPermittedStep c.args.self.now c.args.tid c.args.seq c.in-Permit.ids) (IsDecidedStep c.args.self.now c.args.tid c.args.seq _) c.permitted_step.result (λ step next. read_permits c.args.self.now c.args.tid c.args.seq _ c.in-Permit.ids step next) c.permitted_step.ensures.step)
+pub returns-in-Some-Permit-clause-step : goal.returns-in-Some-Permit-clause-step
+returns-in-Some-Permit-clause-step c =
+    let given = subst (IsDecision c.args.self.now c.args.drawing c.args.read) (c.in-Some-Permit.is ∙ ap Some c.in-Some-Permit.field-0-is) c.decision.ensures in
+    if_ok (IsPermittedStep c.args.self.now c.args.caller.tid c.args.drawing c.in-Some-Permit.ids) (IsDecidedStep c.args.self.now c.args.caller.tid c.args.drawing c.args.read) c.permitted_step.result
+    (λ step next. permits c.args.self.now c.args.caller.tid c.args.drawing c.args.read _ c.in-Some-Permit.ids step given next) c.permitted_step.ensures.step
 
-pub returns-in-Refuse-clause-step : goal.returns-in-Refuse-clause-step
-returns-in-Refuse-clause-step c = subst (λ (v : Verdict). IsDecidedStep c.args.self.now c.args.tid c.args.seq v c.deny.result) (sym c.in-Refuse.is)
-    (subst (λ (step : Step). IsDecidedStep c.args.self.now c.args.tid c.args.seq (Refuse c.in-Refuse.number c.in-Refuse.errno) step) (sym c.deny.ensures) (read_refuses c.args.self.now c.args.tid c.args.seq c.in-Refuse.number c.in-Refuse.errno))
+pub returns-in-Some-Refuse-clause-step : goal.returns-in-Some-Refuse-clause-step
+returns-in-Some-Refuse-clause-step c =
+    let given = subst (IsDecision c.args.self.now c.args.drawing c.args.read) (c.in-Some-Refuse.is ∙ ap Some c.in-Some-Refuse.field-0-is) c.decision.ensures in
+    subst (IsDecidedStep c.args.self.now c.args.caller.tid c.args.drawing c.args.read) (sym c.deny.ensures)
+    (refuses c.args.self.now c.args.caller.tid c.args.drawing c.args.read c.in-Some-Refuse.number c.in-Some-Refuse.errno given)
+
+pub returns-in-Some-Unmatched-clause-step : goal.returns-in-Some-Unmatched-clause-step
+returns-in-Some-Unmatched-clause-step c =
+    let given = subst (IsDecision c.args.self.now c.args.drawing c.args.read) (c.in-Some-Unmatched.is ∙ ap Some c.in-Some-Unmatched.field-0-is) c.decision.ensures in
+    subst (IsDecidedStep c.args.self.now c.args.caller.tid c.args.drawing c.args.read) (sym c.deny-in-Some-Unmatched.ensures)
+    (denies c.args.self.now c.args.caller.tid c.args.drawing c.args.read given)

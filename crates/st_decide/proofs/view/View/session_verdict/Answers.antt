@@ -5,11 +5,12 @@ use Rattle.st_filter.specs.declared.set.BinaryPolicy.{BinaryPolicy}
 use Rattle.st_law.specs.Sessions.{session_filters}
 use Rattle.st_decide.specs.Machine.{Running}
 use Rattle.st_decide.specs.Questions.{session_verdict}
+use Rattle.st_decide.proofs.Running.{running_of}
 use Rattle.st_decide.proofs.view.View.session_verdict.Goals as goal
 
 pub returns : goal.returns
 returns c =
-    let m : Running = record { input = c.self.inside.input.now; system = c.self.inside.system.now; workers = c.self.inside.workers.now; threads = c.self.inside.threads.now; answers = c.self.inside.answers.now; operator = c.self.inside.operator.now } in
+    let m : Running = running_of c.self.inside in
     let s = c.args.copies.now in
     c.verdict.ensures
     ∙ ap (λ (policies : List BinaryPolicy). verdict_from (suc (length (read_filters policies s.policy s.rule))) (session_filters m.operator.filters s.policy s.rule) s) (c.compiled.ensures ∙ c.self.invariant.is.answers.read)

@@ -8,7 +8,7 @@ use Rattle.st_kernel.proofs.kernel.Kernel.repeat.Goals as goal
 
 pub returns-in_err-advance-clause-not_enabled : goal.returns-in_err-advance-clause-not_enabled
 returns-in_err-advance-clause-not_enabled g c = λ is.
-    sym c.loop.invariant.left ∙ round_stuck c.loop.self c.args.choice c.args.count c.loop.counter c.loop-test.true c.args.self.now.input c.loop.invariant.input
+    sym c.loop.invariant.left ∙ round_stuck c.loop.self c.args.repeat.choice c.args.repeat.times c.loop.counter c.loop-test.true c.args.self.now.input c.loop.invariant.input
     (c.in_err-advance.ensures.not_enabled (ap Err (came_from c.in_err-advance.field-0.0 NotEnabled c.from_residual.result c.from_residual.ensures.0 c.from_residual.ensures.1 is)))
 
 -- a choice that is enabled adds an entry
@@ -16,15 +16,15 @@ pub unreachable-requires : goal.unreachable-requires
 unreachable-requires g c = none-some c.in_ok-advance.ensures.enabled.0 (sym c.in_default.is ∙ c.in_ok-advance.ensures.entry ∙ c.in_ok-advance.ensures.enabled.1)
 
 pub returns-in_err-note-clause-made : goal.returns-in_err-note-clause-made
-returns-in_err-note-clause-made g c = continues_on c.args.self.now c.loop.self c.advance.new.self c.loop.invariant.made (continues_by c.loop.self c.args.choice c.advance.new.self c.in_ok-advance.ensures.ok)
+returns-in_err-note-clause-made g c = continues_on c.args.self.now c.loop.self c.advance.new.self c.loop.invariant.made (continues_by c.loop.self c.args.repeat.choice c.advance.new.self c.in_ok-advance.ensures.ok)
 
 pub loop-preserved : goal.loop-preserved
 loop-preserved g c =
     let end = c.in_ok-advance.ensures in
-    let adds : entry_of c.loop.self.input (state_in c.loop.self) c.args.choice ≡ Some c.in-Some.entry = sym end.entry ∙ c.in-Some.is in
+    let adds : entry_of c.loop.self.input (state_in c.loop.self) c.args.repeat.choice ≡ Some c.in-Some.entry = sym end.entry ∙ c.in-Some.is in
     record {
-      made = continues_on c.args.self.now c.loop.self c.advance.new.self c.loop.invariant.made (continues_by c.loop.self c.args.choice c.advance.new.self end.ok);
+      made = continues_on c.args.self.now c.loop.self c.advance.new.self c.loop.invariant.made (continues_by c.loop.self c.args.repeat.choice c.advance.new.self end.ok);
       input = ap (λ (so_far : RunSoFar). so_far.input) end.ok ∙ c.loop.invariant.input;
-      noted = λ x. noted_on (g.R.Recorder.has_noted c.loop.recorder) (g.R.Recorder.has_noted c.note.new.self) c.loop.self c.args.choice c.in-Some.entry c.advance.new.self c.input.result.now c.session.result.now.filters end.ok c.input.ensures c.session.ensures adds c.in_ok-note.ensures (c.loop.invariant.noted x);
-      left = round_further c.loop.self c.args.choice c.args.count c.loop.counter c.loop-test.true c.args.self.now.input c.loop.invariant.input c.advance.new.self c.in-Some.entry end.ok adds ∙ c.loop.invariant.left;
+      noted = λ x. noted_on (g.R.Recorder.has_noted c.loop.recorder) (g.R.Recorder.has_noted c.note.new.self) c.loop.self c.args.repeat.choice c.in-Some.entry c.advance.new.self c.input.result.now c.session.result.now.filters end.ok c.input.ensures c.session.ensures adds c.in_ok-note.ensures (c.loop.invariant.noted x);
+      left = round_further c.loop.self c.args.repeat.choice c.args.repeat.times c.loop.counter c.loop-test.true c.args.self.now.input c.loop.invariant.input c.advance.new.self c.in-Some.entry end.ok adds ∙ c.loop.invariant.left;
     }

@@ -9,5 +9,5 @@ invariant-loop g l = record {
   made : Continues l.fn.self l.self;
   input : l.self.input ≡ l.fn.self.input;
   noted : g.R.Recorder.has_noted l.fn.recorder l.fn.self.input (trace_of l.fn.self) → g.R.Recorder.has_noted l.recorder l.self.input (trace_of l.self);
-  left : repeated (l.count - l.counter) l.choice l.fn.self.input (played_so_far l.self) ≡ repeated l.count l.choice l.fn.self.input (played_so_far l.fn.self);
+  left : repeated (l.repeat.times - l.counter) l.repeat.choice l.fn.self.input (played_so_far l.self) ≡ repeated l.repeat.times l.repeat.choice l.fn.self.input (played_so_far l.fn.self);
 }

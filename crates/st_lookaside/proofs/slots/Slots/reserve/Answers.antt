@@ -9,7 +9,7 @@ use Rattle.st_lookaside.proofs.Numbers.{kept_insert, kept_roomier, is_free, now_
 use Rattle.st_lookaside.proofs.slots.Slots.reserve.Goals as goal
 
 pub gap_of-place-requires-clause-free : goal.gap_of-place-requires-clause-free
-gap_of-place-requires-clause-free c = is_free c.self.inside.slab c.self.inside.keys.items c.args.self.now c.self.invariant c.self.view_is c.args.head.seq c.requires.free
+gap_of-place-requires-clause-free c = is_free c.self.inside.slab c.self.inside.keys.items c.args.self.now c.self.invariant c.self.view_is c.args.head.drawing c.requires.free
 
 pub invariant_of-self-in_default : goal.invariant_of-self-in_default
 invariant_of-self-in_default c =
@@ -24,15 +24,15 @@ returns-in_default-clause-err c =
 
 pub invariant_of-self-2 : goal.invariant_of-self-2
 invariant_of-self-2 c =
-    let key : SlotKey = record { seq = c.args.head.seq; key = c.in-Ok.key } in
+    let key : SlotKey = record { drawing = c.args.head.drawing; key = c.in-Ok.key } in
     subst (λ (keys : List SlotKey). HasSlots c.insert.new.self keys)
     (sym (c.put_in.ensures ∙ ap (λ (keys : List SlotKey). insert keys c.gap_of-place.result key) c.reserve.ensures.items))
-    (kept_insert c.self.inside.slab c.self.inside.keys.items c.args.self.now c.self.invariant c.self.view_is c.args.head.seq c.gap_of-place.result c.gap_of-place.ensures c.insert.new.self c.in-Ok.key c.in-Ok.ensures.was_vacant c.in_ok-slot.slot c.in-Ok.ensures.updates (ap (λ (s : slot.Slot). s.head.seq) c.in_ok-slot.ensures) c.in-Ok.ensures.len)
+    (kept_insert c.self.inside.slab c.self.inside.keys.items c.args.self.now c.self.invariant c.self.view_is c.args.head.drawing c.gap_of-place.result c.gap_of-place.ensures c.insert.new.self c.in-Ok.key c.in-Ok.ensures.was_vacant c.in_ok-slot.slot c.in-Ok.ensures.updates (ap (λ (s : slot.Slot). s.head.drawing) c.in_ok-slot.ensures) c.in-Ok.ensures.len)
 
 pub returns-clause-ok : goal.returns-clause-ok
 returns-clause-ok c =
-    let key : SlotKey = record { seq = c.args.head.seq; key = c.in-Ok.key } in
-    subst (λ (keys : List SlotKey). ChangesSlot c.args.self.now c.args.head.seq (Some (new_slot c.args.head)) (slots_of c.insert.new.self keys))
+    let key : SlotKey = record { drawing = c.args.head.drawing; key = c.in-Ok.key } in
+    subst (λ (keys : List SlotKey). ChangesSlot c.args.self.now c.args.head.drawing (Some (new_slot c.args.head)) (slots_of c.insert.new.self keys))
     (sym (c.put_in.ensures ∙ ap (λ (keys : List SlotKey). insert keys c.gap_of-place.result key) c.reserve.ensures.items))
-    (subst (λ (s : slot.Slot). ChangesSlot c.args.self.now c.args.head.seq (Some s) (slots_of c.insert.new.self (insert c.self.inside.keys.items c.gap_of-place.result key))) c.in_ok-slot.ensures
-    (now_inserted c.self.inside.slab c.self.inside.keys.items c.args.self.now c.self.invariant c.self.view_is c.args.head.seq c.gap_of-place.result c.gap_of-place.ensures c.insert.new.self c.in-Ok.key c.in-Ok.ensures.was_vacant c.in_ok-slot.slot c.in-Ok.ensures.updates (ap (λ (s : slot.Slot). s.head.seq) c.in_ok-slot.ensures)))
+    (subst (λ (s : slot.Slot). ChangesSlot c.args.self.now c.args.head.drawing (Some s) (slots_of c.insert.new.self (insert c.self.inside.keys.items c.gap_of-place.result key))) c.in_ok-slot.ensures
+    (now_inserted c.self.inside.slab c.self.inside.keys.items c.args.self.now c.self.invariant c.self.view_is c.args.head.drawing c.gap_of-place.result c.gap_of-place.ensures c.insert.new.self c.in-Ok.key c.in-Ok.ensures.was_vacant c.in_ok-slot.slot c.in-Ok.ensures.updates (ap (λ (s : slot.Slot). s.head.drawing) c.in_ok-slot.ensures)))

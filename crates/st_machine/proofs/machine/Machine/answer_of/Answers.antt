@@ -8,30 +8,31 @@ use Rattle.st_calls.specs.declared.judged.Snapshot.{Snapshot}
 use Rattle.st_filter.specs.Judged.{verdict_under}
 use Rattle.st_filter.specs.declared.set.BinaryPolicy.{BinaryPolicy}
 use Rattle.st_messages.specs.Messages.{is_live_number}
+use Rattle.st_machine.proofs.Running.{running_of}
 use Rattle.st_machine.proofs.machine.Machine.answer_of.Goals as goal
 
 abbrev old : goal.After-leave → Running
-old c = record { input = c.self.inside.input.now; system = c.self.inside.system; workers = c.self.inside.workers; threads = c.self.inside.threads.items; answers = c.self.inside.answers; operator = c.self.inside.operator }
+old c = running_of c.self.inside
 
 task : (c : goal.After-leave) → HasTask (old c) c.args.worker tasks.Answer
 task c = subst (λ (m : Running). HasTask m c.args.worker (tasks.Answer)) (sym c.self.view_is) c.requires.task
 
 -- the copies that were judged are those of the answer
-judged : (c : goal.After-leave) → c.decide-verdict.result ≡ verdict_under c.self.inside.input.now.policies c.answer-snapshot.result.0
+judged : (c : goal.After-leave) → c.decide-verdict.result ≡ verdict_under c.self.inside.input.now.policies c.answer-snapshot.result.1
 judged c =
     let copies : Snapshot = c.copies-copies.result.now in
-    let same : copies ≡ c.answer-snapshot.result.0 = same_copies c.self.inside.workers c.args.worker copies c.answer-snapshot.result.0 c.copies-copies.ensures c.answer-snapshot.ensures.copies in
+    let same : copies ≡ c.answer-snapshot.result.1 = same_copies c.self.inside.workers c.args.worker c.copies-copies.ensures.0 c.answer-snapshot.result.0 copies c.answer-snapshot.result.1 c.copies-copies.ensures.1 c.answer-snapshot.ensures.copies in
     c.decide-verdict.ensures
     ∙ ap (λ (policies : List BinaryPolicy). verdict_under policies copies) (c.compiled.ensures ∙ c.self.invariant.is.answers.read)
     ∙ ap (verdict_under c.self.inside.input.now.policies) same
 
-step : (c : goal.After-leave) → IsStep (old c) (choice.Worker c.args.worker) (Some (entry.Answered c.args.worker c.answer-snapshot.result.0 c.decide-verdict.result c.is_applied.result)) (with_workers (old c) c.answer-snapshot.new.self)
-step c = answered (old c) c.args.worker c.answer-snapshot.new.self c.answer-snapshot.result.0 c.decide-verdict.result c.is_applied.result c.answer-snapshot.ensures.copies (judged c)
-    (λ i st alive kept. c.is_applied.ensures ∙ applied_as c.answer-snapshot.result.1 (is_live_number c.self.inside.workers.calls c.answer-snapshot.result.0.seq) c.answer-snapshot.ensures.applied ∙ c.answer-snapshot.ensures.lives i st alive kept)
+step : (c : goal.After-leave) → IsStep (old c) (choice.Worker c.args.worker) (Some (entry.Answered c.args.worker c.answer-snapshot.result.1 c.decide-verdict.result c.is_applied.result)) (with_workers (old c) c.answer-snapshot.new.self)
+step c = answered (old c) c.args.worker c.answer-snapshot.new.self c.answer-snapshot.result.0 c.answer-snapshot.result.1 c.decide-verdict.result c.is_applied.result c.answer-snapshot.ensures.copies (judged c)
+    (λ i st alive kept. c.is_applied.ensures ∙ applied_as c.answer-snapshot.result.2 (is_live_number c.self.inside.workers.calls c.answer-snapshot.result.0) c.answer-snapshot.ensures.applied ∙ c.answer-snapshot.ensures.lives i st alive kept)
     (task c) c.answer-snapshot.ensures.kept
 
 pub invariant_of-self : goal.invariant_of-self
-invariant_of-self c = running_step (old c) (with_workers (old c) c.answer-snapshot.new.self) (choice.Worker c.args.worker) (entry.Answered c.args.worker c.answer-snapshot.result.0 c.decide-verdict.result c.is_applied.result) c.self.invariant (step c)
+invariant_of-self c = running_step (old c) (with_workers (old c) c.answer-snapshot.new.self) (choice.Worker c.args.worker) (entry.Answered c.args.worker c.answer-snapshot.result.1 c.decide-verdict.result c.is_applied.result) c.self.invariant (step c)
 
 pub returns-clause-step : goal.returns-clause-step
-returns-clause-step c = left_as _ _ (choice.Worker c.args.worker) _ _ c.leave.ensures (subst (λ (m : Running). IsStep m (choice.Worker c.args.worker) (Some (entry.Answered c.args.worker c.answer-snapshot.result.0 c.decide-verdict.result c.is_applied.result)) (with_workers (old c) c.answer-snapshot.new.self)) c.self.view_is (step c))
+returns-clause-step c = left_as _ _ (choice.Worker c.args.worker) _ _ c.leave.ensures (subst (λ (m : Running). IsStep m (choice.Worker c.args.worker) (Some (entry.Answered c.args.worker c.answer-snapshot.result.1 c.decide-verdict.result c.is_applied.result)) (with_workers (old c) c.answer-snapshot.new.self)) c.self.view_is (step c))

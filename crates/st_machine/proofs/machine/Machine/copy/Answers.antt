@@ -4,34 +4,35 @@ use Rattle.st_trace.specs.declared.entry.Entry.TheVariants as entry
 use Rattle.st_decide.specs.Machine.{HasTask, IsStep, Running, SameState}
 use Rattle.st_machine.proofs.Served.{copied, left_as, on_err, process_there, running_stands, running_step, stands_so, with_workers}
 use Rattle.st_workers.specs.declared.task.Task.TheVariants as tasks
+use Rattle.st_machine.proofs.Running.{running_of}
 use Rattle.st_machine.proofs.machine.Machine.copy.Goals as goal
 
 abbrev old : goal.After-leave → Running
-old c = record { input = c.self.inside.input.now; system = c.self.inside.system; workers = c.self.inside.workers; threads = c.self.inside.threads.items; answers = c.self.inside.answers; operator = c.self.inside.operator }
+old c = running_of c.self.inside
 
-task : (c : goal.After-leave) → HasTask (old c) c.args.worker (tasks.Copy c.args.seq c.args.pid c.args.part c.args.place)
-task c = subst (λ (m : Running). HasTask m c.args.worker (tasks.Copy c.args.seq c.args.pid c.args.part c.args.place)) (sym c.self.view_is) c.requires.task
+task : (c : goal.After-leave) → HasTask (old c) c.args.worker (tasks.Copy c.args.asked.drawing c.args.asked.pid c.args.asked.part c.args.asked.place)
+task c = subst (λ (m : Running). HasTask m c.args.worker (tasks.Copy c.args.asked.drawing c.args.asked.pid c.args.asked.part c.args.asked.place)) (sym c.self.view_is) c.requires
 
-step : (c : goal.After-leave) → IsStep (old c) (choice.Worker c.args.worker) (Some (entry.Copied c.args.seq c.args.part c.args.place c.word-word.result)) (with_workers (old c) c.copy.new.self)
-step c = copied (old c) c.args.worker c.copy.new.self c.args.seq c.args.pid c.args.part c.args.place c.word-word.result (task c) c.word-word.ensures.law (c.in_ok-copy.ensures.kept c.args.seq c.args.pid c.args.part c.args.place (task c).here)
+step : (c : goal.After-leave) → IsStep (old c) (choice.Worker c.args.worker) (Some (entry.Copied c.args.asked.drawing c.args.asked.part c.args.asked.place c.word-word.result)) (with_workers (old c) c.copy.new.self)
+step c = copied (old c) c.args.worker c.copy.new.self c.args.asked.drawing c.args.asked.pid c.args.asked.part c.args.asked.place c.word-word.result (task c) c.word-word.ensures.law (c.in_ok-copy.ensures.kept c.args.asked.drawing c.args.asked.pid c.args.asked.part c.args.asked.place (task c).here)
 
 pub invariant_of-self-2 : goal.invariant_of-self-2
-invariant_of-self-2 c = running_step (old c) (with_workers (old c) c.copy.new.self) (choice.Worker c.args.worker) (entry.Copied c.args.seq c.args.part c.args.place c.word-word.result) c.self.invariant (step c)
+invariant_of-self-2 c = running_step (old c) (with_workers (old c) c.copy.new.self) (choice.Worker c.args.worker) (entry.Copied c.args.asked.drawing c.args.asked.part c.args.asked.place c.word-word.result) c.self.invariant (step c)
 
 pub returns-clause-step : goal.returns-clause-step
-returns-clause-step c = left_as _ _ (choice.Worker c.args.worker) _ _ c.leave.ensures (subst (λ (m : Running). IsStep m (choice.Worker c.args.worker) (Some (entry.Copied c.args.seq c.args.part c.args.place c.word-word.result)) (with_workers (old c) c.copy.new.self)) c.self.view_is (step c))
+returns-clause-step c = left_as _ _ (choice.Worker c.args.worker) _ _ c.leave.ensures (subst (λ (m : Running). IsStep m (choice.Worker c.args.worker) (Some (entry.Copied c.args.asked.drawing c.args.asked.part c.args.asked.place c.word-word.result)) (with_workers (old c) c.copy.new.self)) c.self.view_is (step c))
 
 pub word-word-requires-clause-process : goal.word-word-requires-clause-process
 word-word-requires-clause-process c =
-    let m : Running = record { input = c.self.inside.input.now; system = c.self.inside.system; workers = c.self.inside.workers; threads = c.self.inside.threads.items; answers = c.self.inside.answers; operator = c.self.inside.operator } in
-    let asked : HasTask m c.args.worker (tasks.Copy c.args.seq c.args.pid c.args.part c.args.place) =
-    subst (λ (m : Running). HasTask m c.args.worker (tasks.Copy c.args.seq c.args.pid c.args.part c.args.place)) (sym c.self.view_is) c.requires.task in
-    process_there m c.self.invariant c.args.seq c.args.pid asked.there.0 (λ i st kept. (asked.law i st kept).1)
+    let m : Running = running_of c.self.inside in
+    let asked : HasTask m c.args.worker (tasks.Copy c.args.asked.drawing c.args.asked.pid c.args.asked.part c.args.asked.place) =
+    subst (λ (m : Running). HasTask m c.args.worker (tasks.Copy c.args.asked.drawing c.args.asked.pid c.args.asked.part c.args.asked.place)) (sym c.self.view_is) c.requires in
+    process_there m c.self.invariant c.args.asked.drawing c.args.asked.pid asked.there.0 (λ i st kept. (asked.law i st kept).1)
 
 -- out of memory
 
 abbrev before : goal.After-from_residual → Running
-before c = record { input = c.self.inside.input.now; system = c.self.inside.system; workers = c.self.inside.workers; threads = c.self.inside.threads.items; answers = c.self.inside.answers; operator = c.self.inside.operator }
+before c = running_of c.self.inside
 
 stands : (c : goal.After-from_residual) → SameState (before c) (with_workers (before c) c.copy.new.self)
 stands c = stands_so (before c) c.copy.new.self c.in_err-copy.ensures.err

@@ -2,32 +2,26 @@ use Rattle.std.proofs.Common.{◌≡◌, ◌-◌, ◌∙◌, Some, ap, arith, re
 use Rattle.st_base.specs.Numbered.{item_at_number}
 use Rattle.st_trace.specs.declared.entry.Choice.TheVariants as choice
 use Rattle.st_trace.specs.declared.entry.Entry.TheVariants as entry
-use Rattle.st_workers.proofs.Turns.{number_within, read_is}
+use Rattle.st_workers.proofs.Turns.{read_is}
 use Rattle.st_decide.specs.Machine.{IsNextStep, IsStep, Running}
 use Rattle.st_threads.specs.Thread.{ThreadRow}
 use Rattle.st_decide.specs.declared.step.Step.TheVariants as steps
 use Rattle.st_machine.proofs.After.{with_parts}
-use Rattle.st_machine.proofs.Moving.{ended_step, row_here}
+use Rattle.st_machine.proofs.Moving.{ended_step, place_in, row_here}
 use Rattle.st_machine.proofs.Served.{left_as, running_step}
+use Rattle.st_machine.proofs.Running.{running_of}
 use Rattle.st_machine.proofs.machine.Machine.end.Goals as goal
 
 pub overflow_sub-tid : goal.overflow_sub-tid
-overflow_sub-tid c =
-    let m : Running = record { input = c.self.inside.input.now; system = c.self.inside.system; workers = c.self.inside.workers; threads = c.self.inside.threads.items; answers = c.self.inside.answers; operator = c.self.inside.operator } in
-    let row = row_here m c.self.invariant c.args.tid (steps.End) (entry.Ended c.args.tid) (subst (λ (k : Running). IsNextStep k c.args.tid (steps.End)) (sym c.self.view_is) c.requires) (λ i st. refl) in
-    (number_within m.threads c.args.tid row.0 row.1).0
+overflow_sub-tid c = (place_in (running_of c.self.inside) c.args.self.now c.self.view_is c.self.invariant c.args.tid steps.End (λ i st. (_, refl)) c.requires).0
 
 pub index_mut-requires : goal.index_mut-requires
 index_mut-requires c =
-    let m : Running = record { input = c.self.inside.input.now; system = c.self.inside.system; workers = c.self.inside.workers; threads = c.self.inside.threads.items; answers = c.self.inside.answers; operator = c.self.inside.operator } in
-    let row = row_here m c.self.invariant c.args.tid (steps.End) (entry.Ended c.args.tid) (subst (λ (k : Running). IsNextStep k c.args.tid (steps.End)) (sym c.self.view_is) c.requires) (λ i st. refl) in
-    let within = number_within m.threads c.args.tid row.0 row.1 in
-    let from = within.0 in
-    let to = within.1 in
-    omega (arith, from, to)
+    let place = (place_in (running_of c.self.inside) c.args.self.now c.self.view_is c.self.invariant c.args.tid steps.End (λ i st. (_, refl)) c.requires).1 in
+    omega (arith, place)
 
 abbrev old : goal.After-leave → Running
-old c = record { input = c.self.inside.input.now; system = c.self.inside.system; workers = c.self.inside.workers; threads = c.self.inside.threads.items; answers = c.self.inside.answers; operator = c.self.inside.operator }
+old c = running_of c.self.inside
 
 next : (c : goal.After-leave) → IsNextStep (old c) c.args.tid (steps.End)
 next c = subst (λ (k : Running). IsNextStep k c.args.tid (steps.End)) (sym c.self.view_is) c.requires

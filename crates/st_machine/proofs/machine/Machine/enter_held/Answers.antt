@@ -2,6 +2,7 @@ use Rattle.std.proofs.Common.{◌≡◌, ◌-◌, ◌∙◌, ℕ, Some, ap, set,
 use Rattle.st_base.specs.Numbered.{item_at_number}
 use Rattle.st_model.specs.Processes.{pid_of}
 use Rattle.st_trace.specs.declared.entry.Choice.TheVariants as choice
+use Rattle.st_trace.specs.declared.entry.Entry.{Entry}
 use Rattle.st_trace.specs.declared.entry.Entry.TheVariants as entry
 use Rattle.st_trace.specs.declared.entry.Way.TheVariants.{Held}
 use Rattle.st_law.specs.Messages.{new_head}
@@ -11,78 +12,86 @@ use Rattle.st_workers.proofs.Turns.{read_is}
 use Rattle.st_decide.specs.Entering.{IsHeadOf, IsWayOf}
 use Rattle.st_decide.specs.Machine.{Refines, IsNextStep, IsStep, Running, SameState}
 use Rattle.st_threads.specs.Thread.{ThreadRow, row_entered}
+use Rattle.st_decide.specs.declared.step.NewCall.{NewCall}
 use Rattle.st_decide.specs.declared.step.Step.TheVariants as steps
 use Rattle.st_machine.proofs.After.{with_parts}
-use Rattle.st_machine.proofs.Entered.{held_step, next_number, no_number}
+use Rattle.st_machine.proofs.Entered.{held_step, no_number}
 use Rattle.st_machine.proofs.Moving.{row_entering}
 use Rattle.st_decide.proofs.NextSteps.{owner_is}
 use Rattle.st_machine.proofs.Room.{room_left}
 use Rattle.st_machine.proofs.Served.{left_as, on_err, running_stands, running_step, stands_so, with_workers}
+use Rattle.st_machine.proofs.Running.{running_of}
 use Rattle.st_machine.proofs.machine.Machine.enter_held.Goals as goal
 
 pub post-requires-clause-thread : goal.post-requires-clause-thread
 post-requires-clause-thread c =
-    let m : Running = record { input = c.self.inside.input.now; system = c.self.inside.system; workers = c.self.inside.workers; threads = c.self.inside.threads.items; answers = c.self.inside.answers; operator = c.self.inside.operator } in
-    let next = subst (λ (k : Running). IsNextStep k c.args.tid (steps.Enter c.args.call c.args.regs)) (sym c.self.view_is) c.requires.next in
-    let goes = subst (λ (k : Running). IsWayOf k c.args.tid c.args.call c.args.regs (Held c.args.seq)) (sym c.self.view_is) c.requires.way in
-    let row = row_entering m c.self.invariant c.args.tid c.args.call c.args.regs next in
-    no_number m c.args.tid c.args.call c.args.regs next row.0 row.1 (Held c.args.seq) goes c.self.invariant.state c.self.invariant.is
+    let m : Running = running_of c.self.inside in
+    let next = subst (λ (k : Running). IsNextStep k c.args.tid (steps.Enter c.args.new.now)) (sym c.self.view_is) c.requires.step.next in
+    let goes = subst (λ (k : Running). IsWayOf k c.args.tid c.args.new.now (Held k.workers.calls.next)) (sym c.self.view_is) c.requires.way in
+    let row = row_entering m c.self.invariant c.args.tid c.args.new.now next in
+    no_number m c.args.tid c.args.new.now next row.0 row.1 (Held m.workers.calls.next) goes c.self.invariant.state c.self.invariant.is
 
 pub post-requires-clause-room : goal.post-requires-clause-room
-post-requires-clause-room c =
-    let m : Running = record { input = c.self.inside.input.now; system = c.self.inside.system; workers = c.self.inside.workers; threads = c.self.inside.threads.items; answers = c.self.inside.answers; operator = c.self.inside.operator } in
-    room_left m c.self.invariant.state c.self.invariant.is
+post-requires-clause-room c = room_left (running_of c.self.inside) c.self.invariant.state c.self.invariant.is
 
-pub post-requires-clause-seq : goal.post-requires-clause-seq
-post-requires-clause-seq c =
-    let m : Running = record { input = c.self.inside.input.now; system = c.self.inside.system; workers = c.self.inside.workers; threads = c.self.inside.threads.items; answers = c.self.inside.answers; operator = c.self.inside.operator } in
-    let next = subst (λ (k : Running). IsNextStep k c.args.tid (steps.Enter c.args.call c.args.regs)) (sym c.self.view_is) c.requires.next in
-    let goes = subst (λ (k : Running). IsWayOf k c.args.tid c.args.call c.args.regs (Held c.args.seq)) (sym c.self.view_is) c.requires.way in
-    c.in_ok-head.ensures.seq_is ∙ next_number m c.args.tid c.args.call c.args.regs next c.args.seq goes c.self.invariant.state c.self.invariant.is
+pub post-requires-clause-drawing : goal.post-requires-clause-drawing
+post-requires-clause-drawing c = (subst (λ (k : Running). IsHeadOf k c.args.new.now c.in_ok-head.head) (c.view.ensures ∙ sym c.self.view_is) c.in_ok-head.ensures).drawing_is
 
 -- out of memory
 
 pub invariant_of-self : goal.invariant_of-self
 invariant_of-self c =
-    let m : Running = record { input = c.self.inside.input.now; system = c.self.inside.system; workers = c.self.inside.workers; threads = c.self.inside.threads.items; answers = c.self.inside.answers; operator = c.self.inside.operator } in
+    let m : Running = running_of c.self.inside in
     running_stands m (with_workers m c.post.new.self) c.self.invariant (stands_so m c.post.new.self c.in_err-post.ensures.err)
 
 pub returns-in_err-post-clause-err : goal.returns-in_err-post-clause-err
 returns-in_err-post-clause-err c =
-    let m : Running = record { input = c.self.inside.input.now; system = c.self.inside.system; workers = c.self.inside.workers; threads = c.self.inside.threads.items; answers = c.self.inside.answers; operator = c.self.inside.operator } in
+    let m : Running = running_of c.self.inside in
     on_err c.from_residual-in_err-post.result (subst (λ (k : Running). SameState k (with_workers m c.post.new.self)) c.self.view_is (stands_so m c.post.new.self c.in_err-post.ensures.err))
 
 -- after the message is posted
 
 abbrev old : goal.After-leave → Running
-old c = record { input = c.self.inside.input.now; system = c.self.inside.system; workers = c.self.inside.workers; threads = c.self.inside.threads.items; answers = c.self.inside.answers; operator = c.self.inside.operator }
+old c = running_of c.self.inside
 
-next : (c : goal.After-leave) → IsNextStep (old c) c.args.tid (steps.Enter c.args.call c.args.regs)
-next c = subst (λ (k : Running). IsNextStep k c.args.tid (steps.Enter c.args.call c.args.regs)) (sym c.self.view_is) c.requires.next
+abbrev call : goal.After-leave → NewCall
+call c = c.args.new.now
+
+next : (c : goal.After-leave) → IsNextStep (old c) c.args.tid (steps.Enter (call c))
+next c = subst (λ (k : Running). IsNextStep k c.args.tid (steps.Enter (call c))) (sym c.self.view_is) c.requires.step.next
 
 row : (c : goal.After-leave) → (row : ThreadRow) × (item_at_number (old c).threads c.args.tid ≡ Some row)
-row c = row_entering (old c) c.self.invariant c.args.tid c.args.call c.args.regs (next c)
+row c = row_entering (old c) c.self.invariant c.args.tid (call c) (next c)
+
+posted : (c : goal.After-leave) → IsHeadOf (old c) (call c) c.in_ok-head.head
+posted c = subst (λ (k : Running). IsHeadOf k (call c) c.in_ok-head.head) (c.view.ensures ∙ sym c.self.view_is) c.in_ok-head.ensures
+
+-- the call is held under the number of its head
+goes : (c : goal.After-leave) → IsWayOf (old c) c.args.tid (call c) (Held c.in_ok-head.head.drawing)
+goes c = subst (λ (q : ℕ). IsWayOf (old c) c.args.tid (call c) (Held q)) (sym (posted c).drawing_is)
+    (subst (λ (k : Running). IsWayOf k c.args.tid (call c) (Held k.workers.calls.next)) (sym c.self.view_is) c.requires.way)
+
+abbrev added : goal.After-leave → Entry
+added c = entry.Entered c.args.tid (call c).call (call c).regs (Held c.in_ok-head.head.drawing)
 
 abbrev new : (c : goal.After-leave) → ThreadRow → Running
 new c row = with_parts (old c) (old c).system c.post.new.self (set (old c).threads (c.args.tid - 1) row)
 
-put : (c : goal.After-leave) → c.enter.new.self ≡ row_entered (row c).0 c.args.call c.args.regs (Held c.args.seq)
-put c = c.enter.ensures ∙ ap (λ (r : ThreadRow). row_entered r c.args.call c.args.regs (Held c.args.seq)) (read_is (old c).threads c.args.tid (row c).0 c.index_mut.result.now (row c).1 c.index_mut.ensures.value)
+put : (c : goal.After-leave) → c.enter.new.self ≡ row_entered (row c).0 (call c).call (call c).regs (Held c.in_ok-head.head.drawing)
+put c = c.enter.ensures ∙ ap (λ (r : ThreadRow). row_entered r (call c).call (call c).regs (Held c.in_ok-head.head.drawing)) (read_is (old c).threads c.args.tid (row c).0 c.index_mut.result.now (row c).1 c.index_mut.ensures.value)
 
 -- the head is that of the law's machine
-head : (c : goal.After-leave) (st : State) → Refines (old c) st → head_of c.args.tid c.in_ok-head.head ≡ new_head (old c).input c.args.tid (st.threads c.args.tid).owner (st.processes (st.threads c.args.tid).owner) c.args.call c.args.regs
+head : (c : goal.After-leave) (st : State) → Refines (old c) st → head_of c.args.tid c.in_ok-head.head ≡ new_head (old c).input c.args.tid (st.threads c.args.tid).owner (st.processes (st.threads c.args.tid).owner) (call c).call (call c).regs
 head c st is =
-    let posted : IsHeadOf (old c) c.args.seq c.args.pid c.args.call c.args.regs c.in_ok-head.head = subst (λ (k : Running). IsHeadOf k c.args.seq c.args.pid c.args.call c.args.regs c.in_ok-head.head) (c.view.ensures ∙ sym c.self.view_is) c.in_ok-head.ensures in
-    let process = ap (λ (k : Running). pid_of k.system.processes c.args.tid) c.self.view_is ∙ c.requires.process in
-    posted.law st c.args.tid is ∙ ap (λ (pid : ℕ). new_head (old c).input c.args.tid pid (st.processes pid) c.args.call c.args.regs) (sym (owner_is (old c) st is c.args.tid c.args.pid process))
+    let process = ap (λ (k : Running). pid_of k.system.processes c.args.tid) c.self.view_is ∙ c.requires.step.can.process in
+    (posted c).law st c.args.tid is ∙ ap (λ (pid : ℕ). new_head (old c).input c.args.tid pid (st.processes pid) (call c).call (call c).regs) (sym (owner_is (old c) st is c.args.tid (call c).pid process))
 
-step : (c : goal.After-leave) → IsStep (old c) (choice.Thread c.args.tid) (Some (entry.Entered c.args.tid c.args.call c.args.regs (Held c.args.seq))) (new c c.enter.new.self)
-step c = subst (λ (r : ThreadRow). IsStep (old c) (choice.Thread c.args.tid) (Some (entry.Entered c.args.tid c.args.call c.args.regs (Held c.args.seq))) (new c r)) (sym (put c))
-    (held_step (old c) c.args.tid c.args.call c.args.regs (next c) (row c).0 (row c).1 c.args.seq (subst (λ (k : Running). IsWayOf k c.args.tid c.args.call c.args.regs (Held c.args.seq)) (sym c.self.view_is) c.requires.way)
-    c.post.new.self c.in_ok-head.head (head c) c.in_ok-post.ensures.kept)
+step : (c : goal.After-leave) → IsStep (old c) (choice.Thread c.args.tid) (Some (added c)) (new c c.enter.new.self)
+step c = subst (λ (r : ThreadRow). IsStep (old c) (choice.Thread c.args.tid) (Some (added c)) (new c r)) (sym (put c))
+    (held_step (old c) c.args.tid (call c) (next c) (row c).0 (row c).1 c.in_ok-head.head.drawing (goes c) c.post.new.self c.in_ok-head.head (head c) c.in_ok-post.ensures.kept)
 
 pub invariant_of-self-2 : goal.invariant_of-self-2
-invariant_of-self-2 c = running_step (old c) (new c c.enter.new.self) (choice.Thread c.args.tid) (entry.Entered c.args.tid c.args.call c.args.regs (Held c.args.seq)) c.self.invariant (step c)
+invariant_of-self-2 c = running_step (old c) (new c c.enter.new.self) (choice.Thread c.args.tid) (added c) c.self.invariant (step c)
 
 pub returns-clause-step : goal.returns-clause-step
-returns-clause-step c = left_as _ _ (choice.Thread c.args.tid) _ _ c.leave.ensures (subst (λ (k : Running). IsStep k (choice.Thread c.args.tid) (Some (entry.Entered c.args.tid c.args.call c.args.regs (Held c.args.seq))) (new c c.enter.new.self)) c.self.view_is (step c))
+returns-clause-step c = left_as _ _ (choice.Thread c.args.tid) _ _ c.leave.ensures (subst (λ (k : Running). IsStep k (choice.Thread c.args.tid) (Some (added c)) (new c c.enter.new.self)) c.self.view_is (step c))

@@ -1,43 +1,33 @@
-use Rattle.std.proofs.Common.{◌≡◌, ◌-◌, ◌∙◌, List, [], None, Some, ap, arith, refl, set, sym, subst}
+use Rattle.std.proofs.Common.{◌≡◌, ◌-◌, ◌∙◌, None, Some, ap, refl, set, sym, subst, arith}
 use Rattle.st_base.specs.Numbered.{item_at_number}
-use Rattle.st_calls.specs.declared.argument.ArgText.{ArgText}
-use Rattle.st_trace.specs.declared.entry.CallResult.TheVariants.{Failed}
-use Rattle.st_trace.specs.declared.entry.Change.{Change}
 use Rattle.st_trace.specs.declared.entry.Choice.TheVariants as choice
 use Rattle.st_trace.specs.declared.entry.Entry.{Entry}
-use Rattle.st_trace.specs.declared.entry.Entry.TheVariants as entry
-use Rattle.st_workers.proofs.Turns.{number_within, read_is}
+use Rattle.st_workers.proofs.Turns.{read_is}
 use Rattle.st_decide.specs.Machine.{IsNextStep, IsStep, Running}
 use Rattle.st_threads.specs.Thread.{ThreadRow}
 use Rattle.st_decide.specs.declared.step.Step.TheVariants as steps
 use Rattle.st_machine.proofs.After.{with_parts}
-use Rattle.st_machine.proofs.Moving.{failed_step, row_here}
+use Rattle.st_machine.proofs.Moving.{entry_failed, failed_step, place_in, row_here}
+use Rattle.st_machine.proofs.Running.{running_of}
 use Rattle.st_machine.proofs.Served.{left_as, running_step}
 use Rattle.st_machine.proofs.machine.Machine.fail.Goals as goal
 
 pub overflow_sub-tid : goal.overflow_sub-tid
-overflow_sub-tid c =
-    let m : Running = record { input = c.self.inside.input.now; system = c.self.inside.system; workers = c.self.inside.workers; threads = c.self.inside.threads.items; answers = c.self.inside.answers; operator = c.self.inside.operator } in
-    let row = row_here m c.self.invariant c.args.tid (steps.Fail c.args.call c.args.regs c.args.ids c.args.errno) (entry.Used c.args.tid None c.args.call c.args.regs [] c.args.ids (Failed c.args.errno) []) (subst (λ (k : Running). IsNextStep k c.args.tid (steps.Fail c.args.call c.args.regs c.args.ids c.args.errno)) (sym c.self.view_is) c.requires) (λ i st. refl) in
-    (number_within m.threads c.args.tid row.0 row.1).0
+overflow_sub-tid c = (place_in (running_of c.self.inside) c.args.self.now c.self.view_is c.self.invariant c.args.tid (steps.Fail c.args.failed) (λ i st. (_, refl)) c.requires).0
 
 pub index_mut-requires : goal.index_mut-requires
 index_mut-requires c =
-    let m : Running = record { input = c.self.inside.input.now; system = c.self.inside.system; workers = c.self.inside.workers; threads = c.self.inside.threads.items; answers = c.self.inside.answers; operator = c.self.inside.operator } in
-    let row = row_here m c.self.invariant c.args.tid (steps.Fail c.args.call c.args.regs c.args.ids c.args.errno) (entry.Used c.args.tid None c.args.call c.args.regs [] c.args.ids (Failed c.args.errno) []) (subst (λ (k : Running). IsNextStep k c.args.tid (steps.Fail c.args.call c.args.regs c.args.ids c.args.errno)) (sym c.self.view_is) c.requires) (λ i st. refl) in
-    let within = number_within m.threads c.args.tid row.0 row.1 in
-    let from = within.0 in
-    let to = within.1 in
-    omega (arith, from, to)
+    let place = (place_in (running_of c.self.inside) c.args.self.now c.self.view_is c.self.invariant c.args.tid (steps.Fail c.args.failed) (λ i st. (_, refl)) c.requires).1 in
+    omega (arith, place)
 
 abbrev old : goal.After-leave → Running
-old c = record { input = c.self.inside.input.now; system = c.self.inside.system; workers = c.self.inside.workers; threads = c.self.inside.threads.items; answers = c.self.inside.answers; operator = c.self.inside.operator }
+old c = running_of c.self.inside
 
-next : (c : goal.After-leave) → IsNextStep (old c) c.args.tid (steps.Fail c.args.call c.args.regs c.args.ids c.args.errno)
-next c = subst (λ (k : Running). IsNextStep k c.args.tid (steps.Fail c.args.call c.args.regs c.args.ids c.args.errno)) (sym c.self.view_is) c.requires
+next : (c : goal.After-leave) → IsNextStep (old c) c.args.tid (steps.Fail c.args.failed)
+next c = subst (λ (k : Running). IsNextStep k c.args.tid (steps.Fail c.args.failed)) (sym c.self.view_is) c.requires
 
 row : (c : goal.After-leave) → (row : ThreadRow) × (item_at_number (old c).threads c.args.tid ≡ Some row)
-row c = row_here (old c) c.self.invariant c.args.tid (steps.Fail c.args.call c.args.regs c.args.ids c.args.errno) (entry.Used c.args.tid None c.args.call c.args.regs [] c.args.ids (Failed c.args.errno) []) (next c) (λ i st. refl)
+row c = row_here (old c) c.self.invariant c.args.tid (steps.Fail c.args.failed) (entry_failed c.args.tid c.args.failed) (next c) (λ i st. refl)
 
 abbrev new : (c : goal.After-leave) → ThreadRow → Running
 new c row = with_parts (old c) (old c).system (old c).workers (set (old c).threads (c.args.tid - 1) row)
@@ -45,19 +35,13 @@ new c row = with_parts (old c) (old c).system (old c).workers (set (old c).threa
 put : (c : goal.After-leave) → c.close.new.self ≡ record (row c).0 { pending = None }
 put c = c.close.ensures ∙ ap (λ (r : ThreadRow). record r { pending = None }) (read_is (old c).threads c.args.tid (row c).0 c.index_mut.result.now (row c).1 c.index_mut.ensures.value)
 
-step : (c : goal.After-leave) → IsStep (old c) (choice.Thread c.args.tid) (Some (entry.Used c.args.tid None c.args.call c.args.regs [] c.args.ids (Failed c.args.errno) [])) (new c c.close.new.self)
-step c = subst (λ (r : ThreadRow). IsStep (old c) (choice.Thread c.args.tid) (Some (entry.Used c.args.tid None c.args.call c.args.regs [] c.args.ids (Failed c.args.errno) [])) (new c r)) (sym (put c)) (failed_step (old c) c.args.tid c.args.call c.args.regs c.args.ids c.args.errno (next c) (row c).0 (row c).1)
+step : (c : goal.After-leave) → IsStep (old c) (choice.Thread c.args.tid) (Some (entry_failed c.args.tid c.args.failed)) (new c c.close.new.self)
+step c = subst (λ (r : ThreadRow). IsStep (old c) (choice.Thread c.args.tid) (Some (entry_failed c.args.tid c.args.failed)) (new c r)) (sym (put c)) (failed_step (old c) c.args.tid c.args.failed (next c) (row c).0 (row c).1)
 
 pub invariant_of-self : goal.invariant_of-self
-invariant_of-self c = running_step (old c) (new c c.close.new.self) (choice.Thread c.args.tid) (entry.Used c.args.tid None c.args.call c.args.regs [] c.args.ids (Failed c.args.errno) []) c.self.invariant (step c)
-
--- the lists of arguments and changes are empty
-empty : (c : goal.After-leave) → IsStep (old c) (choice.Thread c.args.tid) (Some (entry.Used c.args.tid None c.args.call c.args.regs c.own.result c.args.ids (Failed c.args.errno) c.new-2.result)) (new c c.close.new.self)
-empty c =
-    subst (λ (args : List ArgText). IsStep (old c) (choice.Thread c.args.tid) (Some (entry.Used c.args.tid None c.args.call c.args.regs args c.args.ids (Failed c.args.errno) c.new-2.result)) (new c c.close.new.self)) (sym (c.own.ensures ∙ c.new.ensures))
-    (subst (λ (changes : List Change). IsStep (old c) (choice.Thread c.args.tid) (Some (entry.Used c.args.tid None c.args.call c.args.regs [] c.args.ids (Failed c.args.errno) changes)) (new c c.close.new.self)) (sym c.new-2.ensures) (step c))
+invariant_of-self c = running_step (old c) (new c c.close.new.self) (choice.Thread c.args.tid) (entry_failed c.args.tid c.args.failed) c.self.invariant (step c)
 
 pub returns-clause-step : goal.returns-clause-step
 returns-clause-step c = left_as _ _ (choice.Thread c.args.tid) _ _ c.leave.ensures
     (subst (λ (k : Running). IsStep k (choice.Thread c.args.tid) (Some c.entry.result) (new c c.close.new.self)) c.self.view_is
-    (subst (λ (e : Entry). IsStep (old c) (choice.Thread c.args.tid) (Some e) (new c c.close.new.self)) (sym c.entry.ensures) (empty c)))
+    (subst (λ (e : Entry). IsStep (old c) (choice.Thread c.args.tid) (Some e) (new c c.close.new.self)) (sym c.entry.ensures) (step c)))

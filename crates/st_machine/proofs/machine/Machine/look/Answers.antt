@@ -6,30 +6,31 @@ use Rattle.st_machine.proofs.Served.{left_as, looked, on_err, running_stands, ru
 use Rattle.st_workers.specs.declared.task.Task.TheVariants as tasks
 use Rattle.st_names.specs.declared.seen.SeenText.{SeenText}
 use Rattle.st_workers.specs.Refinement.{RepresentsAfterEntry}
+use Rattle.st_machine.proofs.Running.{running_of}
 use Rattle.st_machine.proofs.machine.Machine.look.Goals as goal
 
 abbrev old : goal.After-leave → Running
-old c = record { input = c.self.inside.input.now; system = c.self.inside.system; workers = c.self.inside.workers; threads = c.self.inside.threads.items; answers = c.self.inside.answers; operator = c.self.inside.operator }
+old c = running_of c.self.inside
 
-task : (c : goal.After-leave) → HasTask (old c) c.args.worker (tasks.Look c.args.seq c.args.part)
-task c = subst (λ (m : Running). HasTask m c.args.worker (tasks.Look c.args.seq c.args.part)) (sym c.self.view_is) c.requires
+task : (c : goal.After-leave) → HasTask (old c) c.args.worker (tasks.Look c.args.asked.drawing c.args.asked.part)
+task c = subst (λ (m : Running). HasTask m c.args.worker (tasks.Look c.args.asked.drawing c.args.asked.part)) (sym c.self.view_is) c.requires
 
-step : (c : goal.After-leave) → IsStep (old c) (choice.Worker c.args.worker) (Some (entry.Looked c.args.seq c.args.part c.in_ok-name.name c.in_ok-text.text)) (with_workers (old c) c.look.new.self)
-step c = looked (old c) c.args.worker c.look.new.self c.look_name.new.self c.args.seq c.args.part c.in_ok-name.name c.in_ok-text.text (c.in_ok-text.ensures ∙ c.look-seen.ensures) c.look_name.ensures.stands
-    (λ i st kept. c.in_ok-name.ensures.law i st c.args.seq c.args.part kept (task c).here)
-    (subst (λ (seen : SeenText). RepresentsAfterEntry c.look_name.new.self (entry.Looked c.args.seq c.args.part c.in_ok-name.name seen) c.look.new.self) (sym c.in_ok-text.ensures)
-    (c.in_ok-look.ensures.kept c.args.seq c.args.part c.in_ok-name.name (c.look_name.ensures.task ∙ (task c).here)))
+step : (c : goal.After-leave) → IsStep (old c) (choice.Worker c.args.worker) (Some (entry.Looked c.args.asked.drawing c.args.asked.part c.in_ok-name.name c.in_ok-text.text)) (with_workers (old c) c.look.new.self)
+step c = looked (old c) c.args.worker c.look.new.self c.look_name.new.self c.args.asked.drawing c.args.asked.part c.in_ok-name.name c.in_ok-text.text (c.in_ok-text.ensures ∙ c.look-seen.ensures) c.look_name.ensures.stands
+    (λ i st kept. c.in_ok-name.ensures.law i st c.args.asked.drawing c.args.asked.part kept (task c).here)
+    (subst (λ (seen : SeenText). RepresentsAfterEntry c.look_name.new.self (entry.Looked c.args.asked.drawing c.args.asked.part c.in_ok-name.name seen) c.look.new.self) (sym c.in_ok-text.ensures)
+    (c.in_ok-look.ensures.kept c.args.asked.drawing c.args.asked.part c.in_ok-name.name (c.look_name.ensures.task ∙ (task c).here)))
 
 pub invariant_of-self-2 : goal.invariant_of-self-2
-invariant_of-self-2 c = running_step (old c) (with_workers (old c) c.look.new.self) (choice.Worker c.args.worker) (entry.Looked c.args.seq c.args.part c.in_ok-name.name c.in_ok-text.text) c.self.invariant (step c)
+invariant_of-self-2 c = running_step (old c) (with_workers (old c) c.look.new.self) (choice.Worker c.args.worker) (entry.Looked c.args.asked.drawing c.args.asked.part c.in_ok-name.name c.in_ok-text.text) c.self.invariant (step c)
 
 pub returns-clause-step : goal.returns-clause-step
-returns-clause-step c = left_as _ _ (choice.Worker c.args.worker) _ _ c.leave.ensures (subst (λ (m : Running). IsStep m (choice.Worker c.args.worker) (Some (entry.Looked c.args.seq c.args.part c.in_ok-name.name c.in_ok-text.text)) (with_workers (old c) c.look.new.self)) c.self.view_is (step c))
+returns-clause-step c = left_as _ _ (choice.Worker c.args.worker) _ _ c.leave.ensures (subst (λ (m : Running). IsStep m (choice.Worker c.args.worker) (Some (entry.Looked c.args.asked.drawing c.args.asked.part c.in_ok-name.name c.in_ok-text.text)) (with_workers (old c) c.look.new.self)) c.self.view_is (step c))
 
 -- out of memory
 
 abbrev at_name : goal.After-from_residual → Running
-at_name c = record { input = c.self.inside.input.now; system = c.self.inside.system; workers = c.self.inside.workers; threads = c.self.inside.threads.items; answers = c.self.inside.answers; operator = c.self.inside.operator }
+at_name c = running_of c.self.inside
 
 stands_name : (c : goal.After-from_residual) → SameState (at_name c) (with_workers (at_name c) c.look_name.new.self)
 stands_name c = stands_so (at_name c) c.look_name.new.self (c.in_err-name.ensures.stands)
@@ -41,7 +42,7 @@ pub returns-in_err-name-clause-err : goal.returns-in_err-name-clause-err
 returns-in_err-name-clause-err c = on_err c.from_residual.result (subst (λ (m : Running). SameState m (with_workers (at_name c) c.look_name.new.self)) c.self.view_is (stands_name c))
 
 abbrev at_text : goal.After-drop-name-inside → Running
-at_text c = record { input = c.self.inside.input.now; system = c.self.inside.system; workers = c.self.inside.workers; threads = c.self.inside.threads.items; answers = c.self.inside.answers; operator = c.self.inside.operator }
+at_text c = running_of c.self.inside
 
 stands_text : (c : goal.After-drop-name-inside) → SameState (at_text c) (with_workers (at_text c) c.look_name.new.self)
 stands_text c = stands_so (at_text c) c.look_name.new.self (c.look_name.ensures.stands)
@@ -53,7 +54,7 @@ pub returns-in_err-text-clause-err : goal.returns-in_err-text-clause-err
 returns-in_err-text-clause-err c = on_err c.from_residual-in_err-text.result (subst (λ (m : Running). SameState m (with_workers (at_text c) c.look_name.new.self)) c.self.view_is (stands_text c))
 
 abbrev at_look : goal.After-drop-name-inside-in_err-look → Running
-at_look c = record { input = c.self.inside.input.now; system = c.self.inside.system; workers = c.self.inside.workers; threads = c.self.inside.threads.items; answers = c.self.inside.answers; operator = c.self.inside.operator }
+at_look c = running_of c.self.inside
 
 stands_look : (c : goal.After-drop-name-inside-in_err-look) → SameState (at_look c) (with_workers (at_look c) c.look.new.self)
 stands_look c = stands_so (at_look c) c.look.new.self (stands_on c.self.inside.workers c.look_name.new.self c.look.new.self c.look_name.ensures.stands c.in_err-look.ensures.err)

@@ -1,40 +1,34 @@
-use Rattle.std.proofs.Common.{◌≡◌, ◌-◌, ◌∙◌, Some, ap, arith, drop, refl, set, sym, subst}
+use Rattle.std.proofs.Common.{◌≡◌, ◌-◌, ◌∙◌, Some, ap, drop, refl, set, sym, subst, arith}
 use Rattle.st_base.specs.Numbered.{item_at_number}
 use Rattle.st_trace.specs.declared.entry.Choice.TheVariants as choice
 use Rattle.st_trace.specs.declared.entry.Entry.TheVariants as entry
-use Rattle.st_workers.proofs.Turns.{number_within, read_is}
+use Rattle.st_workers.proofs.Turns.{read_is}
 use Rattle.st_decide.specs.Machine.{IsNextStep, IsStep, Running, SameState}
 use Rattle.st_system.specs.System.{Parts}
 use Rattle.st_threads.specs.Thread.{ThreadRow}
 use Rattle.st_decide.specs.declared.step.Step.TheVariants as steps
 use Rattle.st_machine.proofs.After.{with_parts}
-use Rattle.st_machine.proofs.Moving.{stored_inside, stored_started, stored_step, row_here}
+use Rattle.st_machine.proofs.Moving.{place_in, row_here, stored_inside, stored_started, stored_step}
 use Rattle.st_machine.proofs.Served.{left_as, on_err, running_stands, running_step}
+use Rattle.st_machine.proofs.Running.{running_of}
 use Rattle.st_machine.proofs.machine.Machine.store.Goals as goal
 
 pub overflow_sub-tid : goal.overflow_sub-tid
-overflow_sub-tid c =
-    let m : Running = record { input = c.self.inside.input.now; system = c.self.inside.system; workers = c.self.inside.workers; threads = c.self.inside.threads.items; answers = c.self.inside.answers; operator = c.self.inside.operator } in
-    let row = row_here m c.self.invariant c.args.tid (steps.Store c.args.place c.args.word) (entry.Stored c.args.tid c.args.place c.args.word) (subst (λ (k : Running). IsNextStep k c.args.tid (steps.Store c.args.place c.args.word)) (sym c.self.view_is) c.requires) (λ i st. refl) in
-    (number_within m.threads c.args.tid row.0 row.1).0
+overflow_sub-tid c = (place_in (running_of c.self.inside) c.args.self.now c.self.view_is c.self.invariant c.args.tid (steps.Store c.args.stored) (λ i st. (_, refl)) c.requires).0
 
 pub index_mut-requires : goal.index_mut-requires
 index_mut-requires c =
-    let m : Running = record { input = c.self.inside.input.now; system = c.self.inside.system; workers = c.self.inside.workers; threads = c.self.inside.threads.items; answers = c.self.inside.answers; operator = c.self.inside.operator } in
-    let row = row_here m c.self.invariant c.args.tid (steps.Store c.args.place c.args.word) (entry.Stored c.args.tid c.args.place c.args.word) (subst (λ (k : Running). IsNextStep k c.args.tid (steps.Store c.args.place c.args.word)) (sym c.self.view_is) c.requires) (λ i st. refl) in
-    let within = number_within m.threads c.args.tid row.0 row.1 in
-    let from = within.0 in
-    let to = within.1 in
-    omega (arith, from, to)
+    let place = (place_in (running_of c.self.inside) c.args.self.now c.self.view_is c.self.invariant c.args.tid (steps.Store c.args.stored) (λ i st. (_, refl)) c.requires).1 in
+    omega (arith, place)
 
 abbrev old : goal.After-leave → Running
-old c = record { input = c.self.inside.input.now; system = c.self.inside.system; workers = c.self.inside.workers; threads = c.self.inside.threads.items; answers = c.self.inside.answers; operator = c.self.inside.operator }
+old c = running_of c.self.inside
 
-next : (c : goal.After-leave) → IsNextStep (old c) c.args.tid (steps.Store c.args.place c.args.word)
-next c = subst (λ (k : Running). IsNextStep k c.args.tid (steps.Store c.args.place c.args.word)) (sym c.self.view_is) c.requires
+next : (c : goal.After-leave) → IsNextStep (old c) c.args.tid (steps.Store c.args.stored)
+next c = subst (λ (k : Running). IsNextStep k c.args.tid (steps.Store c.args.stored)) (sym c.self.view_is) c.requires
 
 row : (c : goal.After-leave) → (row : ThreadRow) × (item_at_number (old c).threads c.args.tid ≡ Some row)
-row c = row_here (old c) c.self.invariant c.args.tid (steps.Store c.args.place c.args.word) (entry.Stored c.args.tid c.args.place c.args.word) (next c) (λ i st. refl)
+row c = row_here (old c) c.self.invariant c.args.tid (steps.Store c.args.stored) (entry.Stored c.args.tid c.args.stored.place c.args.stored.word) (next c) (λ i st. refl)
 
 abbrev new : (c : goal.After-leave) → ThreadRow → Running
 new c row = with_parts (old c) c.store.new.self (old c).workers (set (old c).threads (c.args.tid - 1) row)
@@ -42,29 +36,29 @@ new c row = with_parts (old c) c.store.new.self (old c).workers (set (old c).thr
 put : (c : goal.After-leave) → c.go_on.new.self ≡ record (row c).0 { left = drop 1 (row c).0.left }
 put c = c.go_on.ensures ∙ ap (λ (r : ThreadRow). record r { left = drop 1 r.left }) (read_is (old c).threads c.args.tid (row c).0 c.index_mut.result.now (row c).1 c.index_mut.ensures.value)
 
-step : (c : goal.After-leave) → IsStep (old c) (choice.Thread c.args.tid) (Some (entry.Stored c.args.tid c.args.place c.args.word)) (new c c.go_on.new.self)
-step c = subst (λ (r : ThreadRow). IsStep (old c) (choice.Thread c.args.tid) (Some (entry.Stored c.args.tid c.args.place c.args.word)) (new c r)) (sym (put c)) (stored_step (old c) c.args.tid c.args.place c.args.word (next c) c.store.new.self (row c).0 (row c).1 c.in_ok-store.ensures.system)
+step : (c : goal.After-leave) → IsStep (old c) (choice.Thread c.args.tid) (Some (entry.Stored c.args.tid c.args.stored.place c.args.stored.word)) (new c c.go_on.new.self)
+step c = subst (λ (r : ThreadRow). IsStep (old c) (choice.Thread c.args.tid) (Some (entry.Stored c.args.tid c.args.stored.place c.args.stored.word)) (new c r)) (sym (put c)) (stored_step (old c) c.args.tid c.args.stored (next c) c.store.new.self (row c).0 (row c).1 c.in_ok-store.ensures.system)
 
 pub invariant_of-self-2 : goal.invariant_of-self-2
-invariant_of-self-2 c = running_step (old c) (new c c.go_on.new.self) (choice.Thread c.args.tid) (entry.Stored c.args.tid c.args.place c.args.word) c.self.invariant (step c)
+invariant_of-self-2 c = running_step (old c) (new c c.go_on.new.self) (choice.Thread c.args.tid) (entry.Stored c.args.tid c.args.stored.place c.args.stored.word) c.self.invariant (step c)
 
 pub returns-clause-step : goal.returns-clause-step
-returns-clause-step c = left_as _ _ (choice.Thread c.args.tid) _ _ c.leave.ensures (subst (λ (k : Running). IsStep k (choice.Thread c.args.tid) (Some (entry.Stored c.args.tid c.args.place c.args.word)) (new c c.go_on.new.self)) c.self.view_is (step c))
+returns-clause-step c = left_as _ _ (choice.Thread c.args.tid) _ _ c.leave.ensures (subst (λ (k : Running). IsStep k (choice.Thread c.args.tid) (Some (entry.Stored c.args.tid c.args.stored.place c.args.stored.word)) (new c c.go_on.new.self)) c.self.view_is (step c))
 
 pub store-requires-clause-place : goal.store-requires-clause-place
 store-requires-clause-place c =
-    let m : Running = record { input = c.self.inside.input.now; system = c.self.inside.system; workers = c.self.inside.workers; threads = c.self.inside.threads.items; answers = c.self.inside.answers; operator = c.self.inside.operator } in
-    stored_inside m c.args.tid c.args.place c.args.word (subst (λ (k : Running). IsNextStep k c.args.tid (steps.Store c.args.place c.args.word)) (sym c.self.view_is) c.requires) c.self.invariant.state c.self.invariant.is
+    let m : Running = running_of c.self.inside in
+    stored_inside m c.args.tid c.args.stored (subst (λ (k : Running). IsNextStep k c.args.tid (steps.Store c.args.stored)) (sym c.self.view_is) c.requires) c.self.invariant.state c.self.invariant.is
 
 pub store-requires-clause-started : goal.store-requires-clause-started
 store-requires-clause-started c =
-    let m : Running = record { input = c.self.inside.input.now; system = c.self.inside.system; workers = c.self.inside.workers; threads = c.self.inside.threads.items; answers = c.self.inside.answers; operator = c.self.inside.operator } in
-    stored_started m c.args.tid c.args.place c.args.word (subst (λ (k : Running). IsNextStep k c.args.tid (steps.Store c.args.place c.args.word)) (sym c.self.view_is) c.requires) c.self.invariant.state c.self.invariant.is
+    let m : Running = running_of c.self.inside in
+    stored_started m c.args.tid c.args.stored (subst (λ (k : Running). IsNextStep k c.args.tid (steps.Store c.args.stored)) (sym c.self.view_is) c.requires) c.self.invariant.state c.self.invariant.is
 
 -- out of memory
 
 abbrev before : goal.After-from_residual → Running
-before c = record { input = c.self.inside.input.now; system = c.self.inside.system; workers = c.self.inside.workers; threads = c.self.inside.threads.items; answers = c.self.inside.answers; operator = c.self.inside.operator }
+before c = running_of c.self.inside
 
 abbrev refused : goal.After-from_residual → Running
 refused c = with_parts (before c) c.store.new.self (before c).workers (before c).threads

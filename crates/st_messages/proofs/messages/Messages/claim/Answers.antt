@@ -16,10 +16,10 @@ none c =
     )
 
 pub returns-in_err-place-clause-none : goal.returns-in_err-place-clause-none
-returns-in_err-place-clause-none c = (λ _ seq. none_waits c.args.self.now.live seq (none c), λ _. subst IsNone (sym c.from_residual.ensures) refl)
+returns-in_err-place-clause-none c = (λ _ drawing. none_waits c.args.self.now.live drawing (none c), λ _. subst IsNone (sym c.from_residual.ensures) refl)
 
 pub returns-in_err-place-clause-first : goal.returns-in_err-place-clause-first
-returns-in_err-place-clause-first c = c.from_residual.ensures ∙ sym (ap (option_map (λ (message : Message). message.seq)) (none c))
+returns-in_err-place-clause-first c = c.from_residual.ensures ∙ sym (ap (option_map (λ (message : Message). message.drawing)) (none c))
 
 -- the first waiting message
 abbrev first : goal.After-set_state_at → Message
@@ -33,7 +33,7 @@ found c =
 
 least : (c : goal.After-set_state_at) → IsLeastWaiting c.args.self.now c.set_state_at.result
 least c =
-    subst (IsLeastWaiting c.args.self.now) (sym (c.set_state_at.ensures.seq (waiting_message 0 0))) (
+    subst (IsLeastWaiting c.args.self.now) (sym (c.set_state_at.ensures.drawing (waiting_message 0 0))) (
     least_waiting c.args.self.now (first c) (subst AreValidCalls c.self.view_is c.self.invariant) (found c)
     )
 
@@ -44,4 +44,4 @@ pub returns-clause-least : goal.returns-clause-least
 returns-clause-least c = least c
 
 pub returns-clause-first : goal.returns-clause-first
-returns-clause-first c = ap Some (c.set_state_at.ensures.seq (waiting_message 0 0)) ∙ sym (ap (option_map (λ (message : Message). message.seq)) (found c))
+returns-clause-first c = ap Some (c.set_state_at.ensures.drawing (waiting_message 0 0)) ∙ sym (ap (option_map (λ (message : Message). message.drawing)) (found c))

@@ -8,23 +8,23 @@ use Rattle.st_messages.proofs.Lookups.{found_nowhere}
 use Rattle.st_messages.proofs.messages.Messages.set_state.Goals as goal
 
 -- the message at the index has the number
-number : (c : goal.After-set_state_at) → c.set_state_at.result ≡ c.args.seq
+number : (c : goal.After-set_state_at) → c.set_state_at.result ≡ c.args.drawing
 number c =
     let default = waiting_message 0 0 in
-    let is = ap (λ (calls : HeldCalls). position (is_message_of c.args.seq) calls.live) (sym c.self.view_is) ∙ sym c.place_of.ensures ∙ c.in-Some.is in
-    c.set_state_at.ensures.seq default ∙ eqb-true _ c.args.seq (position-Some (is_message_of c.args.seq) c.args.self.now.live c.in-Some.place default is).1
+    let is = ap (λ (calls : HeldCalls). position (is_message_of c.args.drawing) calls.live) (sym c.self.view_is) ∙ sym c.place_of.ensures ∙ c.in-Some.is in
+    c.set_state_at.ensures.drawing default ∙ eqb-true _ c.args.drawing (position-Some (is_message_of c.args.drawing) c.args.self.now.live c.in-Some.place default is).1
 
 pub returns-in-Some-clause-calls : goal.returns-in-Some-clause-calls
-returns-in-Some-clause-calls c = c.set_state_at.ensures.calls ∙ ap (λ seq. with_state c.args.self.now seq c.args.state) (number c)
+returns-in-Some-clause-calls c = c.set_state_at.ensures.calls ∙ ap (λ drawing. with_state c.args.self.now drawing c.args.state) (number c)
 
 pub returns-in-Some-clause-states : goal.returns-in-Some-clause-states
-returns-in-Some-clause-states c = subst (λ seq. ChangesState c.args.self.now seq (Some c.args.state) c.set_state_at.new.self) (number c) c.set_state_at.ensures.states
+returns-in-Some-clause-states c = subst (λ drawing. ChangesState c.args.self.now drawing (Some c.args.state) c.set_state_at.new.self) (number c) c.set_state_at.ensures.states
 
 -- a live number has an index
 nowhere : (c : goal.In_default) → ⊥
 nowhere c =
-    let none : message_in c.self.inside.live.items c.args.seq ≡ None = found_nowhere (is_message_of c.args.seq) c.self.inside.live.items (sym c.place_of.ensures ∙ c.in_default.is) in
-    true≢false (sym c.requires.live ∙ sym (ap (λ (calls : HeldCalls). is_live_number calls c.args.seq) c.self.view_is) ∙ ap is_some none)
+    let none : message_in c.self.inside.live.items c.args.drawing ≡ None = found_nowhere (is_message_of c.args.drawing) c.self.inside.live.items (sym c.place_of.ensures ∙ c.in_default.is) in
+    true≢false (sym c.requires.live ∙ sym (ap (λ (calls : HeldCalls). is_live_number calls c.args.drawing) c.self.view_is) ∙ ap is_some none)
 
 pub returns-in_default-clause-calls : goal.returns-in_default-clause-calls
 returns-in_default-clause-calls c = absurd (nowhere c)

@@ -9,21 +9,21 @@ inside : (c : goal.After-self-1) → c.args.place < length c.self.inside.live.it
 inside c = subst (λ (calls : HeldCalls). c.args.place < length calls.live) (sym c.self.view_is) c.requires.place
 
 -- the message at the index is live
-live : (c : goal.After-self-1) → is_live_number c.args.self.now c.index_mut-message.result.now.seq ≡ true
+live : (c : goal.After-self-1) → is_live_number c.args.self.now c.index_mut-message.result.now.drawing ≡ true
 live c =
-    ap (λ (calls : HeldCalls). is_live_number calls c.index_mut-message.result.now.seq) (sym c.self.view_is)
+    ap (λ (calls : HeldCalls). is_live_number calls c.index_mut-message.result.now.drawing) (sym c.self.view_is)
     ∙ ap is_some (found_there c.self.inside.live.items 1 c.self.inside.next c.args.place c.index_mut-message.result.now c.self.invariant.ordered (inside c) c.index_mut-message.ensures.value)
 
-left : (c : goal.After-self-1) → record { workers = c.self.inside.workers; next = c.self.inside.next; live = slice_set c.self.inside.live.items c.args.place (moved c.args.state c.index_mut-message.result.now) } ≡ with_state c.args.self.now c.index_mut-message.result.now.seq c.args.state
+left : (c : goal.After-self-1) → record { workers = c.self.inside.workers; next = c.self.inside.next; live = slice_set c.self.inside.live.items c.args.place (moved c.args.state c.index_mut-message.result.now) } ≡ with_state c.args.self.now c.index_mut-message.result.now.drawing c.args.state
 left c =
     ap (λ live. record { workers = c.self.inside.workers; next = c.self.inside.next; live = live }) (set-placed c.self.inside.live.items 1 c.self.inside.next c.args.place c.index_mut-message.result.now c.self.invariant.ordered (inside c) c.index_mut-message.ensures.value c.args.state)
-    ∙ ap (λ (calls : HeldCalls). with_state calls c.index_mut-message.result.now.seq c.args.state) c.self.view_is
+    ∙ ap (λ (calls : HeldCalls). with_state calls c.index_mut-message.result.now.drawing c.args.state) c.self.view_is
 
 pub invariant_of-self : goal.invariant_of-self
-invariant_of-self c = subst AreValidCalls (sym (left c)) (whole-moved c.args.self.now c.index_mut-message.result.now.seq c.args.state (subst AreValidCalls c.self.view_is c.self.invariant) (live c) c.requires.worker)
+invariant_of-self c = subst AreValidCalls (sym (left c)) (whole-moved c.args.self.now c.index_mut-message.result.now.drawing c.args.state (subst AreValidCalls c.self.view_is c.self.invariant) (live c) c.requires.worker)
 
 pub returns-clause-calls : goal.returns-clause-calls
 returns-clause-calls c = left c
 
 pub returns-clause-states : goal.returns-clause-states
-returns-clause-states c = subst (ChangesState c.args.self.now c.index_mut-message.result.now.seq (Some c.args.state)) (sym (left c)) (states_moved c.args.self.now c.index_mut-message.result.now.seq c.args.state (live c))
+returns-clause-states c = subst (ChangesState c.args.self.now c.index_mut-message.result.now.drawing (Some c.args.state)) (sym (left c)) (states_moved c.args.self.now c.index_mut-message.result.now.drawing c.args.state (live c))

@@ -5,14 +5,14 @@ use Rattle.st_messages.specs.declared.message.Message.{Message}
 use Rattle.st_messages.proofs.Ordered.{found_below}
 use Rattle.st_messages.proofs.messages.Messages.state.Goals as goal
 
-found : (c : goal.In_ok-message_of) → message_of_number c.args.self.now c.args.seq ≡ Some c.in_ok-message_of.field-0
-found c = sym (c.message_of.ensures ∙ ap (λ (calls : HeldCalls). message_of_number calls c.args.seq) c.self.view_is) ∙ c.in_ok-message_of.was
+found : (c : goal.In_ok-message_of) → message_of_number c.args.self.now c.args.drawing ≡ Some c.in_ok-message_of.field-0
+found c = sym (c.message_of.ensures ∙ ap (λ (calls : HeldCalls). message_of_number calls c.args.drawing) c.self.view_is) ∙ c.in_ok-message_of.was
 
 whole : (c : goal.In_ok-message_of) → AreValidCalls c.args.self.now
 whole c = subst AreValidCalls c.self.view_is c.self.invariant
 
 pub returns-clause-given : goal.returns-clause-given
-returns-clause-given c = found_below c.args.self.now.live 1 c.args.self.now.next c.args.seq c.in_ok-message_of.field-0 (whole c).ordered (found c)
+returns-clause-given c = found_below c.args.self.now.live 1 c.args.self.now.next c.args.drawing c.in_ok-message_of.field-0 (whole c).ordered (found c)
 
 pub returns-clause-worker : goal.returns-clause-worker
-returns-clause-worker c = λ worker is. (whole c).workers c.args.seq worker (ap (option_map (λ (message : Message). message.state)) (found c) ∙ ap Some is)
+returns-clause-worker c = λ worker is. (whole c).workers c.args.drawing worker (ap (option_map (λ (message : Message). message.state)) (found c) ∙ ap Some is)

@@ -15,11 +15,11 @@ old c = record { calls = c.self.inside.messages; slots = c.self.inside.slots; tu
 abbrev new : goal.After-drop_of → UnderWay
 new c = record { calls = c.cancel.new.self; slots = c.drop_of.new.self; turns = c.leave.new.turns }
 
-here : (c : goal.After-drop_of) → is_live_number (old c).calls c.args.seq ≡ true
-here c = ap (λ (k : UnderWay). is_live_number k.calls c.args.seq) c.self.view_is ∙ c.requires
+here : (c : goal.After-drop_of) → is_live_number (old c).calls c.args.drawing ≡ true
+here c = ap (λ (k : UnderWay). is_live_number k.calls c.args.drawing) c.self.view_is ∙ c.requires
 
-turns_left : (c : goal.After-drop_of) → HasLeft (old c).turns (message_state (old c).calls c.args.seq) (new c).turns
-turns_left c = subst (λ (ts : List Turn). HasLeft ts (message_state (old c).calls c.args.seq) (new c).turns) c.deref_mut.ensures.value (subst (λ (o : Option MsgState). HasLeft c.deref_mut.result.now o (new c).turns) c.state.ensures.state c.leave.ensures.left)
+turns_left : (c : goal.After-drop_of) → HasLeft (old c).turns (message_state (old c).calls c.args.drawing) (new c).turns
+turns_left c = subst (λ (ts : List Turn). HasLeft ts (message_state (old c).calls c.args.drawing) (new c).turns) c.deref_mut.ensures.value (subst (λ (o : Option MsgState). HasLeft c.deref_mut.result.now o (new c).turns) c.state.ensures.state c.leave.ensures.left)
 
 count : (c : goal.After-drop_of) → length (new c).turns ≡ length (old c).turns
 count c = c.leave.ensures.count ∙ ap (λ (ts : List Turn). length ts) c.deref_mut.ensures.value
@@ -30,9 +30,9 @@ turns_are c = whole_again (new c).turns (old c).turns c.self.inside.turns.len c.
 pub invariant_of-self : goal.invariant_of-self
 invariant_of-self c =
     subst (λ (ts : List Turn). AreValidWorkers (record { calls = (new c).calls; slots = (new c).slots; turns = ts })) (sym (turns_are c))
-    (cancelled_whole (old c) (new c) c.args.seq (here c) c.cancel.ensures.calls c.cancel.ensures.states c.drop_of.ensures (turns_left c) (count c) c.self.invariant)
+    (cancelled_whole (old c) (new c) c.args.drawing (here c) c.cancel.ensures.calls c.cancel.ensures.states c.drop_of.ensures (turns_left c) (count c) c.self.invariant)
 
 pub returns-clause-kept : goal.returns-clause-kept
 returns-clause-kept c = λ i messages turns alive later posted kept lives.
     subst (λ (ts : List Turn). RepresentsMachineMessages i messages turns later posted (record { calls = (new c).calls; slots = (new c).slots; turns = ts })) (sym (turns_are c))
-    (cancelled_kept (old c) (new c) c.args.seq (here c) c.cancel.ensures.calls c.cancel.ensures.states c.drop_of.ensures (turns_left c) (count c) i messages turns alive later posted (subst (λ (k : UnderWay). RepresentsMachineMessages i messages turns alive posted k) (sym c.self.view_is) kept) lives)
+    (cancelled_kept (old c) (new c) c.args.drawing (here c) c.cancel.ensures.calls c.cancel.ensures.states c.drop_of.ensures (turns_left c) (count c) i messages turns alive later posted (subst (λ (k : UnderWay). RepresentsMachineMessages i messages turns alive posted k) (sym c.self.view_is) kept) lives)

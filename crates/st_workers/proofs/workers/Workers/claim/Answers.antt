@@ -19,9 +19,9 @@ use Rattle.st_workers.proofs.Turns.{number_within}
 use Rattle.st_workers.proofs.workers.Workers.claim.Goals as goal
 
 -- a number is waiting
-some_there : (o : Option ℕ) → IsSome o → (seq : ℕ) × (o ≡ Some seq)
+some_there : (o : Option ℕ) → IsSome o → (drawing : ℕ) × (o ≡ Some drawing)
 some_there None x = cc
-some_there (Some seq) x = (seq, refl)
+some_there (Some drawing) x = (drawing, refl)
 
 pub unreachable-requires : goal.unreachable-requires
 unreachable-requires c =
@@ -32,7 +32,7 @@ unreachable-requires c =
 pub turn_for-requires : goal.turn_for-requires
 turn_for-requires c =
     let kept : UnderWay = record { calls = c.self.inside.messages; slots = c.self.inside.slots; turns = c.self.inside.turns.items } in
-    ap is_some (state_slot kept c.self.invariant c.in-Some.seq Waiting c.in-Some.ensures.least.waiting).1
+    ap is_some (state_slot kept c.self.invariant c.in-Some.drawing Waiting c.in-Some.ensures.least.waiting).1
 
 -- the number of the worker is in range
 module _ (kept then : UnderWay) (same : kept ≡ then) (whole : AreValidWorkers kept) (worker : ℕ) (claims : task_of then worker ≡ Claim) where
@@ -67,20 +67,20 @@ put c = ap (set (old c).turns (c.args.worker - 1)) c.put_turn.ensures
 idle : (c : goal.After-claim) → turn_of_worker (old c) c.args.worker ≡ Some Idle
 idle c = (claims_idle (old c) (turn_of_worker (old c) c.args.worker) (ap (λ (k : UnderWay). task_of k c.args.worker) c.self.view_is ∙ c.requires)).0
 
-slot : (c : goal.After-claim) → (slot : Slot) × (slot_at (old c).slots c.in-Some.seq ≡ Some slot)
-slot c = state_slot (old c) c.self.invariant c.in-Some.seq Waiting c.in-Some.ensures.least.waiting
+slot : (c : goal.After-claim) → (slot : Slot) × (slot_at (old c).slots c.in-Some.drawing ≡ Some slot)
+slot c = state_slot (old c) c.self.invariant c.in-Some.drawing Waiting c.in-Some.ensures.least.waiting
 
-calls : (c : goal.After-claim) → (new c).calls ≡ with_state (old c).calls c.in-Some.seq (Claimed c.args.worker)
-calls c = known c.claim.result (λ seq. c.claim.new.self ≡ with_state (old c).calls seq (Claimed c.args.worker)) c.in-Some.seq (c.claim.ensures.first ∙ sym c.in-Some.ensures.first) c.claim.ensures.ok
+calls : (c : goal.After-claim) → (new c).calls ≡ with_state (old c).calls c.in-Some.drawing (Claimed c.args.worker)
+calls c = known c.claim.result (λ drawing. c.claim.new.self ≡ with_state (old c).calls drawing (Claimed c.args.worker)) c.in-Some.drawing (c.claim.ensures.first ∙ sym c.in-Some.ensures.first) c.claim.ensures.ok
 
-slots_now : (c : goal.After-claim) → ChangesSlot (old c).slots c.in-Some.seq (Some (sealed_if_ready (slot c).0)) (new c).slots
-slots_now c = known (slot_at (old c).slots c.in-Some.seq) (λ s. ChangesSlot (old c).slots c.in-Some.seq (Some (sealed_if_ready s)) (new c).slots) (slot c).0 (slot c).1 c.in_ok-turn.ensures.slot
+slots_now : (c : goal.After-claim) → ChangesSlot (old c).slots c.in-Some.drawing (Some (sealed_if_ready (slot c).0)) (new c).slots
+slots_now c = known (slot_at (old c).slots c.in-Some.drawing) (λ s. ChangesSlot (old c).slots c.in-Some.drawing (Some (sealed_if_ready s)) (new c).slots) (slot c).0 (slot c).1 c.in_ok-turn.ensures.slot
 
-turn : (c : goal.After-claim) → IsTurnFor c.in-Some.seq (slot c).0 c.in_ok-turn.turn
-turn c = known (slot_at (old c).slots c.in-Some.seq) (λ s. IsTurnFor c.in-Some.seq s c.in_ok-turn.turn) (slot c).0 (slot c).1 c.in_ok-turn.ensures.turn
+turn : (c : goal.After-claim) → IsTurnFor c.in-Some.drawing (slot c).0 c.in_ok-turn.turn
+turn c = known (slot_at (old c).slots c.in-Some.drawing) (λ s. IsTurnFor c.in-Some.drawing s c.in_ok-turn.turn) (slot c).0 (slot c).1 c.in_ok-turn.ensures.turn
 
 pub returns-clause-calls : goal.returns-clause-calls
-returns-clause-calls c = calls c ∙ ap (λ (k : UnderWay). with_state k.calls c.in-Some.seq (Claimed c.args.worker)) c.self.view_is
+returns-clause-calls c = calls c ∙ ap (λ (k : UnderWay). with_state k.calls c.in-Some.drawing (Claimed c.args.worker)) c.self.view_is
 
 pub returns-clause-workers : goal.returns-clause-workers
 returns-clause-workers c = ap (λ (k : HeldCalls). k.workers) (calls c) ∙ ap (λ (k : UnderWay). k.calls.workers) c.self.view_is
@@ -102,16 +102,16 @@ returns-in_err-turn-clause-err c =
     on_err c.from_residual.result (ap (λ (slots : List Slot). record { calls = c.self.inside.messages; slots = slots; turns = c.self.inside.turns.items }) c.in_err-turn.ensures.err ∙ c.self.view_is)
 
 pub invariant_of-self-2 : goal.invariant_of-self-2
-invariant_of-self-2 c = claimed_whole (old c) (new c) c.args.worker c.in-Some.seq (slot c).0 c.in_ok-turn.turn (idle c) c.in-Some.ensures.least.waiting (slot c).1 (calls c) (slots_now c) (put c) (turn c) c.self.invariant
+invariant_of-self-2 c = claimed_whole (old c) (new c) c.args.worker c.in-Some.drawing (slot c).0 c.in_ok-turn.turn (idle c) c.in-Some.ensures.least.waiting (slot c).1 (calls c) (slots_now c) (put c) (turn c) c.self.invariant
 
 pub returns-clause-kept : goal.returns-clause-kept
 returns-clause-kept c =
-    let follows : RepresentsAfterEntry (old c) (entry.Claimed c.args.worker c.in-Some.seq) (new c) =
-    claimed_follows (old c) (new c) c.args.worker c.in-Some.seq (slot c).0 c.in_ok-turn.turn (idle c) c.in-Some.ensures.least.waiting (slot c).1 (calls c) (slots_now c) (put c) (turn c) in
-    subst (λ (k : UnderWay). RepresentsAfterEntry k (entry.Claimed c.args.worker c.in-Some.seq) (new c)) c.self.view_is follows
+    let follows : RepresentsAfterEntry (old c) (entry.Claimed c.args.worker c.in-Some.drawing) (new c) =
+    claimed_follows (old c) (new c) c.args.worker c.in-Some.drawing (slot c).0 c.in_ok-turn.turn (idle c) c.in-Some.ensures.least.waiting (slot c).1 (calls c) (slots_now c) (put c) (turn c) in
+    subst (λ (k : UnderWay). RepresentsAfterEntry k (entry.Claimed c.args.worker c.in-Some.drawing) (new c)) c.self.view_is follows
 
 pub returns-clause-law : goal.returns-clause-law
 returns-clause-law c = λ i st kept.
     let within : (1 ≤ c.args.worker) × (c.args.worker ≤ length (old c).turns) = number_within (old c).turns c.args.worker Idle (idle c) in
     let is = subst (λ (k : UnderWay). RepresentsMessages i st (is_live st) k) (sym c.self.view_is) kept in
-    claim_entry i st (old c) c.args.worker is (worker_there i st (is_live st) (old c) c.args.worker within.0 (subst (λ (n : ℕ). c.args.worker ≤ n) c.self.invariant.count within.1) is) (idle c) c.in-Some.seq c.in-Some.ensures.least
+    claim_entry i st (old c) c.args.worker is (worker_there i st (is_live st) (old c) c.args.worker within.0 (subst (λ (n : ℕ). c.args.worker ≤ n) c.self.invariant.count within.1) is) (idle c) c.in-Some.drawing c.in-Some.ensures.least

@@ -14,22 +14,22 @@ pub index_mut-turn-requires : goal.index_mut-turn-requires
 index_mut-turn-requires c =
     let old : UnderWay = record { calls = c.self.inside.messages; slots = c.self.inside.slots; turns = c.self.inside.turns.items } in
     let within : (1 ≤ c.args.worker) × (c.args.worker ≤ length old.turns) =
-    number_within old.turns c.args.worker (Working c.seq_at-seq.result) (ap (λ (k : UnderWay). turn_of_worker k c.args.worker) c.self.view_is ∙ c.seq_at-seq.ensures) in
+    number_within old.turns c.args.worker (Working c.drawing_at-drawing.result) (ap (λ (k : UnderWay). turn_of_worker k c.args.worker) c.self.view_is ∙ c.drawing_at-drawing.ensures) in
     omega (arith, within.0, within.1)
 
 pub take_look-requires-clause-turn : goal.take_look-requires-clause-turn
 take_look-requires-clause-turn c =
-    read_is c.self.inside.turns.items c.args.worker (Working c.seq_at-seq.result) c.index_mut-turn.result.now (ap (λ (k : UnderWay). turn_of_worker k c.args.worker) c.self.view_is ∙ c.seq_at-seq.ensures) c.index_mut-turn.ensures.value
+    read_is c.self.inside.turns.items c.args.worker (Working c.drawing_at-drawing.result) c.index_mut-turn.result.now (ap (λ (k : UnderWay). turn_of_worker k c.args.worker) c.self.view_is ∙ c.drawing_at-drawing.ensures) c.index_mut-turn.ensures.value
 
 pub invariant_of-self : goal.invariant_of-self
 invariant_of-self c =
     let old : UnderWay = record { calls = c.self.inside.messages; slots = c.self.inside.slots; turns = c.self.inside.turns.items } in
     let new : UnderWay = record { calls = c.self.inside.messages; slots = c.take_look.new.slots; turns = set c.self.inside.turns.items (c.args.worker - 1) c.take_look.new.turn } in
-    let working : turn_of_worker old c.args.worker ≡ Some (Working c.seq_at-seq.result) = ap (λ (k : UnderWay). turn_of_worker k c.args.worker) c.self.view_is ∙ c.seq_at-seq.ensures in
+    let working : turn_of_worker old c.args.worker ≡ Some (Working c.drawing_at-drawing.result) = ap (λ (k : UnderWay). turn_of_worker k c.args.worker) c.self.view_is ∙ c.drawing_at-drawing.ensures in
     either_way c.take_look.result _ _ (AreValidWorkers new)
-    (λ both. looked_whole old new c.args.worker c.seq_at-seq.result c.take_look.new.turn working c.self.invariant refl refl (seen_text c.args.seen) both.0 both.1
+    (λ both. looked_whole old new c.args.worker c.drawing_at-drawing.result c.take_look.new.turn working c.self.invariant refl refl (seen_text c.args.seen) both.0 both.1
     (subst (λ (k : UnderWay). IsLook (task_of k c.args.worker)) (sym c.self.view_is) c.requires))
-    (λ both. whole_by old new refl both.0 (put_again old new c.args.worker (Working c.seq_at-seq.result) c.index_mut-turn.result.now c.take_look.new.turn working c.index_mut-turn.ensures.value both.1 refl) c.self.invariant)
+    (λ both. whole_by old new refl both.0 (put_again old new c.args.worker (Working c.drawing_at-drawing.result) c.index_mut-turn.result.now c.take_look.new.turn working c.index_mut-turn.ensures.value both.1 refl) c.self.invariant)
     (both_ok c.take_look.result _ _ c.take_look.ensures.slot c.take_look.ensures.turn)
     (both_err c.take_look.result _ _ c.take_look.ensures.err c.take_look.ensures.stays)
 
@@ -37,10 +37,10 @@ pub returns-clause-kept : goal.returns-clause-kept
 returns-clause-kept c =
     let old : UnderWay = record { calls = c.self.inside.messages; slots = c.self.inside.slots; turns = c.self.inside.turns.items } in
     let new : UnderWay = record { calls = c.self.inside.messages; slots = c.take_look.new.slots; turns = set c.self.inside.turns.items (c.args.worker - 1) c.take_look.new.turn } in
-    let working : turn_of_worker old c.args.worker ≡ Some (Working c.seq_at-seq.result) = ap (λ (k : UnderWay). turn_of_worker k c.args.worker) c.self.view_is ∙ c.seq_at-seq.ensures in
+    let working : turn_of_worker old c.args.worker ≡ Some (Working c.drawing_at-drawing.result) = ap (λ (k : UnderWay). turn_of_worker k c.args.worker) c.self.view_is ∙ c.drawing_at-drawing.ensures in
     on_ok c.take_look.result _ _
-    (λ both seq part name asked i st alive kept.
-    looked_follows old new c.args.worker c.seq_at-seq.result c.take_look.new.turn working c.self.invariant refl refl (seen_text c.args.seen) both.0 both.1 seq part name
+    (λ both drawing part name asked i st alive kept.
+    looked_follows old new c.args.worker c.drawing_at-drawing.result c.take_look.new.turn working c.self.invariant refl refl (seen_text c.args.seen) both.0 both.1 drawing part name
     (ap (λ (k : UnderWay). task_of k c.args.worker) c.self.view_is ∙ asked) i st alive (subst (λ (k : UnderWay). RepresentsMessages i st alive k) (sym c.self.view_is) kept))
     (both_ok c.take_look.result _ _ c.take_look.ensures.slot c.take_look.ensures.turn)
 
@@ -48,7 +48,7 @@ pub returns-clause-err : goal.returns-clause-err
 returns-clause-err c =
     let old : UnderWay = record { calls = c.self.inside.messages; slots = c.self.inside.slots; turns = c.self.inside.turns.items } in
     let new : UnderWay = record { calls = c.self.inside.messages; slots = c.take_look.new.slots; turns = set c.self.inside.turns.items (c.args.worker - 1) c.take_look.new.turn } in
-    let working : turn_of_worker old c.args.worker ≡ Some (Working c.seq_at-seq.result) = ap (λ (k : UnderWay). turn_of_worker k c.args.worker) c.self.view_is ∙ c.seq_at-seq.ensures in
+    let working : turn_of_worker old c.args.worker ≡ Some (Working c.drawing_at-drawing.result) = ap (λ (k : UnderWay). turn_of_worker k c.args.worker) c.self.view_is ∙ c.drawing_at-drawing.ensures in
     on_err c.take_look.result _ _
-    (λ both. subst (λ (k : UnderWay). SameWorkersState k new) c.self.view_is (stands_by old new refl both.0 (put_again old new c.args.worker (Working c.seq_at-seq.result) c.index_mut-turn.result.now c.take_look.new.turn working c.index_mut-turn.ensures.value both.1 refl)))
+    (λ both. subst (λ (k : UnderWay). SameWorkersState k new) c.self.view_is (stands_by old new refl both.0 (put_again old new c.args.worker (Working c.drawing_at-drawing.result) c.index_mut-turn.result.now c.take_look.new.turn working c.index_mut-turn.ensures.value both.1 refl)))
     (both_err c.take_look.result _ _ c.take_look.ensures.err c.take_look.ensures.stays)

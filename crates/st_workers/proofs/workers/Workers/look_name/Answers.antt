@@ -14,8 +14,8 @@ use Rattle.st_workers.proofs.workers.Workers.look_name.Goals as goal
 abbrev asked : goal.After-next_name-arg-1 → UnderWay
 asked c = record { calls = c.self.inside.messages; slots = c.self.inside.slots; turns = c.self.inside.turns.items }
 
-slot : (c : goal.After-next_name-arg-1) → IsSome (slot_at (asked c).slots c.seq_at-seq.result) × IfSome (slot_at (asked c).slots c.seq_at-seq.result) (λ slot. IsLookNext (slot_progress slot))
-slot c = look_slot (asked c) c.args.worker c.seq_at-seq.result c.self.invariant (ap (λ (k : UnderWay). turn_of_worker k c.args.worker) c.self.view_is ∙ c.seq_at-seq.ensures)
+slot : (c : goal.After-next_name-arg-1) → IsSome (slot_at (asked c).slots c.drawing_at-drawing.result) × IfSome (slot_at (asked c).slots c.drawing_at-drawing.result) (λ slot. IsLookNext (slot_progress slot))
+slot c = look_slot (asked c) c.args.worker c.drawing_at-drawing.result c.self.invariant (ap (λ (k : UnderWay). turn_of_worker k c.args.worker) c.self.view_is ∙ c.drawing_at-drawing.ensures)
     (subst (λ (k : UnderWay). IsLook (task_of k c.args.worker)) (sym c.self.view_is) c.requires)
 
 pub next_name-requires-clause-slot : goal.next_name-requires-clause-slot
@@ -44,7 +44,7 @@ returns-clause-task c = ap (λ (k : UnderWay). task_of k c.args.worker) (same c 
 
 pub returns-clause-law : goal.returns-clause-law
 returns-clause-law c =
-    if_ok c.next_name.result (λ (name : Components). IfSome (slot_at (old c).slots c.seq_at-seq.result) (λ slot. slot_progress slot ≡ Look (part_next (slot_progress slot)) name)) _
-    (λ name found i st seq part kept asked.
-    name_entry (old c) c.args.worker c.seq_at-seq.result (ap (λ (k : UnderWay). turn_of_worker k c.args.worker) c.self.view_is ∙ c.seq_at-seq.ensures) c.self.invariant name found i st seq part
+    if_ok c.next_name.result (λ (name : Components). IfSome (slot_at (old c).slots c.drawing_at-drawing.result) (λ slot. slot_progress slot ≡ Look (part_next (slot_progress slot)) name)) _
+    (λ name found i st drawing part kept asked.
+    name_entry (old c) c.args.worker c.drawing_at-drawing.result (ap (λ (k : UnderWay). turn_of_worker k c.args.worker) c.self.view_is ∙ c.drawing_at-drawing.ensures) c.self.invariant name found i st drawing part
     (subst (λ (k : UnderWay). RepresentsMessages i st (is_live st) k) (sym c.self.view_is) kept) (ap (λ (k : UnderWay). task_of k c.args.worker) c.self.view_is ∙ asked)) c.next_name.ensures.name

@@ -8,5 +8,5 @@ use Rattle.st_workers.proofs.workers.Workers.state.Goals as goal
 
 pub returns-clause-law : goal.returns-clause-law
 returns-clause-law c = λ i st kept.
-    subst (λ (o : Option MsgState). IsMessageStateOf i st c.args.seq o)
-    (sym (c.state.ensures.state ∙ ap (λ (k : UnderWay). message_state k.calls c.args.seq) c.self.view_is)) (has_come_to i st c.args.self.now kept c.args.seq)
+    subst (λ (o : Option MsgState). IsMessageStateOf i st c.args.drawing o)
+    (sym (c.state.ensures.state ∙ ap (λ (k : UnderWay). message_state k.calls c.args.drawing) c.self.view_is)) (has_come_to i st c.args.self.now kept c.args.drawing)

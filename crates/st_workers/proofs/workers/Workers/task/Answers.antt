@@ -35,37 +35,37 @@ module _ (turns : List Turn) (now kept : UnderWay) (view : now ≡ kept) (whole 
 abbrev inside : goal.After-row_known-1 → UnderWay
 inside c = record { calls = c.self.inside.messages; slots = c.self.inside.slots; turns = c.self.inside.turns.items }
 
-working : (c : goal.After-row_known-1) → turn_of_worker (inside c) c.args.worker ≡ Some (Working c.in-Working.seq)
-working c = here (inside c).turns (inside c) c.args.self.now c.self.view_is c.self.invariant refl c.args.worker c.requires.0 c.requires.1 (Working c.in-Working.seq) c.index.result.now c.index.ensures c.in-Working.is
+working : (c : goal.After-row_known-1) → turn_of_worker (inside c) c.args.worker ≡ Some (Working c.in-Working.drawing)
+working c = here (inside c).turns (inside c) c.args.self.now c.self.view_is c.self.invariant refl c.args.worker c.requires.0 c.requires.1 (Working c.in-Working.drawing) c.index.result.now c.index.ensures c.in-Working.is
 
 pub slot-slot-requires : goal.slot-slot-requires
-slot-slot-requires c = subst IsSome (sym (working_slot (inside c) c.self.invariant c.args.worker c.in-Working.seq (working c)).1) refl
+slot-slot-requires c = subst IsSome (sym (working_slot (inside c) c.self.invariant c.args.worker c.in-Working.drawing (working c)).1) refl
 
 abbrev kept : goal.After-task_at → UnderWay
 kept c = record { calls = c.self.inside.messages; slots = c.self.inside.slots; turns = c.self.inside.turns.items }
 
-slot : (c : goal.After-task_at) → (slot : Slot) × (slot_at (kept c).slots c.in-Working.seq ≡ Some slot)
-slot c = working_slot (kept c) c.self.invariant c.args.worker c.in-Working.seq
-    (here (kept c).turns (kept c) c.args.self.now c.self.view_is c.self.invariant refl c.args.worker c.requires.0 c.requires.1 (Working c.in-Working.seq) c.index.result.now c.index.ensures c.in-Working.is)
+slot : (c : goal.After-task_at) → (slot : Slot) × (slot_at (kept c).slots c.in-Working.drawing ≡ Some slot)
+slot c = working_slot (kept c) c.self.invariant c.args.worker c.in-Working.drawing
+    (here (kept c).turns (kept c) c.args.self.now c.self.view_is c.self.invariant refl c.args.worker c.requires.0 c.requires.1 (Working c.in-Working.drawing) c.index.result.now c.index.ensures c.in-Working.is)
 
 read : (c : goal.After-task_at) → c.slot-slot.result.now ≡ (slot c).0
 read c = same_Some c.slot-slot.result.now (slot c).0 (sym c.slot-slot.ensures ∙ (slot c).1)
 
-task_is : (c : goal.After-task_at) → c.task_at.result ≡ task_at c.in-Working.seq (slot c).0.head.pid (slot_progress (slot c).0)
+task_is : (c : goal.After-task_at) → c.task_at.result ≡ task_at c.in-Working.drawing (slot c).0.head.pid (slot_progress (slot c).0)
 task_is c =
     c.task_at.ensures.task (slot_progress (slot c).0) (c.next.ensures.value ∙ ap (λ (s : Slot). next_need (slot_progress s)) (read c))
-    ∙ ap (λ (h : Head). task_at c.in-Working.seq h.pid (slot_progress (slot c).0)) (c.head.ensures ∙ ap (λ (s : Slot). s.head) (read c))
+    ∙ ap (λ (h : Head). task_at c.in-Working.drawing h.pid (slot_progress (slot c).0)) (c.head.ensures ∙ ap (λ (s : Slot). s.head) (read c))
 
 pub returns-in-Working-clause-task : goal.returns-in-Working-clause-task
 returns-in-Working-clause-task c =
-    task_here (kept c).turns (kept c) c.args.self.now c.self.view_is c.self.invariant refl c.args.worker c.requires.0 c.requires.1 (Working c.in-Working.seq) c.index.result.now c.index.ensures c.in-Working.is c.task_at.result
-    (ap (task_of_slot c.in-Working.seq) (slot c).1 ∙ sym (task_is c))
+    task_here (kept c).turns (kept c) c.args.self.now c.self.view_is c.self.invariant refl c.args.worker c.requires.0 c.requires.1 (Working c.in-Working.drawing) c.index.result.now c.index.ensures c.in-Working.is c.task_at.result
+    (ap (task_of_slot c.in-Working.drawing) (slot c).1 ∙ sym (task_is c))
 
 pub returns-in-Working-clause-law : goal.returns-in-Working-clause-law
 returns-in-Working-clause-law c =
-    law_here (kept c).turns (kept c) c.args.self.now c.self.view_is c.self.invariant refl c.args.worker c.requires.0 c.requires.1 (Working c.in-Working.seq) c.index.result.now c.index.ensures c.in-Working.is c.task_at.result
+    law_here (kept c).turns (kept c) c.args.self.now c.self.view_is c.self.invariant refl c.args.worker c.requires.0 c.requires.1 (Working c.in-Working.drawing) c.index.result.now c.index.ensures c.in-Working.is c.task_at.result
     (λ i st is there. subst (λ (t : Task). IsTask i st (kept c) c.args.worker t) (sym (task_is c))
-    (working_is i st (kept c) c.args.worker is there c.in-Working.seq (slot c).0 (here (kept c).turns (kept c) c.args.self.now c.self.view_is c.self.invariant refl c.args.worker c.requires.0 c.requires.1 (Working c.in-Working.seq) c.index.result.now c.index.ensures c.in-Working.is) (slot c).1))
+    (working_is i st (kept c) c.args.worker is there c.in-Working.drawing (slot c).0 (here (kept c).turns (kept c) c.args.self.now c.self.view_is c.self.invariant refl c.args.worker c.requires.0 c.requires.1 (Working c.in-Working.drawing) c.index.result.now c.index.ensures c.in-Working.is) (slot c).1))
 
 abbrev waits : goal.In-Some → UnderWay
 waits c = record { calls = c.self.inside.messages; slots = c.self.inside.slots; turns = c.self.inside.turns.items }
@@ -103,20 +103,20 @@ answers c = record { calls = c.self.inside.messages; slots = c.self.inside.slots
 
 pub returns-in-Ready-clause-task : goal.returns-in-Ready-clause-task
 returns-in-Ready-clause-task c =
-    task_here (answers c).turns (answers c) c.args.self.now c.self.view_is c.self.invariant refl c.args.worker c.requires.0 c.requires.1 (Ready c.in-Ready.field-0) c.index.result.now c.index.ensures c.in-Ready.is task.Answer refl
+    task_here (answers c).turns (answers c) c.args.self.now c.self.view_is c.self.invariant refl c.args.worker c.requires.0 c.requires.1 (Ready c.in-Ready.field-0 c.in-Ready.field-1) c.index.result.now c.index.ensures c.in-Ready.is task.Answer refl
 
 pub returns-in-Ready-clause-law : goal.returns-in-Ready-clause-law
 returns-in-Ready-clause-law c =
-    law_here (answers c).turns (answers c) c.args.self.now c.self.view_is c.self.invariant refl c.args.worker c.requires.0 c.requires.1 (Ready c.in-Ready.field-0) c.index.result.now c.index.ensures c.in-Ready.is task.Answer
+    law_here (answers c).turns (answers c) c.args.self.now c.self.view_is c.self.invariant refl c.args.worker c.requires.0 c.requires.1 (Ready c.in-Ready.field-0 c.in-Ready.field-1) c.index.result.now c.index.ensures c.in-Ready.is task.Answer
     (λ i st is there.
-    let ready : turn_of_worker (answers c) c.args.worker ≡ Some (Ready c.in-Ready.field-0) =
-    here (answers c).turns (answers c) c.args.self.now c.self.view_is c.self.invariant refl c.args.worker c.requires.0 c.requires.1 (Ready c.in-Ready.field-0) c.index.result.now c.index.ensures c.in-Ready.is in
-    (c.in-Ready.field-0, ready, ready_is i st (answers c) c.args.worker is there c.in-Ready.field-0 ready))
+    let ready : turn_of_worker (answers c) c.args.worker ≡ Some (Ready c.in-Ready.field-0 c.in-Ready.field-1) =
+    here (answers c).turns (answers c) c.args.self.now c.self.view_is c.self.invariant refl c.args.worker c.requires.0 c.requires.1 (Ready c.in-Ready.field-0 c.in-Ready.field-1) c.index.result.now c.index.ensures c.in-Ready.is in
+    (c.in-Ready.field-0, c.in-Ready.field-1, ready, ready_is i st (answers c) c.args.worker is there c.in-Ready.field-0 c.in-Ready.field-1 ready))
 
 pub returns-in-Working-clause-there : goal.returns-in-Working-clause-there
 returns-in-Working-clause-there c =
-    let claimed = working_claimed (kept c) c.self.invariant c.args.worker c.in-Working.seq
-    (here (kept c).turns (kept c) c.args.self.now c.self.view_is c.self.invariant refl c.args.worker c.requires.0 c.requires.1 (Working c.in-Working.seq) c.index.result.now c.index.ensures c.in-Working.is) in
+    let claimed = working_claimed (kept c) c.self.invariant c.args.worker c.in-Working.drawing
+    (here (kept c).turns (kept c) c.args.self.now c.self.view_is c.self.invariant refl c.args.worker c.requires.0 c.requires.1 (Working c.in-Working.drawing) c.index.result.now c.index.ensures c.in-Working.is) in
     subst (λ (k : UnderWay). CanServe k.calls c.task_at.result) c.self.view_is (
-    c.task_at.ensures.there (kept c).calls (state_live (kept c).calls c.in-Working.seq (Claimed claimed.0) claimed.1) c.next.ensures.inside
+    c.task_at.ensures.there (kept c).calls (state_live (kept c).calls c.in-Working.drawing (Claimed claimed.0) claimed.1) c.next.ensures.inside
     )

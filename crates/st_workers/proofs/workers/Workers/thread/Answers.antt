@@ -12,4 +12,4 @@ if_held kept q None is = tt
 if_held kept q (Some t) is = λ i st here. is_held_by i st kept here q t (sym is)
 
 pub returns-clause-law : goal.returns-clause-law
-returns-clause-law c = if_held c.args.self.now c.args.seq c.thread.result (c.thread.ensures ∙ ap (λ (k : UnderWay). thread_of_number k.calls c.args.seq) c.self.view_is)
+returns-clause-law c = if_held c.args.self.now c.args.drawing c.thread.result (c.thread.ensures ∙ ap (λ (k : UnderWay). thread_of_number k.calls c.args.drawing) c.self.view_is)

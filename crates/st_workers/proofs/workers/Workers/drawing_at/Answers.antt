@@ -5,11 +5,11 @@ use Rattle.st_workers.specs.declared.turn.Turn.TheVariants.{Working}
 use Rattle.std.proofs.Common.{subst}
 use Rattle.st_workers.proofs.Tasks.{busy_works}
 use Rattle.st_workers.proofs.Turns.{number_within, read_is}
-use Rattle.st_workers.proofs.workers.Workers.seq_at.Goals as goal
+use Rattle.st_workers.proofs.workers.Workers.drawing_at.Goals as goal
 
 -- the number that the worker is at
 module _ (kept then : UnderWay) (same : kept ≡ then) (worker : ℕ) (busy : IsBusy (task_of then worker)) where
-  at : (seq : ℕ) × (turn_of_worker kept worker ≡ Some (Working seq))
+  at : (drawing : ℕ) × (turn_of_worker kept worker ≡ Some (Working drawing))
   at = busy_works kept (turn_of_worker kept worker) (subst (λ (k : UnderWay). IsBusy (task_of k worker)) (sym same) busy)
 
   within : (1 ≤ worker) × (worker ≤ length kept.turns)

@@ -5,7 +5,7 @@ use Rattle.st_trace.specs.declared.entry.Entry.{Entry}
 use Rattle.st_kernel.specs.Kernel.{IsNextEntry, IsPlayed, next_enabled, state_in}
 use Rattle.st_kernel.proofs.Plays.{noted_on}
 use Rattle.st_kernel.proofs.Rests.{GoesOn, goes_on, made_on, next_adds, rest_over, settled_at}
-use Rattle.st_kernel.proofs.kernel.Kernel.rest.Goals as goal
+use Rattle.st_kernel.proofs.kernel.Kernel.rest_through.Goals as goal
 
 -- a choice that was made adds an entry
 pub unreachable-requires : goal.unreachable-requires

@@ -1,7 +1,7 @@
 use Rattle.std.specs.Prelude.{◌≡◌, ◌-◌, length}
 use Rattle.st_law.specs.Schedules.{most_steps}
 use Rattle.st_kernel.specs.Kernel.{rested, trace_of, Continues}
-use Rattle.st_kernel.proofs.kernel.Kernel.rest.Given as goal
+use Rattle.st_kernel.proofs.kernel.Kernel.rest_through.Given as goal
 
 abbrev pub invariant-loop-added : goal.invariant-loop-added
 invariant-loop-added g l = record {
