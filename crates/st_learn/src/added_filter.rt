@@ -1,7 +1,7 @@
 ghost use Rattle.std.specs.Prelude.{◌≡◌};
 ghost use Rattle.st_law.specs.Sessions.{is_kept_for};
 
-use st_base::Text;
+use st_base::{Shared, Text, is_same_text};
 use st_calls::Rule;
 use st_filter::Filter;
 use std::marker::Model;
@@ -9,7 +9,7 @@ use std::marker::Model;
 /// A filter of a session, with its policy and its rule.
 #[derive(Debug, Drop)]
 pub struct AddedFilter {
-    policy: Text,
+    policy: Shared<Text>,
     rule: Rule,
     filter: Filter,
 }
@@ -28,7 +28,7 @@ impl Model for AddedFilter {
 
 impl AddedFilter {
     /// A filter for this policy and rule.
-    pub fn new(policy: Text, rule: Rule, filter: Filter) -> Self
+    pub fn new(policy: Shared<Text>, rule: Rule, filter: Filter) -> Self
         ensures { result ≡ record { policy = policy; rule = rule; filter = filter } }
     {
         AddedFilter {
@@ -42,7 +42,7 @@ impl AddedFilter {
     pub fn policy(&self) -> &[u8]
         ensures { result.now ≡ self.now.policy }
     {
-        self.policy.bytes()
+        self.policy.get().bytes()
     }
 
     /// Its rule.
@@ -56,7 +56,7 @@ impl AddedFilter {
     pub fn is_for(&self, policy: &[u8], rule: Rule) -> bool
         ensures { result ≡ is_kept_for policy.now rule self.now }
     {
-        self.rule == rule && self.policy.bytes() == policy
+        self.rule == rule && is_same_text(self.policy.get().bytes(), policy)
     }
 
     /// The filter.

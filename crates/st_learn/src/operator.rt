@@ -157,7 +157,7 @@ impl<'a> Operator<'a> {
         let rule = copies.rule;
         let row = answering.own.make_row(alloc, policy)?;
         let answer = fast_answer(&filter);
-        let before = self.session.add(alloc, policy, rule, filter)?;
+        let before = self.session.add(alloc, &copies.policy, rule, filter)?;
         answering.own.appended(row, rule, answer);
         Ok(answering.compiled.filter_count(policy, rule) + before + 1)
     }

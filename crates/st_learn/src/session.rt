@@ -4,7 +4,7 @@ ghost use Rattle.st_learn.specs.Deciding.{asks_first, decides, first_at, lesser,
 ghost use Rattle.st_learn.specs.Sessions.{added, is_first_at, places_asking, places_of, session_with};
 
 use crate::added_filter::AddedFilter;
-use st_base::Text;
+use st_base::{Shared, Text};
 use st_calls::{Rule, Snapshot};
 use st_compile::{Places, asked_text};
 use st_filter::{Filter, holds};
@@ -74,7 +74,7 @@ impl Session {
     pub fn add(
         &mut self,
         alloc: Global,
-        policy: &[u8],
+        policy: &Shared<Text>,
         rule: Rule,
         filter: Filter,
     ) -> Result<u32, AllocError>
@@ -87,9 +87,10 @@ impl Session {
         if place >= MOST_KEPT {
             return Err(AllocError);
         }
-        let binary = Text::of(alloc, policy)?;
+        let binary = policy.share()?;
+        let bytes = policy.get().bytes();
         let text = asked_text(filter.expr());
-        let row = self.policies.reserve(alloc, policy)?;
+        let row = self.policies.reserve(alloc, bytes)?;
         let number = self.count_at(self.policies.at(row), rule) as u32;
         self.kept.reserve(1)?;
         self.numbers.reserve(1)?;

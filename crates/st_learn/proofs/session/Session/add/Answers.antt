@@ -18,8 +18,11 @@ place_is c = c.len-place.ensures ∙ c.self.inside.kept.ok.0
 items_are : (c : After-push_reserved-2) → c.push_reserved-2.new.self.items ≡ c.self.inside.kept.items ++ c.new.result ∷ []
 items_are c = c.push_reserved-2.ensures.items ∙ ap (λ (items : List SessionFilter). items ++ c.new.result ∷ []) c.reserve-2.ensures.items
 
-policy_is : (c : After-push_reserved-2) → c.args.policy.now ≡ c.new.result.policy
-policy_is c = sym c.in_ok-binary.ensures ∙ sym (ap (λ (kept : SessionFilter). kept.policy) c.new.ensures)
+bytes_are : (c : After-push_reserved-2) → c.bytes-bytes.result.now ≡ c.args.policy.now
+bytes_are c = c.bytes-bytes.ensures ∙ c.get.ensures
+
+policy_is : (c : After-push_reserved-2) → c.bytes-bytes.result.now ≡ c.new.result.policy
+policy_is c = bytes_are c ∙ sym c.in_ok-binary.ensures ∙ sym (ap (λ (kept : SessionFilter). kept.policy) c.new.ensures)
 
 rule_is : (c : After-push_reserved-2) → c.args.rule ≡ c.new.result.rule
 rule_is c = sym (ap (λ (kept : SessionFilter). kept.rule) c.new.ensures)
@@ -27,11 +30,11 @@ rule_is c = sym (ap (λ (kept : SessionFilter). kept.rule) c.new.ensures)
 text_is : (c : After-push_reserved-2) → c.asked_text-text.result.now ≡ asked_text c.new.result.filter.formula
 text_is c = c.asked_text-text.ensures ∙ ap asked_text c.expr.ensures ∙ sym (ap (λ (kept : SessionFilter). asked_text kept.filter.formula) c.new.ensures)
 
-places_are : (c : goal.After-at) → c.at.result.now ≡ places_of c.self.inside.kept.items c.args.policy.now
-places_are c = c.at.ensures c.args.policy.now c.in_ok-row.ensures.room.is ∙ c.reserve.ensures.kept.places c.args.policy.now ∙ c.self.invariant.policies_are c.args.policy.now
+places_are : (c : goal.After-at) → c.at.result.now ≡ places_of c.self.inside.kept.items c.bytes-bytes.result.now
+places_are c = c.at.ensures c.bytes-bytes.result.now c.in_ok-row.ensures.room.is ∙ c.reserve.ensures.kept.places c.bytes-bytes.result.now ∙ c.self.invariant.policies_are c.bytes-bytes.result.now
 
 pub count_at-number-requires : goal.count_at-number-requires
-count_at-number-requires c = (c.args.policy.now, places_are c)
+count_at-number-requires c = (c.bytes-bytes.result.now, places_are c)
 
 pub invariant_of-self-2 : goal.invariant_of-self-2
 invariant_of-self-2 c = record {
@@ -44,11 +47,11 @@ invariant_of-self-2 c = record {
 
 number_is : (c : After-push_reserved-2) → c.count_at-number.result ≡ count_for c.self.inside.kept.items c.new.result
 number_is c =
-    c.count_at-number.ensures.is c.args.policy.now (c.at.ensures c.args.policy.now c.in_ok-row.ensures.room.is ∙ c.reserve.ensures.kept.places c.args.policy.now ∙ c.self.invariant.policies_are c.args.policy.now)
+    c.count_at-number.ensures.is c.bytes-bytes.result.now (c.at.ensures c.bytes-bytes.result.now c.in_ok-row.ensures.room.is ∙ c.reserve.ensures.kept.places c.bytes-bytes.result.now ∙ c.self.invariant.policies_are c.bytes-bytes.result.now)
     ∙ (λ k. length (session_filters c.self.inside.kept.items (policy_is c k) (rule_is c k)))
 
 pub push_at-requires : goal.push_at-requires
-push_at-requires c = (c.args.policy.now, c.in_ok-row.ensures.room)
+push_at-requires c = (c.bytes-bytes.result.now, c.in_ok-row.ensures.room)
 
 pub push_at-requires-2 : goal.push_at-requires-2
 push_at-requires-2 c = (c.asked_text-text.result.now, c.in_ok-text_row.ensures.room)
@@ -58,7 +61,7 @@ invariant_of-self-3 c = record {
   policies_are = λ wanted.
       added_places (λ (kept : SessionFilter). kept.policy) c.reserve.new.self c.push_at.new.self c.self.inside.kept.items c.new.result c.len-place.result
       (λ other. c.reserve.ensures.kept.places other ∙ c.self.invariant.policies_are other)
-      (subst (λ policy. GainsPlace c.reserve.new.self policy c.len-place.result c.push_at.new.self) (policy_is c) (c.push_at.ensures c.args.policy.now c.in_ok-row.ensures.room)) (place_is c) wanted
+      (subst (λ policy. GainsPlace c.reserve.new.self policy c.len-place.result c.push_at.new.self) (policy_is c) (c.push_at.ensures c.bytes-bytes.result.now c.in_ok-row.ensures.room)) (place_is c) wanted
       ∙ ap (λ (session : List SessionFilter). places_of session wanted) (sym (items_are c));
   texts_are = λ wanted.
       added_places (λ (kept : SessionFilter). asked_text kept.filter.formula) c.reserve-4.new.self c.push_at-2.new.self c.self.inside.kept.items c.new.result c.len-place.result
@@ -86,5 +89,6 @@ returns-clause-few c = c.count_at-number.ensures.few
 
 pub returns-clause-number : goal.returns-clause-number
 returns-clause-number c =
-    c.count_at-number.ensures.is c.args.policy.now (c.at.ensures c.args.policy.now c.in_ok-row.ensures.room.is ∙ c.reserve.ensures.kept.places c.args.policy.now ∙ c.self.invariant.policies_are c.args.policy.now)
+    c.count_at-number.ensures.is c.bytes-bytes.result.now (c.at.ensures c.bytes-bytes.result.now c.in_ok-row.ensures.room.is ∙ c.reserve.ensures.kept.places c.bytes-bytes.result.now ∙ c.self.invariant.policies_are c.bytes-bytes.result.now)
+    ∙ ap (λ (policy : List ℕ). length (session_filters c.self.inside.kept.items policy c.args.rule)) (c.bytes-bytes.ensures ∙ c.get.ensures)
     ∙ ap (λ (session : Session). length (session_filters session.filters c.args.policy.now c.args.rule)) c.self.view_is
