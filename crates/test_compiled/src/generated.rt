@@ -59,6 +59,19 @@ impl CallCounts {
     }
 }
 
+// Judges calls by a set of policies, and compares the kernel's own answers under them.
+fn judge_set(
+    random: &mut Random,
+    alloc: Global,
+    calls: &mut CallCounts,
+    answers: &mut AnswerCounts,
+) -> Result<(), AllocError> {
+    let rule = random.rule();
+    let set = policies_near(random, alloc, rule)?;
+    calls.judge_calls(random, alloc, &set, rule)?;
+    compare_answers(random, alloc, &set, rule, answers)
+}
+
 // Appends lines, each of which says how many there are of something.
 fn append_counts(out: &mut Text, counts: &[(u64, &[u8])]) -> Result<(), AllocError> {
     for (count, what) in counts {
@@ -69,17 +82,13 @@ fn append_counts(out: &mut Text, counts: &[(u64, &[u8])]) -> Result<(), AllocErr
     Ok(())
 }
 
-/// Makes so many sets of policies with calls under each, and writes what the policies say. Whether the compiled ones always say the same.
-pub fn judge_generated(alloc: Global, sets: u64, out: &mut Text) -> Result<bool, AllocError> {
-    let mut random = Random::new();
-    let mut answers = AnswerCounts::new();
-    let mut calls = CallCounts::new();
-    for _ in 0..sets {
-        let rule = random.rule();
-        let set = policies_near(&mut random, alloc, rule)?;
-        calls.judge_calls(&mut random, alloc, &set, rule)?;
-        compare_answers(&mut random, alloc, &set, rule, &mut answers)?;
-    }
+// Appends what the policies say.
+fn append_result(
+    sets: u64,
+    calls: &CallCounts,
+    answers: &AnswerCounts,
+    out: &mut Text,
+) -> Result<(), AllocError> {
     append_counts(
         out,
         &[
@@ -94,6 +103,17 @@ pub fn judge_generated(alloc: Global, sets: u64, out: &mut Text) -> Result<bool,
             (answers.missing, b" missing"),
             (answers.different, b" different in the table"),
         ],
-    )?;
+    )
+}
+
+/// Makes so many sets of policies with calls under each, and writes what the policies say. Whether the compiled ones always say the same.
+pub fn judge_generated(alloc: Global, sets: u64, out: &mut Text) -> Result<bool, AllocError> {
+    let mut random = Random::new();
+    let mut answers = AnswerCounts::new();
+    let mut calls = CallCounts::new();
+    for _ in 0..sets {
+        judge_set(&mut random, alloc, &mut calls, &mut answers)?;
+    }
+    append_result(sets, &calls, &answers, out)?;
     Ok(calls.different == 0 && answers.different == 0)
 }

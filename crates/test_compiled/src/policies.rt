@@ -48,6 +48,17 @@ fn add_policy(
     Ok(())
 }
 
+// Adds two policies, most of whose filters are for one rule.
+fn add_policies(
+    random: &mut Random,
+    alloc: Global,
+    set: &mut PolicySet,
+    rule: Rule,
+) -> Result<(), AllocError> {
+    add_policy(random, alloc, set, BINARIES[0], rule)?;
+    add_policy(random, alloc, set, BINARIES[1], rule)
+}
+
 /// Two policies, most of whose filters are for one rule.
 pub fn policies_near(
     random: &mut Random,
@@ -55,8 +66,7 @@ pub fn policies_near(
     rule: Rule,
 ) -> Result<PolicySet, AllocError> {
     let mut set = PolicySet::new(alloc);
-    add_policy(random, alloc, &mut set, BINARIES[0], rule)?;
-    add_policy(random, alloc, &mut set, BINARIES[1], rule)?;
+    add_policies(random, alloc, &mut set, rule)?;
     Ok(set)
 }
 

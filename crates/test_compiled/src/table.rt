@@ -14,31 +14,45 @@ use std::alloc::{AllocError, Global};
 // The longest text of policies that is read.
 const MOST_BYTES: usize = 1_048_576;
 
-// A name with its id.
-fn named(alloc: Global, name: &[u8], id: u32) -> Result<NamedId, AllocError> {
-    Ok(NamedId {
-        name: Text::of(alloc, name)?,
-        id,
-    })
+// Adds a user with this name and this id.
+fn add_user(
+    alloc: Global,
+    name: &[u8],
+    id: u32,
+    users: &mut Sequence<NamedId>,
+) -> Result<(), AllocError> {
+    let name = Text::of(alloc, name)?;
+    users.push(NamedId { name, id })
+}
+
+// Adds the users that the policies name.
+fn add_users(alloc: Global, users: &mut Sequence<NamedId>) -> Result<(), AllocError> {
+    add_user(alloc, b"root", 0, users)?;
+    add_user(alloc, b"www", 67, users)
 }
 
 // The users that the policies name, with leave to grant ids.
 fn environment(alloc: Global) -> Result<Env, AllocError> {
     let mut env = Env::new(alloc);
-    env.users.push(named(alloc, b"root", 0)?)?;
-    env.users.push(named(alloc, b"www", 67)?)?;
+    add_users(alloc, &mut env.users)?;
     env.elevate = true;
     Ok(env)
+}
+
+// Reads policies into a set. Whether they aren't refused.
+fn are_read(alloc: Global, text: &[u8], set: &mut PolicySet) -> Result<bool, AllocError> {
+    let env = environment(alloc)?;
+    Ok(text.len() <= MOST_BYTES && read_policies(alloc, text, &env, set).is_ok())
 }
 
 /// The policies of a text; nothing if it is refused.
 pub fn read_set(alloc: Global, text: &[u8]) -> Result<Option<PolicySet>, AllocError> {
     let mut set = PolicySet::new(alloc);
-    let env = environment(alloc)?;
-    if text.len() > MOST_BYTES || read_policies(alloc, text, &env, &mut set).is_err() {
-        return Ok(None);
+    if are_read(alloc, text, &mut set)? {
+        Ok(Some(set))
+    } else {
+        Ok(None)
     }
-    Ok(Some(set))
 }
 
 // The words of some bytes, with blanks between them.
@@ -94,6 +108,17 @@ struct Table<'a> {
 }
 
 impl<'a> Table<'a> {
+    // The table before its first line.
+    fn new(alloc: Global, set: &'a PolicySet) -> Result<Self, AllocError> {
+        Ok(Table {
+            alloc,
+            both: Both::new(alloc, set)?,
+            calls: 0,
+            right: 0,
+            written: Text::new(alloc),
+        })
+    }
+
     // Writes a verdict after a word. Whether it is the one that is stated.
     fn write_verdict(
         &mut self,
@@ -143,6 +168,16 @@ impl<'a> Table<'a> {
         }
         Ok(())
     }
+
+    // Appends what was written, and how many calls are as stated. Whether all are.
+    fn append_result(&self, out: &mut Text) -> Result<bool, AllocError> {
+        out.append(self.written.bytes())?;
+        out.append_number(self.calls)?;
+        out.append(b" calls, ")?;
+        out.append_number(self.right)?;
+        out.append(b" of them as stated\n")?;
+        Ok(self.calls > 0 && self.right == self.calls)
+    }
 }
 
 /// Judges the calls of a table, and writes each line with both verdicts after it. Whether all are as stated.
@@ -152,18 +187,7 @@ pub fn judge_table(
     lines: &[u8],
     out: &mut Text,
 ) -> Result<bool, AllocError> {
-    let mut table = Table {
-        alloc,
-        both: Both::new(alloc, set)?,
-        calls: 0,
-        right: 0,
-        written: Text::new(alloc),
-    };
+    let mut table = Table::new(alloc, set)?;
     table.judge_lines(lines)?;
-    out.append(table.written.bytes())?;
-    out.append_number(table.calls)?;
-    out.append(b" calls, ")?;
-    out.append_number(table.right)?;
-    out.append(b" of them as stated\n")?;
-    Ok(table.calls > 0 && table.right == table.calls)
+    table.append_result(out)
 }
