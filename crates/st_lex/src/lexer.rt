@@ -19,7 +19,9 @@ fn is_blank(byte: u8) -> bool
 fn is_word_byte(byte: u8) -> bool
     ensures { result ≡ is_word_byte byte }
 {
-    byte.is_ascii_alphanumeric() || matches!(byte, b'_' | b'-' | b'.' | b'/' | b'+' | b'~' | b'%')
+    byte.is_ascii_lowercase()
+        || byte.is_ascii_alphanumeric()
+        || matches!(byte, b'_' | b'-' | b'.' | b'/' | b'+' | b'~' | b'%')
 }
 
 fn are_word_bytes(bytes: &[u8]) -> bool
@@ -207,6 +209,20 @@ fn front(first: u8, after: &[u8]) -> Front
     }
 }
 
+// The same. A blank, which is between most tokens, is known without a call.
+#[inline(always)]
+fn blank_or_front(first: u8, after: &[u8]) -> Front
+    requires { length after.now + 1 < 2 ^ 32 }
+    ensures is { result ≡ front_of (first ∷ after.now) }
+    ensures within { IsFrontWithin (length after.now + 1) result }
+{
+    if is_blank(first) {
+        Front::Gap(1)
+    } else {
+        front(first, after)
+    }
+}
+
 fn line_after(kind: TokenKind, line: u64) -> u64
     requires { line + 1 < 2 ^ 64 }
     ensures { result ≡ line_after kind line }
@@ -259,7 +275,7 @@ impl<'a> Lexer<'a> {
     {
         let mut at = self.at;
         while at < self.text.len() {
-            match front(self.text[at], &self.text[at + 1..]) {
+            match blank_or_front(self.text[at], &self.text[at + 1..]) {
                 Front::Gap(len) => at += len,
                 Front::Piece(kind, len) => {
                     let token = Token {
