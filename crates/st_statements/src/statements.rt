@@ -106,7 +106,8 @@ pub fn lines_of_tokens(
     requires { length text.now < 2 ^ 32 }
     ensures { IfOk result (λ lines. lines.items ≡ script_lines_from text.now false (rows tokens.now)) }
 {
-    let mut lines = Vec::new(alloc);
+    // A line usually has four tokens or more, with its newline.
+    let mut lines = Vec::with_capacity(alloc, tokens.len() / 4)?;
     let mut inside = false;
     let mut rest = tokens;
     while let Some((row, following)) = next_row(rest) {
