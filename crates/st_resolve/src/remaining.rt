@@ -31,7 +31,7 @@ impl Remaining {
     pub fn of(alloc: Global, text: &[u8]) -> Result<Self, AllocError>
         ensures { IfOk result (λ left. left ≡ components_of text.now) }
     {
-        let mut texts = Vec::new(alloc);
+        let mut texts = Vec::with_capacity(alloc, 1)?;
         let cursor = Cursor::of(alloc, text)?;
         if !cursor.is_empty() {
             texts.push(cursor)?;
