@@ -5,7 +5,7 @@ use Rattle.std.specs.List.{insert, remove}
 use Rattle.std.specs.List.Sorted.{IsBinarySearchResult, IsSearchInRange}
 use Rattle.std.specs.Ordering.{nat_cmp, ordering_index}
 use Rattle.std.proofs.lemmas.Bool.{cases_eq, cases_lt, eq-eqb, eqb-false, eqb-true, ltb-false, ltb-true, ne_eqb}
-use Rattle.std.proofs.lemmas.List.{take-append-drop}
+use Rattle.std.proofs.lemmas.List.{get_or_default, take-append-drop}
 use Rattle.std.proofs.lemmas.List.Edits.{get_or-insert_above, get_or-insert_at, get_or-insert_below, get_or-remove_above, get_or-remove_below, length-insert, length-remove}
 use Rattle.std.proofs.lemmas.List.Quantifiers.{all_pairs_remove}
 use Rattle.std.proofs.lemmas.Option.{same_Some, slice_get-get_or}
@@ -67,6 +67,12 @@ module _ (keys : List SlotKey) (ascending : AreAscending keys) (drawing i : ℕ)
       (λ k lt. differs (get_or keys k d) drawing (apart at k d (omega (arith, lt, at.within)) (λ e. let same : k ≡ i = e in omega (arith, same, lt))))
       (is_it (get_or keys i d) drawing (at.here d))
       )
+
+  -- a key at this index that has the number is found
+  pub found_among : (key : SlotKey) → i < length keys → key ≡ get_or keys i key → key.drawing ≡ drawing → key_at keys drawing ≡ Some key.key
+  found_among key within item is =
+      found_at (record { within = within; here = λ d. ap (λ (k : SlotKey). k.drawing) (get_or_default keys i d key within ∙ sym item) ∙ is }) key
+      ∙ ap (λ (k : SlotKey). Some k.key) (sym item)
 
   -- no key is found for a number that has no index
   pub none_at : IsGap keys drawing i → key_at keys drawing ≡ None

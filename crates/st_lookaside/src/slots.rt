@@ -132,6 +132,22 @@ fn gap_of(keys: &VecDeque<SlotKey>, drawing: Drawing) -> usize
     }
 }
 
+// The key of the slot of this drawing, if its index is the drawing less the first drawing.
+#[inline]
+fn guessed_key(keys: &VecDeque<SlotKey>, drawing: Drawing) -> Option<usize>
+    requires { AreAscending keys.now.items }
+    ensures { IfSome result (λ key. key_at keys.now.items drawing ≡ Some key) }
+{
+    let first = keys.front()?;
+    let place = drawing.checked_sub(first.drawing)? as usize;
+    let guessed = keys.get(place)?;
+    if guessed.drawing == drawing {
+        Some(guessed.key)
+    } else {
+        None
+    }
+}
+
 // The key of the slot of a drawing that has one.
 #[inline(never)]
 fn key_within(keys: &VecDeque<SlotKey>, drawing: Drawing) -> usize
@@ -139,8 +155,8 @@ fn key_within(keys: &VecDeque<SlotKey>, drawing: Drawing) -> usize
     requires some { IsSome (key_at keys.now.items drawing) }
     ensures { key_at keys.now.items drawing ≡ Some result }
 {
-    if let Some(place) = guess_of(keys, drawing) {
-        return keys[place].key;
+    if let Some(key) = guessed_key(keys, drawing) {
+        return key;
     }
     if let Some(place) = last_of(keys, drawing) {
         return keys[place].key;

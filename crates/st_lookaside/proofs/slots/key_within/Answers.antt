@@ -4,11 +4,8 @@ use Rattle.st_lookaside.specs.declared.slots.SlotKey.{SlotKey}
 use Rattle.st_lookaside.proofs.Keys.{found_at, none_at}
 use Rattle.st_lookaside.proofs.slots.key_within.Goals as goal
 
-pub returns-in-Some : goal.returns-in-Some
-returns-in-Some c = found_at c.args.keys.now.items c.requires.ascending c.args.drawing c.in-Some.place c.in-Some.ensures c.index.result.now ∙ ap (λ (key : SlotKey). Some key.key) (sym c.index.ensures)
-
 pub returns-in-Some-last_of : goal.returns-in-Some-last_of
-returns-in-Some-last_of c = found_at c.args.keys.now.items c.requires.ascending c.args.drawing c.in-Some-last_of.place c.in-Some-last_of.ensures c.index-in-Some-last_of.result.now ∙ ap (λ (key : SlotKey). Some key.key) (sym c.index-in-Some-last_of.ensures)
+returns-in-Some-last_of c = found_at c.args.keys.now.items c.requires.ascending c.args.drawing c.in-Some-last_of.place c.in-Some-last_of.ensures c.index.result.now ∙ ap (λ (key : SlotKey). Some key.key) (sym c.index.ensures)
 
 pub unreachable-requires : goal.unreachable-requires
 unreachable-requires c = true≢false (sym (subst IsSome (none_at c.args.keys.now.items c.requires.ascending c.args.drawing c.in_default-search_of.field-0 c.in_default-search_of.ensures.missing) c.requires.some))
