@@ -98,8 +98,9 @@ impl Slot {
         requires { IsShort head.cwd }
         ensures { IfOk result (λ slot. slot ≡ new_slot head) }
     {
-        let mut parts = Vec::new(alloc);
-        for spec in args_of(head.rule) {
+        let specs = args_of(head.rule);
+        let mut parts = Vec::with_capacity(alloc, specs.len())?;
+        for spec in specs {
             parts.push(Part::begin(alloc, &head, *spec)?)?;
         }
         Ok(Slot {

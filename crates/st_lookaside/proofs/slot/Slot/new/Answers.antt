@@ -18,12 +18,12 @@ loop-spec-preserved c =
     let i = c.loop-spec.spec-index in
     let old : List Part = c.loop-spec.parts.items in
     let part : Part = c.in_ok-begin.field-0 in
-    let within : i < length (args_of c.args.head.rule) = subst (λ (l : List ArgSpec). i < length l) c.args_of-spec-items.ensures c.loop-spec-test.true in
+    let within : i < length (args_of c.args.head.rule) = subst (λ (l : List ArgSpec). i < length l) c.args_of-specs.ensures c.loop-spec-test.true in
     let items = c.in_ok-push.ensures.items in
     let specs : List ArgSpec = args_of c.args.head.rule in
     let none : ArgSpec = record { label = label.Filename; index = 0; register = 0; kind = kind.Name } in
     let here : part.spec ≡ get_or specs i part.spec =
-    c.in_ok-begin.ensures.spec ∙ ap (λ (l : List ArgSpec). get_or l i none) c.args_of-spec-items.ensures ∙ get_or_default specs i none part.spec within in
+    c.in_ok-begin.ensures.spec ∙ ap (λ (l : List ArgSpec). get_or l i none) c.args_of-specs.ensures ∙ get_or_default specs i none part.spec within in
     record {
       specs = ap (map (λ (p : Part). p.spec)) items ∙ map-append (λ (p : Part). p.spec) old (part ∷ []) ∙ ap (λ (l : List ArgSpec). l ++ part.spec ∷ []) c.loop-spec.invariant.specs
           ∙ ap (λ (x : ArgSpec). take i specs ++ x ∷ []) here ∙ sym (take_more specs i part.spec within);
@@ -34,6 +34,6 @@ loop-spec-preserved c =
 pub returns : goal.returns
 returns c =
     let specs : List ArgSpec = args_of c.args.head.rule in
-    let len = ap length c.args_of-spec-items.ensures in
+    let len = ap length c.args_of-specs.ensures in
     let all : c.loop-spec.spec-index ≡ length specs = omega (arith, len, c.loop-spec-test.false, c.loop-spec.auto.spec-index-end) in
     begun_anew c.args.head c.loop-spec.parts.items (c.loop-spec.invariant.specs ∙ ap (λ (n : ℕ). take n specs) all ∙ take-length specs) c.loop-spec.invariant.filled
