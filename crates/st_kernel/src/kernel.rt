@@ -153,10 +153,9 @@ impl<'a> Kernel<'a> {
         self.machine.choose(alloc, choice, added)?;
         match added {
             Some(entry) => {
-                let machine = self.machine.view();
-                let woken = woken_by(&machine, entry);
-                self.first = woken.cursor(&machine, self.first);
-                woken.wake(&machine, self.first, &mut self.asleep);
+                let woken = woken_by(&self.machine, entry);
+                self.first = woken.cursor(&self.machine, self.first);
+                woken.wake(&self.machine, self.first, &mut self.asleep);
                 note_choice(&mut self.made, choice);
                 Ok(true)
             }

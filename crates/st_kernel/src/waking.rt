@@ -11,6 +11,7 @@ ghost use Rattle.st_kernel.specs.Waking.{holder_woken, is_asleep, is_woken, woke
 use st_base::{Seq, Tid};
 use st_decide::View;
 use st_lookaside::Head;
+use st_machine::Machine;
 use st_trace::{Change, Entry};
 
 /// Which threads may be able to move after an entry, and couldn't before.
@@ -41,18 +42,18 @@ fn wakes_some(changes: &[Change]) -> bool
 }
 
 // The thread that holds the call of a number, or all threads if the holder isn't known.
-fn holder(machine: &View<'_, '_>, seq: Seq) -> Woken
+fn holder(machine: &Machine<'_>, seq: Seq) -> Woken
     ensures whom { result ≡ holder_woken (thread_of_number machine.now.workers.calls seq) }
     ensures law { (st : State) → Refines machine.now st → (t : ℕ) → is_message_by st t seq ≡ true → is_woken machine.now result t ≡ true }
 {
-    match machine.holder(seq) {
+    match machine.view().holder(seq) {
         Some(tid) => Woken::One(tid),
         None => Woken::Everybody,
     }
 }
 
-/// Which threads an entry may wake, according to the machine after it.
-pub fn woken_by(machine: &View<'_, '_>, entry: &Entry) -> Woken
+/// Which threads an entry may wake, according to the machine after it. Most entries wake nobody, and then no view of it is made.
+pub fn woken_by(machine: &Machine<'_>, entry: &Entry) -> Woken
     ensures whom { result ≡ woken_by machine.now.workers.calls entry.now }
     ensures law { (st : State) → Refines machine.now st → (t : ℕ) → wakes st entry.now t ≡ true → is_woken machine.now result t ≡ true }
 {
@@ -127,7 +128,7 @@ fn wake_alike(machine: &View<'_, '_>, message: &Head, from: Tid, asleep: &mut [b
 
 impl Woken {
     /// The new cursor after threads were woken, if it was at `first`: the first woken thread before `first`, or `first` if there is none.
-    pub fn cursor(self, machine: &View<'_, '_>, first: Tid) -> Tid
+    pub fn cursor(self, machine: &Machine<'_>, first: Tid) -> Tid
         requires { 1 ≤ first }
         ensures from { 1 ≤ result }
         ensures to { result ≤ first }
@@ -138,16 +139,19 @@ impl Woken {
             Woken::Nobody => first,
             Woken::One(0) => first,
             Woken::One(tid) => first.min(tid),
-            Woken::SameRule(seq) => match machine.message(seq) {
-                Some(message) => first_alike(machine, message, first),
-                None => 1,
-            },
+            Woken::SameRule(seq) => {
+                let view = machine.view();
+                match view.message(seq) {
+                    Some(message) => first_alike(&view, message, first),
+                    None => 1,
+                }
+            }
             Woken::Everybody => 1,
         }
     }
 
     /// Marks the woken threads as awake. None of them is before `from`. Thread t is at index t - 1.
-    pub fn wake(self, machine: &View<'_, '_>, from: Tid, asleep: &mut [bool])
+    pub fn wake(self, machine: &Machine<'_>, from: Tid, asleep: &mut [bool])
         requires from { 1 ≤ from }
         requires before { (t : ℕ) → 1 ≤ t → t < from → is_woken machine.now self t ≡ false }
         ensures count { length asleep.new ≡ length asleep.old }
@@ -158,10 +162,13 @@ impl Woken {
         match self {
             Woken::Nobody => {}
             Woken::One(tid) => mark_awake(tid, asleep),
-            Woken::SameRule(seq) => match machine.message(seq) {
-                Some(message) => wake_alike(machine, message, from, asleep),
-                None => asleep.fill(false),
-            },
+            Woken::SameRule(seq) => {
+                let view = machine.view();
+                match view.message(seq) {
+                    Some(message) => wake_alike(&view, message, from, asleep),
+                    None => asleep.fill(false),
+                }
+            }
             Woken::Everybody => asleep.fill(false),
         }
     }

@@ -32,7 +32,7 @@ pub invariant_of-self-in-Some : goal.invariant_of-self-in-Some
 invariant_of-self-in-Some c =
     let step : IsStep c.self.inside.machine c.args.choice (Some c.in-Some.entry) c.choose.new.self = subst (λ (o : Option Entry). IsStep c.self.inside.machine c.args.choice o c.choose.new.self) c.in-Some.is c.in_ok-choose.ensures.step in
     let written = with_items_is c.self.inside.asleep c.wake.new.asleep (c.wake.ensures.count ∙ c.deref_mut.ensures.len) in
-    let seen : HasWoken c.view-machine.result c.woken_by-woken.result c.self.inside.first c.self.inside.asleep.items c.cursor-self-inside.result c.wake.new.asleep = record {
+    let has : HasWoken c.choose.new.self c.woken_by-woken.result c.self.inside.first c.self.inside.asleep.items c.cursor-self-inside.result c.wake.new.asleep = record {
       from = c.cursor-self-inside.ensures.from;
       to = c.cursor-self-inside.ensures.to;
       before = c.cursor-self-inside.ensures.before;
@@ -40,8 +40,7 @@ invariant_of-self-in-Some c =
       marked = λ place is. subst (λ (marks : List Bool). is_asleep marks place ≡ true) c.deref_mut.ensures.value (c.wake.ensures.before place is);
       unwoken = c.wake.ensures.woken;
     } in
-    let has = subst (λ (m : Running). HasWoken m c.woken_by-woken.result c.self.inside.first c.self.inside.asleep.items c.cursor-self-inside.result c.wake.new.asleep) c.view-machine.ensures seen in
-    let only = subst (λ (m : Running). WakesNoOther m c.in-Some.entry c.woken_by-woken.result) c.view-machine.ensures c.woken_by-woken.ensures.law in
+    let only : WakesNoOther c.choose.new.self c.in-Some.entry c.woken_by-woken.result = c.woken_by-woken.ensures.law in
     kept_in c.choose.new.self (repeats_with c.self.inside.made.items c.args.choice) c.note_choice.new.repeats.items c.cursor-self-inside.result _
     (c.note_choice.ensures ∙ ap (λ (l : List Repeat). repeats_with l c.args.choice) c.reserve.ensures.items)
     (subst (IsRunSoFar c.choose.new.self (repeats_with c.self.inside.made.items c.args.choice) c.cursor-self-inside.result) (sym written)
