@@ -301,7 +301,8 @@ pub fn tokens(alloc: Global, text: &[u8]) -> Result<Lexed, AllocError>
     ensures { IfOk result (λ lexed. lexed ≡ lexed_text text.now) }
 {
     let mut lexer = Lexer::new(text);
-    let mut tokens = Sequence::new(alloc);
+    // A token usually has four bytes or more, with the blank after it.
+    let mut tokens = Sequence::with_capacity(alloc, text.len() / 4)?;
     let fault = loop {
         match lexer.next_token() {
             Ok(Some(token)) => tokens.push(token)?,
