@@ -1,12 +1,13 @@
 -- The policies that a map stores, looked up by their binaries.
-use Rattle.std.proofs.Common.{◌≡◌, ℕ, suc, zero, ◌+◌, Bool, true, false, List, [], ◌∷◌, ◌++◌, length, take, ◌≤◌, refl, ap, sym, ◌∙◌, arith, Option, Some, None, option_map, ◌<◌, nat_eq, ◌&&◌, ◌||◌, Vec, cond}
+use Rattle.std.proofs.Common.{◌≡◌, ℕ, suc, zero, ◌+◌, Bool, true, false, List, [], ◌∷◌, ◌++◌, length, take, ◌≤◌, refl, ap, sym, ◌∙◌, arith, Option, Some, None, option_map, ◌<◌, nat_eq, nat_lt, not, ◌&&◌, ◌||◌, Vec, cond}
 use Rattle.std.proofs.lemmas.Bool.{both_ways, or_left, or_parts}
 use Rattle.std.proofs.lemmas.List.{map-append, length-map, take-append-le}
 use Rattle.st_filter.proofs.Counts.{filters_in_last, filters_in_first, counted_added}
 use Rattle.std.proofs.lemmas.Option.{same_Some, slice_get-map}
 use Rattle.std.specs.Prelude.{IfSome, Result, Ok, Err, OnErr, unwrap_or, is_some, slice_get, if◌then◌else◌}
+use Rattle.std.specs.List.{position, position_or_len}
 use Rattle.std.specs.Str.{bytes_eq}
-use Rattle.std.specs.Map.{lookup, values_of}
+use Rattle.std.specs.Map.{keys_of, lookup, values_of}
 use Rattle.indexmap.specs.IndexMap.{insert_entry, set_value_at}
 use Rattle.std.proofs.Common.{Global}
 use Rattle.st_filter.specs.Formula.{FilterValue}
@@ -135,6 +136,22 @@ none_there (Some v) e = cc
 -- a binary that isn't in the map has no filters
 pub no_policy : (es : List PolicyEntry) (binary : List ℕ) → is_some (lookup (is_key binary) es) ≡ false → policy_of (represented_policies es) binary ≡ []
 no_policy es binary e = sym (policy_kept es binary) ∙ none_there (lookup (is_key binary) es) e
+
+abbrev is_policy_of : List ℕ → BinaryPolicy → Bool
+is_policy_of binary p = bytes_eq p.binary binary
+
+place_kept : (es : List PolicyEntry) (binary : List ℕ) → position_or_len (is_key binary) (keys_of es) ≡ position_or_len (is_policy_of binary) (represented_policies es)
+place_kept [] binary = refl
+place_kept (e ∷ es) binary =
+    ap (λ n. cond (not (bytes_eq binary e.0.items)) (1 + n) 0) (place_kept es binary)
+    ∙ ap (λ b. cond (not b) (1 + position_or_len (is_policy_of binary) (represented_policies es)) 0) (bytes_eq_sym binary e.0.items)
+
+-- the map has the policy of a binary at the same index as the list
+pub index_kept : (es : List PolicyEntry) (binary : List ℕ) → position (is_key binary) (keys_of es) ≡ position (is_policy_of binary) (represented_policies es)
+index_kept es binary =
+    let place = position_or_len (is_policy_of binary) (represented_policies es) in
+    ap (λ n. cond (nat_lt n (length (keys_of es))) (Some n) None) (place_kept es binary)
+    ∙ ap (λ len. cond (nat_lt place len) (Some place) None) (length-map es (λ (e : PolicyEntry). e.0) ∙ sym (length-map es policy_of_entry))
 
 few_at : (ps : List BinaryPolicy) (i : ℕ) (fs : List FilterValue) → option_map (λ (p : BinaryPolicy). p.filters) (slice_get ps i) ≡ Some fs → length fs ≤ filters_in ps
 few_at [] i fs e = cc

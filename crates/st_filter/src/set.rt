@@ -1,4 +1,6 @@
 ghost use Rattle.std.specs.Prelude.{◌≡◌, [], ◌∷◌, ◌++◌, ◌<◌, ◌≤◌, false, length, take, option_map, OnOk, OnErr, None, Some, IfSome, slice_get};
+ghost use Rattle.std.specs.List.{position};
+ghost use Rattle.std.specs.Str.{bytes_eq};
 ghost use Rattle.st_filter.specs.Policies.{has_policy, policy_of};
 
 use crate::filter::{Filter, Policy};
@@ -108,6 +110,7 @@ impl PolicySet {
 
     /// The index of the policy of a binary, if it has one.
     pub fn row_of(&self, binary: &[u8]) -> Option<usize>
+        ensures index { result ≡ position (λ p. bytes_eq p.binary binary.now) self.now }
         ensures none { result ≡ None → policy_of self.now binary.now ≡ [] }
         ensures some { IfSome result (λ row. option_map (λ p. p.filters) (slice_get self.now row) ≡ Some (policy_of self.now binary.now)) }
     {
