@@ -319,6 +319,7 @@ impl Slots {
     /// Undoes the last `fill` or `take_look` of a message. Its walk is no longer readied. It takes no memory.
     pub fn take_back(&mut self, drawing: Drawing)
         requires { IsSome (slot_at self.old drawing) }
+        ensures only { IfSome (slot_at self.old drawing) (λ was. (after : slot.Slot) × (after.head ≡ was.head) × ChangesSlot self.old drawing (Some after) self.new) }
         ensures word { (before : slot.Slot) (word : ℕ) → IsInOrder before → IsWordNext (slot_progress before) → slot_at self.old drawing ≡ Some (after_word before word) → ChangesSlot self.old drawing (Some before) self.new }
         ensures look { (before : slot.Slot) (seen : SeenText) → IsInOrder before → IsLookNext (slot_progress before) → slot_at self.old drawing ≡ Some (after_look before seen) → ChangesSlot self.old drawing (Some before) self.new }
     {

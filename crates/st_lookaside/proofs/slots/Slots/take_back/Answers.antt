@@ -1,7 +1,10 @@
-use Rattle.std.proofs.Common.{ap}
+use Rattle.std.proofs.Common.{◌≡◌, ap, Some}
+use Rattle.slab.specs.Slab.{with_value}
+use Rattle.st_lookaside.specs.Slot as slot
 use Rattle.st_lookaside.specs.Slot.{after_look, after_word}
+use Rattle.st_lookaside.specs.Slots.{slots_of, ChangesSlot}
 use Rattle.st_lookaside.specs.declared.head.Head.{Head}
-use Rattle.st_lookaside.proofs.Numbers.{changed_to, is_there, is_used, kept_set}
+use Rattle.st_lookaside.proofs.Numbers.{changed_to, is_there, is_used, kept_set, known_of, now_changed}
 use Rattle.st_lookaside.proofs.slots.Slots.take_back.Goals as goal
 
 pub key_of-requires : goal.key_of-requires
@@ -12,6 +15,12 @@ index_mut-slot-requires c = is_used c.self.inside.slab c.self.inside.keys.items 
 
 pub invariant_of-self : goal.invariant_of-self
 invariant_of-self c = kept_set c.self.inside.slab c.self.inside.keys.items c.args.self.now c.self.invariant c.self.view_is c.args.drawing c.key_of.result c.key_of.ensures c.index_mut-slot.result.now c.index_mut-slot.ensures.value c.take_back.new.self (ap (λ (h : Head). h.drawing) c.take_back.ensures.head)
+
+pub returns-clause-only : goal.returns-clause-only
+returns-clause-only c =
+    let changed = now_changed c.self.inside.slab c.self.inside.keys.items c.args.self.now c.self.invariant c.self.view_is c.args.drawing c.key_of.result c.key_of.ensures c.index_mut-slot.result.now c.index_mut-slot.ensures.value c.take_back.new.self (ap (λ (h : Head). h.drawing) c.take_back.ensures.head) in
+    known_of c.self.inside.slab c.self.inside.keys.items c.args.self.now c.self.invariant c.self.view_is c.args.drawing c.key_of.result c.key_of.ensures c.index_mut-slot.result.now c.index_mut-slot.ensures.value (λ was. (after : slot.Slot) × (after.head ≡ was.head) × ChangesSlot c.args.self.now c.args.drawing (Some after) (slots_of (with_value c.self.inside.slab c.key_of.result c.take_back.new.self) c.self.inside.keys.items))
+    (c.take_back.new.self, c.take_back.ensures.head, changed)
 
 pub returns-clause-word : goal.returns-clause-word
 returns-clause-word c = λ before word order next found.
