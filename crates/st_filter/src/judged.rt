@@ -3,6 +3,7 @@ ghost use Rattle.st_filter.specs.Judged.{verdict_under};
 
 use crate::judging::decide;
 use crate::set::PolicySet;
+use st_base::Shared;
 use st_calls::{Snapshot, Verdict};
 use std::marker::Model;
 
@@ -10,7 +11,7 @@ use std::marker::Model;
 #[derive(Debug, Drop)]
 pub struct Judged<'a> {
     policies: &'a PolicySet,
-    snapshot: Snapshot,
+    snapshot: Shared<Snapshot>,
     verdict: Verdict,
 }
 
@@ -31,17 +32,18 @@ impl<'a> Model for Judged<'a> {
 
 impl<'a> Judged<'a> {
     /// Judges a call by the policy of its binary. It takes no memory.
-    pub fn judge(policies: &'a PolicySet, snapshot: Snapshot) -> Self
+    pub fn judge(policies: &'a PolicySet, snapshot: Shared<Snapshot>) -> Self
         ensures policies { result.policies ≡ policies.now }
         ensures snapshot { result.snapshot ≡ snapshot }
     {
-        let policy = policies.get(snapshot.policy.get().bytes());
-        let verdict = decide(policy, &snapshot);
+        let call = snapshot.get();
+        let policy = policies.get(call.policy.get().bytes());
+        let verdict = decide(policy, call);
         Judged::with(policies, snapshot, verdict)
     }
 
     /// A call with its verdict, which was found before. It takes no memory.
-    pub fn with(policies: &'a PolicySet, snapshot: Snapshot, verdict: Verdict) -> Self
+    pub fn with(policies: &'a PolicySet, snapshot: Shared<Snapshot>, verdict: Verdict) -> Self
         requires { verdict ≡ verdict_under policies.now snapshot }
         ensures { result ≡ record { policies = policies.now; snapshot = snapshot; verdict = verdict } }
     {
@@ -56,7 +58,7 @@ impl<'a> Judged<'a> {
     pub fn snapshot(&self) -> &Snapshot
         ensures { result.now ≡ self.now.snapshot }
     {
-        &self.snapshot
+        self.snapshot.get()
     }
 
     /// The verdict on the call.
