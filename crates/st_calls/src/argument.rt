@@ -1,4 +1,4 @@
-ghost use Rattle.std.specs.Prelude.{◌≡◌, find};
+ghost use Rattle.std.specs.Prelude.{◌≡◌, ◌↔◌, length, find, IsTrue};
 ghost use Rattle.std.specs.Str.{bytes_eq};
 ghost use Rattle.st_calls.specs.Argument.{args_of_call, args_of, name_of_label, label_named};
 
@@ -82,6 +82,39 @@ pub struct ArgText {
     /// Which of the arguments with this label, from 0.
     pub index: u32,
     pub text: Text,
+}
+
+impl ArgText {
+    // Whether two arguments are the same.
+    fn is_same(&self, other: &ArgText) -> bool
+        ensures { IsTrue result ↔ (self.now ≡ other.now) }
+    {
+        self.label == other.label
+            && self.index == other.index
+            && is_same_text(self.text.bytes(), other.text.bytes())
+    }
+}
+
+// Whether two lists have the same arguments, in the same order.
+pub(crate) fn are_same_arguments(one: &[ArgText], other: &[ArgText]) -> bool
+    ensures { IsTrue result ↔ (one.now ≡ other.now) }
+{
+    one.len() == other.len() && is_each_same(one, other)
+}
+
+// Whether the arguments of two lists of the same length are the same, each at its place.
+fn is_each_same(one: &[ArgText], other: &[ArgText]) -> bool
+    requires { length one.now ≡ length other.now }
+    ensures { IsTrue result ↔ (one.now ≡ other.now) }
+{
+    let mut left = one.len();
+    while left > 0 {
+        left -= 1;
+        if !one[left].is_same(&other[left]) {
+            return false;
+        }
+    }
+    true
 }
 
 /// How an argument is passed in registers and memory, and which text it has.
