@@ -108,16 +108,17 @@ impl Rule {
     pub fn has_argument(self, label: &[u8], index: u32) -> bool
         ensures { result ≡ has_argument self label.now index }
     {
-        args_of(self)
-            .iter()
-            .any(|spec| spec.label.word() == label && spec.index == index)
+        args_of(self).iter().any(|spec| is_same_text(spec.label.word(), label)
+            && spec.index == index)
     }
 
     /// Whether policies judge an argument with this label, of any index, under the rule.
     pub fn has_label(self, label: &[u8]) -> bool
         ensures { result ≡ has_label self label.now }
     {
-        args_of(self).iter().any(|spec| spec.label.word() == label)
+        args_of(self)
+            .iter()
+            .any(|spec| is_same_text(spec.label.word(), label))
     }
 }
 
