@@ -1,7 +1,7 @@
 ghost use Rattle.std.specs.Prelude.{◌≡◌, option_copied};
 ghost use Rattle.st_lex.specs.Text.{text_of_token, is_word, is_quoted, is_colon, is_comma, is_keyword, plain_quoted};
 
-use st_base::Sequence;
+use st_base::{Sequence, is_same_text};
 use thiserror::Error;
 
 /// The kind of a token.
@@ -74,7 +74,7 @@ impl Token {
     pub fn is_keyword(&self, text: &[u8], word: &[u8]) -> bool
         ensures { result ≡ is_keyword text.now word.now self.now }
     {
-        self.kind.is_word() && self.text(text) == word
+        self.kind.is_word() && is_same_text(self.text(text), word)
     }
 
     /// The bytes between the quotes, if the token is a quoted text without a backslash.
