@@ -40,6 +40,7 @@ pub(crate) fn tree_of(alloc: Global, rows: &[TreeRow]) -> Result<Tree, AllocErro
     ensures { IfOk result (λ tree. tree ≡ fold tree_with_row root_only rows.now) }
 {
     let mut tree = Tree::new(alloc)?;
+    tree.reserve(rows.len())?;
     for row in rows {
         put_row(&mut tree, alloc, row)?;
     }

@@ -85,6 +85,13 @@ impl Tree {
         Ok(Tree { objects })
     }
 
+    /// Reserves room for so many more objects. The tree doesn't change.
+    pub fn reserve(&mut self, objects: usize) -> Result<(), AllocError>
+        ensures { self.new ≡ self.old }
+    {
+        self.objects.reserve(objects)
+    }
+
     /// The result of a look at a name. The first proper prefix that is missing or is no directory decides.
     pub fn look<'a>(&'a self, name: &AbsName) -> Seen<'a>
         ensures { seen_text result ≡ look self.now name.now }
