@@ -1,13 +1,25 @@
 ghost use Rattle.std.specs.Prelude.{◌≡◌, ◌≤◌, ◌<◌, ◌+◌, ◌^◌, [], length, OnOk};
+ghost use Rattle.std.specs.List.{list_any};
+ghost use Rattle.std.specs.Str.{bytes_eq};
 ghost use Rattle.st_script_faults.specs.Names.{is_name_among, with_new_name, name_number, no_names, with_object, store_count, with_statement, with_says, last_slash, directory_of, is_known_directory};
 
 use indexmap::IndexSet;
-use st_base::Text;
+use st_base::{Text, is_same_text};
 use st_statements::Statement;
 use st_statements::lines::saturated;
 use st_trace::NewKind;
 use std::alloc::{AllocError, Global};
 use std::marker::Model;
+
+// Up to this many names are compared one by one, since a hash costs more.
+const FEW_NAMES: usize = 4;
+
+// Whether a name is among these, by a comparison with each.
+fn is_among(names: &[&[u8]], name: &[u8]) -> bool
+    ensures { result ≡ list_any (λ other. bytes_eq name.now other.now) names.now }
+{
+    names.iter().any(|other| is_same_text(name, other))
+}
 
 /// Names, each once and in order, with a lookup by name.
 #[derive(Drop)]
@@ -44,7 +56,10 @@ impl<'a> NameIndex<'a> {
     pub fn has(&self, name: &[u8]) -> bool
         ensures { result ≡ is_name_among self.now name.now }
     {
-        self.names.contains(name)
+        if self.names.len() > FEW_NAMES {
+            return self.names.contains(name);
+        }
+        is_among(self.names.as_slice(), name)
     }
 
     /// The number of a name, counted from 1; one more than their count if it isn't in the index.
