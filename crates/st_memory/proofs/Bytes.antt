@@ -41,7 +41,7 @@ bytes_from-place words place = ext_get_or 0 (bytes_from (byte_of words) (8 * pla
 pub word_of-byte_of : (words : List ℕ) (place : ℕ) → get_or words place 0 < 2 ^ 64 → get_or words place 0 ≡ word_of (byte_of words) place
 word_of-byte_of words place fits = sym (ap (from_le_bytes w64) (bytes_from-place words place) ∙ from_le_bytes-to_le_bytes_8 (get_or words place 0) fits)
 
-zeros-at : (n k : ℕ) → get_or {A = ℕ} (replicate n 0) k 0 ≡ 0
+pub zeros-at : (n k : ℕ) → get_or {A = ℕ} (replicate n 0) k 0 ≡ 0
 zeros-at zero k = refl
 zeros-at (suc n) zero = refl
 zeros-at (suc n) (suc k) = zeros-at n k

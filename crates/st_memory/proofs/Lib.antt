@@ -1,5 +1,6 @@
 mod Bytes
 mod Counts
+mod Filled
 mod Numbers
 mod Parts
 mod Rows

@@ -1,4 +1,4 @@
-ghost use Rattle.std.specs.Prelude.{◌≡◌, ℕ, ◌+◌, ◌%◌, ◌<◌, ◌≤◌, ◌++◌, length, slice_index, IfOk, OnOk};
+ghost use Rattle.std.specs.Prelude.{◌≡◌, ℕ, ◌+◌, ◌%◌, ◌<◌, ◌≤◌, ◌++◌, length, slice_index, slice_set, IfOk, OnOk};
 ghost use Rattle.std.specs.Int.{w64, to_le_bytes};
 ghost use Rattle.st_memory.specs.Memory.{byte_of, zeros};
 ghost use Rattle.st_model.specs.Memory.{bytes_after_put, bytes_after_store, bytes_from, word_of};
@@ -15,18 +15,20 @@ pub const PAGE_WORDS: usize = 512;
 /// The words of one page.
 #[derive(Debug, Drop)]
 pub struct Page {
+    // The words up to the last that was stored. Those after it are 0 and have room, so a page costs nothing to make but its memory.
     words: Vec<u64>,
 }
 
 impl Model for Page {
-    ghost use Rattle.std.specs.Prelude.{◌≡◌, List, ℕ, length};
+    ghost use Rattle.std.specs.Prelude.{◌≤◌, List, ℕ, length, vec_capacity};
+    ghost use Rattle.st_memory.specs.Page.{filled_up};
     ghost use Rattle.st_memory.specs.declared.page.TheConstants.{PAGE_WORDS};
 
     ghost Value = { List ℕ };
 
-    ghost view = { λ p. p.words.items };
+    ghost view = { λ p. filled_up p.words.items };
 
-    ghost invariant = { λ p. length p.words.items ≡ PAGE_WORDS };
+    ghost invariant = { λ p. (length p.words.items ≤ PAGE_WORDS) × (PAGE_WORDS ≤ vec_capacity p.words) };
 }
 
 impl Page {
@@ -35,8 +37,32 @@ impl Page {
         ensures { IfOk result (λ page. page ≡ zeros) }
     {
         Ok(Page {
-            words: vec![in alloc; 0; PAGE_WORDS]?,
+            words: Vec::with_capacity(alloc, PAGE_WORDS)?,
         })
+    }
+
+    // The word at an index; 0 past the end.
+    fn at(&self, place: usize) -> u64
+        ensures { result ≡ slice_index self.now place }
+    {
+        match self.words.get(place) {
+            Some(word) => *word,
+            None => 0,
+        }
+    }
+
+    // Stores a word at an index. The words before it that were never stored become zeros.
+    fn set(&mut self, place: usize, word: u64)
+        requires { place < PAGE_WORDS }
+        ensures size { length self.old ≡ PAGE_WORDS }
+        ensures is { self.new ≡ slice_set self.old place word }
+    {
+        if place >= self.words.len() {
+            let Ok(()) = self.words.resize(place + 1, 0) else {
+                unreachable!()
+            };
+        }
+        self.words[place] = word;
     }
 
     /// The word at an index.
@@ -44,7 +70,7 @@ impl Page {
         requires { place < PAGE_WORDS }
         ensures { result ≡ word_of (byte_of self.now) place }
     {
-        self.words[place]
+        self.at(place)
     }
 
     /// Appends `count` bytes from offset `at` on, a word at a time.
@@ -59,7 +85,7 @@ impl Page {
     {
         let mut done = 0;
         while done < count {
-            let word = self.words[(at + done) / 8].to_le_bytes();
+            let word = self.at((at + done) / 8).to_le_bytes();
             let from = (at + done) % 8;
             let width = (8 - from).min(count - done);
             bytes.extend_from_slice(&word[from..from + width])?;
@@ -72,9 +98,9 @@ impl Page {
     pub fn copy(&self, alloc: Global) -> Result<Self, AllocError>
         ensures { IfOk result (λ page. page ≡ self.now) }
     {
-        Ok(Page {
-            words: Vec::from_slice(alloc, &self.words)?,
-        })
+        let mut words = Vec::with_capacity(alloc, PAGE_WORDS)?;
+        words.extend_from_slice(&self.words)?;
+        Ok(Page { words })
     }
 
     /// Stores a word at an index.
@@ -82,7 +108,7 @@ impl Page {
         requires { place < PAGE_WORDS }
         ensures { (b : ℕ) → byte_of self.new b ≡ bytes_after_store (byte_of self.old) place word b }
     {
-        self.words[place] = word;
+        self.set(place, word);
     }
 
     // Puts bytes that all fall into one word.
@@ -92,7 +118,7 @@ impl Page {
         ensures { (b : ℕ) → byte_of self.new b ≡ bytes_after_put (byte_of self.old) at part.now b }
     {
         let place = at / 8;
-        self.words[place] = merged(self.words[place], at % 8, part);
+        self.set(place, merged(self.at(place), at % 8, part));
     }
 
     /// Puts bytes at an offset, a word at a time.

@@ -1,9 +1,9 @@
-use Rattle.std.proofs.Common.{◌≡◌, ◌/◌, get_or, refl, arith}
-use Rattle.std.proofs.lemmas.List.{get_or_read}
+use Rattle.std.proofs.Common.{◌/◌, ◌∙◌, ap, refl, arith}
+use Rattle.st_memory.specs.Memory.{byte_of}
 use Rattle.st_memory.proofs.Parts.{byte_of-merged}
 use Rattle.st_memory.proofs.page.Page.put_part.Goals as goal
 
 pub returns : goal.returns
-returns c =
-    let read : c.index.result.now ≡ get_or c.self.inside.words.items (c.args.at / 8) 0 = get_or_read c.self.inside.words.items (c.args.at / 8) c.index.result.now (omega arith) c.index.ensures 0 in
-    λ b. rw (← c.self.view_is) (byte_of-merged c.self.inside.words.items (c.args.at / 8) c.index.result.now c.merged.result c.args.at c.args.part.now read refl (omega arith) c.requires.one_word c.merged.ensures b)
+returns c = λ b.
+    ap (λ words. byte_of words b) c.set.ensures.is
+    ∙ byte_of-merged c.args.self.now (c.args.at / 8) c.at.result c.merged.result c.args.at c.args.part.now c.at.ensures refl (omega (arith, c.set.ensures.size)) c.requires.one_word c.merged.ensures b
