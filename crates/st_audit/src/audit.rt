@@ -96,7 +96,7 @@ fn append_line(
     alloc: Global,
     text: &mut Text,
     input: &Input,
-    filters: &RunFilters<'_, '_>,
+    filters: &RunFilters<'_, '_, '_>,
     ledger: &Ledger,
     entry: &Entry,
 ) -> Result<(), AllocError>
@@ -185,7 +185,7 @@ impl Recorder for AuditRecorder {
         alloc: Global,
         input: &Input,
         compiled: &Compiled<'_>,
-        session: &Session,
+        session: &Session<'_>,
         entry: &Entry,
     ) -> Result<(), AllocError> {
         if !concerns_call(entry) {

@@ -62,11 +62,11 @@ impl<'a> Decided<'a> {
 
 /// The filters of a run.
 #[derive(Clone, Copy)]
-pub struct RunFilters<'a, 'p> {
+pub struct RunFilters<'a, 'p, 's> {
     /// Those that were read.
     pub read: &'a Compiled<'p>,
     /// Those that the run has added.
-    pub session: &'a Session,
+    pub session: &'a Session<'s>,
 }
 
 // What an audit says of a held call with these copies, if the filter with this number among those that were read decides.
@@ -78,7 +78,7 @@ fn decided_by_read<'c>(read: &Compiled<'_>, copies: &'c Snapshot, number: u32) -
 }
 
 // What an audit says of a held call with these copies, if no filter that was read decides.
-fn decided_by_session<'c>(filters: &RunFilters<'_, '_>, copies: &'c Snapshot) -> Decided<'c>
+fn decided_by_session<'c>(filters: &RunFilters<'_, '_, '_>, copies: &'c Snapshot) -> Decided<'c>
     ensures { result ≡ decided_by_session filters.now.read.now filters.now.session.now.filters copies.now }
 {
     let Some((number, filter)) = filters.session.deciding(copies) else {
@@ -97,7 +97,7 @@ fn decided_by_session<'c>(filters: &RunFilters<'_, '_>, copies: &'c Snapshot) ->
 
 /// What an audit says of a held call with these copies, if the filters that were read say this of it.
 pub fn decided_after<'c>(
-    filters: &RunFilters<'_, '_>,
+    filters: &RunFilters<'_, '_, '_>,
     copies: &'c Snapshot,
     verdict: Verdict,
 ) -> Decided<'c>

@@ -63,7 +63,7 @@ impl Ledger {
     }
 
     /// What an audit says of a held call under the filters of a run, if the call has this number and was answered.
-    pub fn decided(&self, filters: &RunFilters<'_, '_>, seq: Option<Seq>) -> Option<Decided<'_>>
+    pub fn decided(&self, filters: &RunFilters<'_, '_, '_>, seq: Option<Seq>) -> Option<Decided<'_>>
         ensures { result ≡ decided_on (λ q. decided_from_history filters.now.read.now filters.now.session.now.filters (recorded_answer self.now.answers q)) seq }
     {
         let answer = self.answers.get(&seq?)?;

@@ -11,7 +11,11 @@ use std::alloc::{AllocError, Global};
 
 /// The canonical text of the policies after a run of this input with this session: the filters that were read, then those that the
 /// run added.
-pub fn policies_text(alloc: Global, input: &Input, session: &Session) -> Result<Text, AllocError>
+pub fn policies_text(
+    alloc: Global,
+    input: &Input,
+    session: &Session<'_>,
+) -> Result<Text, AllocError>
     ensures { IfOk result (λ text. (trace : List Entry) → session.now.filters ≡ session_at input.now (reverse trace) → text ≡ policy_text input.now trace) }
 {
     print_learnt(alloc, &input.policies, session)

@@ -114,7 +114,7 @@ impl<'a> Kernel<'a> {
     }
 
     /// The session after the choices that were made.
-    pub fn session(&self) -> &Session
+    pub fn session(&self) -> &Session<'a>
         ensures { result.now.filters ≡ session_at self.now.input (reverse (trace_of self.now)) }
     {
         self.machine.session()

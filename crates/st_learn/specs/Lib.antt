@@ -1,5 +1,6 @@
 pub mod Answers
 pub mod Deciding
+pub mod Kept
 pub mod Learnt
 pub mod Operator
 pub mod Permitted

@@ -1,6 +1,8 @@
 ghost use Rattle.std.specs.Prelude.{◌≡◌};
 ghost use Rattle.st_law.specs.Sessions.{is_kept_for};
+ghost use Rattle.st_learn.specs.Kept.{filter_of};
 
+use crate::kept_filter::KeptFilter;
 use st_base::{Shared, Text, is_same_text};
 use st_calls::Rule;
 use st_filter::Filter;
@@ -8,28 +10,29 @@ use std::marker::Model;
 
 /// A filter of a session, with its policy and its rule.
 #[derive(Debug, Drop)]
-pub struct AddedFilter {
+pub struct AddedFilter<'a> {
     policy: Shared<Text>,
     rule: Rule,
-    filter: Filter,
+    filter: KeptFilter<'a>,
 }
 
-impl Model for AddedFilter {
+impl<'a> Model for AddedFilter<'a> {
     ghost use Rattle.std.specs.Coded.{codes};
     ghost use Rattle.st_filter.specs.FormulaCode.{formula_code};
     ghost use Rattle.st_law.specs.Sessions.{SessionFilter};
+    ghost use Rattle.st_learn.specs.Kept.{filter_of};
 
     ghost Value = { SessionFilter };
 
     ghost coded = { Prim.hlevel (codes, formula_code) };
 
-    ghost view = { λ k. record { policy = k.policy; rule = k.rule; filter = k.filter } };
+    ghost view = { λ k. record { policy = k.policy; rule = k.rule; filter = filter_of k.filter } };
 }
 
-impl AddedFilter {
+impl<'a> AddedFilter<'a> {
     /// A filter for this policy and rule.
-    pub fn new(policy: Shared<Text>, rule: Rule, filter: Filter) -> Self
-        ensures { result ≡ record { policy = policy; rule = rule; filter = filter } }
+    pub fn new(policy: Shared<Text>, rule: Rule, filter: KeptFilter<'a>) -> Self
+        ensures { result ≡ record { policy = policy; rule = rule; filter = filter_of filter.entry } }
     {
         AddedFilter {
             policy,
@@ -63,6 +66,6 @@ impl AddedFilter {
     pub fn filter(&self) -> &Filter
         ensures { result.now ≡ self.now.filter }
     {
-        &self.filter
+        self.filter.get()
     }
 }

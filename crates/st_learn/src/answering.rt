@@ -11,7 +11,7 @@ use st_calls::{Snapshot, Verdict};
 use st_compile::Compiled;
 use st_filter::{Filter, verdict_of};
 
-impl Session {
+impl Session<'_> {
     /// The session's filter that decides on a held call, by the copies of its arguments: the first for its policy and rule that holds, even
     /// if it asks. Also returns its number among the session's filters for them, from 1. None if no filter holds.
     pub fn deciding(&self, copies: &Snapshot) -> Option<(u32, &Filter)>

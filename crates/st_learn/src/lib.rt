@@ -5,6 +5,7 @@
 mod added_filter;
 mod answering;
 pub mod answers;
+mod kept_filter;
 pub mod law;
 mod learnt;
 pub mod operator;
@@ -13,6 +14,7 @@ pub mod session;
 
 pub use added_filter::AddedFilter;
 pub use answers::Answers;
+pub use kept_filter::KeptFilter;
 pub use learnt::learnt_filter;
 pub use operator::Operator;
 pub use print::print_learnt;

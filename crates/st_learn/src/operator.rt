@@ -9,14 +9,16 @@ ghost use Rattle.st_law.specs.declared.input.Mode.TheVariants.{AskText, Learn};
 ghost use Rattle.st_compile.specs.Answers.{with_appended, AreAnswersUnder, InForce};
 ghost use Rattle.st_compile.specs.Places.{policy_row};
 ghost use Rattle.st_learn.specs.Answers.{KeepsAll};
+ghost use Rattle.st_learn.specs.Kept.{filter_of};
 ghost use Rattle.st_learn.specs.Operator.{answers, is_for_rule, next_reply_left, AreRepliesLeft, IsAdded, IsAnsweredBy};
 
 use crate::answers::Answers;
+use crate::kept_filter::KeptFilter;
 use crate::learnt::learnt_filter;
 use crate::session::Session;
 use st_calls::{Rule, Snapshot, Verdict};
 use st_compile::{Compiled, Places};
-use st_filter::{Filter, Reply, fast_answer};
+use st_filter::{Reply, fast_answer};
 use st_law::{Input, Mode};
 use st_trace::Entry;
 use std::alloc::{AllocError, Global};
@@ -29,7 +31,7 @@ const MOST_REPLIES: usize = 0xffff_ffff;
 /// policy are found without looking at the others.
 #[derive(Debug, Drop)]
 pub struct Operator<'a> {
-    session: Session,
+    session: Session<'a>,
     // Reply n is at index n - 1.
     replies: &'a [Reply],
     // For each policy, the indices of its replies that were not given yet.
@@ -79,7 +81,7 @@ impl<'a> Operator<'a> {
     }
 
     /// The session: the filters that were learnt or replied.
-    pub fn session(&self) -> &Session
+    pub fn session(&self) -> &Session<'a>
         ensures { result.now.filters ≡ self.now.filters }
     {
         &self.session
@@ -142,21 +144,21 @@ impl<'a> Operator<'a> {
         alloc: Global,
         answering: &mut Answers<'_>,
         copies: &Snapshot,
-        filter: Filter,
+        filter: KeptFilter<'a>,
     ) -> Result<u32, AllocError>
         ensures number { IfOk result (λ number. number ≡ suc (length (read_filters answering.old.read copies.now.policy copies.now.rule ++ session_filters self.old.filters copies.now.policy copies.now.rule))) }
-        ensures filters { OnOk result (self.new.filters ≡ self.old.filters ++ kept_for filter copies.now ∷ []) }
+        ensures filters { OnOk result (self.new.filters ≡ self.old.filters ++ kept_for (filter_of filter.entry) copies.now ∷ []) }
         ensures replies { self.new.replies ≡ self.old.replies }
         ensures left { self.new.left ≡ self.old.left }
         ensures err { OnErr result (self.new ≡ self.old) }
         ensures read { answering.new.read ≡ answering.old.read }
-        ensures own { OnOk result ((filters : InForce) → AreAnswersUnder filters answering.old.own → AreAnswersUnder (with_appended filters copies.now.policy copies.now.rule filter) answering.new.own) }
+        ensures own { OnOk result ((filters : InForce) → AreAnswersUnder filters answering.old.own → AreAnswersUnder (with_appended filters copies.now.policy copies.now.rule (filter_of filter.entry)) answering.new.own) }
         ensures kept { OnErr result (KeepsAll answering.old answering.new) }
     {
         let policy = copies.policy.get().bytes();
         let rule = copies.rule;
         let row = answering.own.make_row(alloc, policy)?;
-        let answer = fast_answer(&filter);
+        let answer = fast_answer(filter.get());
         let before = self.session.add(alloc, &copies.policy, rule, filter)?;
         answering.own.appended(row, rule, answer);
         Ok(answering.compiled.filter_count(policy, rule) + before + 1)
@@ -174,7 +176,7 @@ impl<'a> Operator<'a> {
         ensures kept { OnErr result (KeepsAll answering.old answering.new) }
     {
         let filter = learnt_filter(alloc, copies)?;
-        let number = self.keep(alloc, answering, copies, filter)?;
+        let number = self.keep(alloc, answering, copies, KeptFilter::Learnt(filter))?;
         Ok(Entry::Learned {
             seq: copies.seq,
             number,
@@ -198,7 +200,8 @@ impl<'a> Operator<'a> {
         ensures kept { OnErr result (KeepsAll answering.old answering.new) }
     {
         let place = self.left.at(row)[index];
-        let filter = self.replies[place].filter.copy(alloc)?;
+        let replies = self.replies;
+        let filter = KeptFilter::Replied(&replies[place].filter);
         let number = self.keep(alloc, answering, copies, filter)?;
         self.left.take_out_at(row, index);
         Ok(Entry::Replied {

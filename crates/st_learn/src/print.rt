@@ -40,7 +40,7 @@ fn append_read(alloc: Global, filters: &Policy, out: &mut Text) -> Result<(), Al
 // Appends the rows of the session's filters of a policy.
 fn append_added(
     alloc: Global,
-    session: &Session,
+    session: &Session<'_>,
     policy: &[u8],
     out: &mut Text,
 ) -> Result<(), AllocError>
@@ -56,7 +56,7 @@ fn append_added(
 fn append_policies(
     alloc: Global,
     policies: &PolicySet,
-    session: &Session,
+    session: &Session<'_>,
     out: &mut Text,
 ) -> Result<(), AllocError>
     ensures { OnOk result (out.new ≡ out.old ++ canon (map (with_session session.now.filters) policies.now)) }
@@ -74,7 +74,7 @@ fn append_policies(
 fn append_other(
     alloc: Global,
     policies: &PolicySet,
-    session: &Session,
+    session: &Session<'_>,
     place: usize,
     out: &mut Text,
 ) -> Result<(), AllocError>
@@ -97,7 +97,7 @@ fn append_other(
 pub fn print_learnt(
     alloc: Global,
     policies: &PolicySet,
-    session: &Session,
+    session: &Session<'_>,
 ) -> Result<Text, AllocError>
     ensures { IfOk result (λ text. text ≡ canon (learnt_policies policies.now session.now.filters)) }
 {

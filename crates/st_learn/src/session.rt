@@ -1,13 +1,15 @@
 ghost use Rattle.std.specs.Prelude.{◌≡◌, ℕ, List, ◌≤◌, ◌<◌, ◌^◌, ◌&&◌, [], ◌∷◌, ◌++◌, length, slice_get, Some, IfOk, OnOk, OnErr};
 ghost use Rattle.st_law.specs.Sessions.{session_filters};
 ghost use Rattle.st_learn.specs.Deciding.{asks_first, decides, first_at, lesser, NumberIs};
+ghost use Rattle.st_learn.specs.Kept.{filter_of};
 ghost use Rattle.st_learn.specs.Sessions.{added, is_first_at, places_asking, places_of, session_with};
 
 use crate::added_filter::AddedFilter;
+use crate::kept_filter::KeptFilter;
 use st_base::{Shared, Text};
 use st_calls::{Rule, Snapshot};
 use st_compile::{Places, asked_text};
-use st_filter::{Filter, holds};
+use st_filter::holds;
 use std::alloc::{AllocError, Global};
 use std::marker::Model;
 
@@ -17,9 +19,9 @@ const MOST_KEPT: usize = 0x7fff_ffff;
 /// What a run adds to the policies that were read: filters for policies and rules, in order. The filters of a policy, and those that ask
 /// for a text, are found without looking at the others.
 #[derive(Debug, Drop)]
-pub struct Session {
+pub struct Session<'a> {
     // In the order in which they were added.
-    kept: Vec<AddedFilter>,
+    kept: Vec<AddedFilter<'a>>,
     // For each filter, how many before it are for its policy and rule.
     numbers: Vec<u32>,
     // The indices of the filters of each policy,
@@ -30,7 +32,7 @@ pub struct Session {
     has_textless: bool,
 }
 
-impl Model for Session {
+impl<'a> Model for Session<'a> {
     ghost use Rattle.std.specs.Coded.{codes};
     ghost use Rattle.st_filter.specs.FormulaCode.{formula_code};
     ghost use Rattle.st_learn.specs.Sessions.{IsSession, Session, session_with};
@@ -55,7 +57,7 @@ fn lesser(first: Option<usize>, other: Option<usize>) -> Option<usize>
     }
 }
 
-impl Session {
+impl<'a> Session<'a> {
     /// No filters. It takes no memory.
     pub fn new(alloc: Global) -> Self
         ensures { result ≡ session_with [] }
@@ -76,11 +78,11 @@ impl Session {
         alloc: Global,
         policy: &Shared<Text>,
         rule: Rule,
-        filter: Filter,
+        filter: KeptFilter<'a>,
     ) -> Result<u32, AllocError>
         ensures few { IfOk result (λ number. number ≤ 2 ^ 31) }
         ensures number { IfOk result (λ number. number ≡ length (session_filters self.old.filters policy.now rule)) }
-        ensures ok { OnOk result (self.new.filters ≡ self.old.filters ++ added policy.now rule filter ∷ []) }
+        ensures ok { OnOk result (self.new.filters ≡ self.old.filters ++ added policy.now rule (filter_of filter.entry) ∷ []) }
         ensures err { OnErr result (self.new ≡ self.old) }
     {
         let place = self.kept.len();
@@ -89,7 +91,7 @@ impl Session {
         }
         let binary = policy.share()?;
         let bytes = policy.get().bytes();
-        let text = asked_text(filter.expr());
+        let text = asked_text(filter.get().expr());
         let row = self.policies.reserve(alloc, bytes)?;
         let number = self.count_at(self.policies.at(row), rule) as u32;
         self.kept.reserve(1)?;
@@ -105,14 +107,14 @@ impl Session {
     }
 
     /// The filters, in order.
-    pub fn filters(&self) -> &[AddedFilter]
+    pub fn filters(&self) -> &[AddedFilter<'a>]
         ensures { result.now ≡ self.now.filters }
     {
         self.kept.as_slice()
     }
 
     /// The filter at an index.
-    pub fn kept(&self, place: usize) -> &AddedFilter
+    pub fn kept(&self, place: usize) -> &AddedFilter<'a>
         requires { place < length self.now.filters }
         ensures { slice_get self.now.filters place ≡ Some result.now }
     {

@@ -138,7 +138,7 @@ impl<'a> Machine<'a> {
     }
 
     /// The session of each abstract state that the machine represents.
-    pub fn session(&self) -> &Session
+    pub fn session(&self) -> &Session<'a>
         ensures { (st : State) → Refines self.now st → result.now.filters ≡ st.session }
     {
         self.operator.session()

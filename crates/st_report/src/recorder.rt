@@ -20,7 +20,7 @@ pub trait Recorder {
         alloc: Global,
         input: &Input,
         compiled: &Compiled<'_>,
-        session: &Session,
+        session: &Session<'_>,
         entry: &Entry,
     ) -> Result<(), AllocError>
         requires { compiled.now ≡ input.now.policies }
@@ -39,7 +39,7 @@ impl Recorder for NoRecorder {
         _alloc: Global,
         _input: &Input,
         _compiled: &Compiled<'_>,
-        _session: &Session,
+        _session: &Session<'_>,
         _entry: &Entry,
     ) -> Result<(), AllocError> {
         Ok(())

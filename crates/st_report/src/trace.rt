@@ -52,7 +52,7 @@ impl Recorder for TraceRecorder {
         alloc: Global,
         _input: &Input,
         _compiled: &Compiled<'_>,
-        _session: &Session,
+        _session: &Session<'_>,
         entry: &Entry,
     ) -> Result<(), AllocError> {
         append_entry(alloc, &mut self.text, entry)?;

@@ -136,7 +136,7 @@ impl Recorder for Threads {
         _alloc: Global,
         _input: &Input,
         _compiled: &Compiled<'_>,
-        _session: &Session,
+        _session: &Session<'_>,
         entry: &Entry,
     ) -> Result<(), AllocError> {
         self.note_entry(entry);

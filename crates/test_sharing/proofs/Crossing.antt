@@ -26,6 +26,7 @@ use Rattle.st_compile.specs.contracts.policy.PolicyFilters as PolicyFilters
 use Rattle.st_compile.specs.contracts.rule.RuleFilters as RuleFilters
 use Rattle.st_learn.specs.contracts.added_filter.AddedFilter as AddedFilter
 use Rattle.st_learn.specs.contracts.answers.Answers as Answers
+use Rattle.st_learn.specs.contracts.kept_filter.KeptFilter as KeptFilter
 use Rattle.st_learn.specs.contracts.operator.Operator as Operator
 use Rattle.st_learn.specs.contracts.session.Session as Session
 use Rattle.st_system.proofs.system.System.TheSendSync as system
@@ -72,23 +73,29 @@ input_sync = search (policies_sync, reply_sync, start.the_field_sync, options.th
 pub input_send : IsSend Input.the_row
 input_send = search (policies_send, reply_send, start.the_field_send, options.the_field_send, sequence.the_send, crosses, sendable) depth 60 fits 2000
 
-pub added_filter_sync : IsSync AddedFilter.the_row
-added_filter_sync = search (filter_sync, text.the_sync, rule.the_field_sync, crosses, sendable) depth 60 fits 2000
+pub kept_filter_sync : (κ : NamedLft) → IsSync (KeptFilter.the_row κ)
+kept_filter_sync κ = search (filter_sync, crosses, sendable) depth 60 fits 2000
 
-pub added_filter_send : IsSend AddedFilter.the_row
-added_filter_send = search (filter_send, text.the_send, rule.the_field_send, crosses, sendable) depth 60 fits 2000
+pub kept_filter_send : (κ : NamedLft) → IsSend (KeptFilter.the_row κ)
+kept_filter_send κ = search (filter_sync, filter_send, crosses, sendable) depth 60 fits 2000
 
-pub session_sync : IsSync Session.the_row
-session_sync = search (added_filter_sync, places.the_sync, crosses, sendable) depth 60 fits 2000
+pub added_filter_sync : (κ : NamedLft) → IsSync (AddedFilter.the_row κ)
+added_filter_sync κ = search (filter_sync, text.the_sync, rule.the_field_sync, crosses, sendable) depth 60 fits 2000
 
-pub session_send : IsSend Session.the_row
-session_send = search (added_filter_send, places.the_send, crosses, sendable) depth 60 fits 2000
+pub added_filter_send : (κ : NamedLft) → IsSend (AddedFilter.the_row κ)
+added_filter_send κ = search (filter_sync, filter_send, text.the_send, rule.the_field_send, crosses, sendable) depth 60 fits 2000
+
+pub session_sync : (κ : NamedLft) → IsSync (Session.the_row κ)
+session_sync κ = search (added_filter_sync, places.the_sync, crosses, sendable) depth 60 fits 2000
+
+pub session_send : (κ : NamedLft) → IsSend (Session.the_row κ)
+session_send κ = search (added_filter_send, places.the_send, crosses, sendable) depth 60 fits 2000
 
 pub judged_sync : (κ : NamedLft) → IsSync (Judged.the_row κ)
-judged_sync κ = search (policies_sync, snapshot.the_field_sync, verdict.the_field_sync, crosses, sendable) depth 60 fits 2000
+judged_sync κ = search (policies_sync, snapshot.the_field_sync, snapshot.the_field_send, verdict.the_field_sync, crosses, sendable) depth 60 fits 2000
 
 pub judged_send : (κ : NamedLft) → IsSend (Judged.the_row κ)
-judged_send κ = search (policies_sync, snapshot.the_field_send, verdict.the_field_send, crosses, sendable) depth 60 fits 2000
+judged_send κ = search (policies_sync, snapshot.the_field_sync, snapshot.the_field_send, verdict.the_field_send, crosses, sendable) depth 60 fits 2000
 
 pub compiled_filter_sync : (κ : NamedLft) → IsSync (CompiledFilter.the_row κ)
 compiled_filter_sync κ = search (filter_sync, compiled.crosses, crosses, sendable) depth 60 fits 2000

@@ -7,7 +7,7 @@ use st_filter::{
     Predicate, Reply, Who,
 };
 use st_law::Input;
-use st_learn::{AddedFilter, Answers, Operator, Session};
+use st_learn::{AddedFilter, Answers, KeptFilter, Operator, Session};
 
 /// Parts of filters, and tables of answers.
 pub fn parts_of_filters_are_shareable() {
@@ -37,8 +37,9 @@ pub fn policies_are_shareable() {
 
 /// Filters that were added to those that were read, and what the kernel answers by both.
 pub fn sessions_are_shareable() {
-    is_shareable::<AddedFilter>();
-    is_shareable::<Session>();
+    is_shareable::<AddedFilter<'_>>();
+    is_shareable::<KeptFilter<'_>>();
+    is_shareable::<Session<'_>>();
     is_shareable::<Operator<'_>>();
     is_shareable::<Answers<'_>>();
 }

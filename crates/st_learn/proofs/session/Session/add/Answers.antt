@@ -1,6 +1,7 @@
 use Rattle.std.proofs.Common.{◌≡◌, ◌∙◌, ◌++◌, [], ◌∷◌, List, ℕ, ap, arith, length, sym, subst}
 use Rattle.std.proofs.lemmas.Bool.{or_parts}
 use Rattle.std.specs.Str.{bytes_eq}
+use Rattle.st_filter.specs.Formula.{FilterValue}
 use Rattle.st_law.specs.Sessions.{SessionFilter, session_filters}
 use Rattle.st_compile.specs.Asked.{asked_text}
 use Rattle.st_learn.specs.Deciding.{count_for}
@@ -28,7 +29,7 @@ rule_is : (c : After-push_reserved-2) → c.args.rule ≡ c.new.result.rule
 rule_is c = sym (ap (λ (kept : SessionFilter). kept.rule) c.new.ensures)
 
 text_is : (c : After-push_reserved-2) → c.asked_text-text.result.now ≡ asked_text c.new.result.filter.formula
-text_is c = c.asked_text-text.ensures ∙ ap asked_text c.expr.ensures ∙ sym (ap (λ (kept : SessionFilter). asked_text kept.filter.formula) c.new.ensures)
+text_is c = c.asked_text-text.ensures ∙ ap asked_text c.expr.ensures ∙ ap (λ (filter : FilterValue). asked_text filter.formula) c.get-2.ensures ∙ sym (ap (λ (kept : SessionFilter). asked_text kept.filter.formula) c.new.ensures)
 
 places_are : (c : goal.After-at) → c.at.result.now ≡ places_of c.self.inside.kept.items c.bytes-bytes.result.now
 places_are c = c.at.ensures c.bytes-bytes.result.now c.in_ok-row.ensures.room.is ∙ c.reserve.ensures.kept.places c.bytes-bytes.result.now ∙ c.self.invariant.policies_are c.bytes-bytes.result.now
