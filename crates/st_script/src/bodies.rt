@@ -63,6 +63,26 @@ fn push_said(
     }
 }
 
+// How many instructions a line says.
+fn count_said(says: &Option<Statement>) -> usize {
+    match says {
+        Some(Statement::Put(_, bytes)) => store_count(bytes.bytes()) as usize,
+        _ => 1,
+    }
+}
+
+// How many instructions the lines up to the next `end` say. Room for them is reserved once.
+fn body_count(lines: &[ScriptLine]) -> usize {
+    let mut count: usize = 0;
+    for line in lines {
+        if ends_body(line) {
+            break;
+        }
+        count = count.saturating_add(count_said(&line.says));
+    }
+    count
+}
+
 // The body of a thread: the instructions of the lines below it up to the next `end`.
 fn body_in(
     alloc: Global,
@@ -71,7 +91,7 @@ fn body_in(
 ) -> Result<Sequence<Instr>, AllocError>
     ensures { IfOk result (λ body. body ≡ body_in threads.now lines.now) }
 {
-    let mut body = Sequence::new(alloc);
+    let mut body = Sequence::with_capacity(alloc, body_count(lines))?;
     for line in lines {
         if ends_body(line) {
             return Ok(body);
