@@ -53,9 +53,12 @@ instructions() {
     fi
 }
 
-# The most memory that was resident, in MiB.
+# The most memory that was resident, in MiB: the median of 25 runs, since the pages that are touched depend on where the host maps a program.
 memory() {
-    /usr/bin/time -f %M "$@" 2>&1 > /dev/null | awk '{ printf "%.1f", $1 / 1024 }'
+    local run
+    for run in $(seq 25); do
+        /usr/bin/time -f %M "$@" 2>&1 > /dev/null
+    done | sort -n | sed -n 13p | awk '{ printf "%.1f", $1 / 1024 }'
 }
 
 quotient() {
