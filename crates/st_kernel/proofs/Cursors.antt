@@ -68,7 +68,7 @@ module _ (i : Input) (st : State) where
   no_thread none = none_of choice.Thread i st 1 (thread_count i) workers (λ q low high. none q low (omega (arith, high)))
 
   -- if no thread and no worker can move, it is the operator's, if there is a question
-  nobody_else : NoThread → NoWorker → first_enabled i st ≡ asked
+  pub nobody_else : NoThread → NoWorker → first_enabled i st ≡ asked
   nobody_else none idle = no_thread none ∙ none_of choice.Worker i st 1 i.options.workers asked (λ q low high. idle q low (omega (arith, high)))
 
 -- ---- how a run continues

@@ -2,5 +2,7 @@ mod RunsSoFar
 mod Cursors
 mod Plays
 mod Rests
+mod Settled
 mod Unwoken
 mod Woken
+mod Working

@@ -59,11 +59,11 @@ fn is_enabled(machine: &View<'_, '_>, choice: Choice) -> bool
 /// A run so far: its input, and the choices that were made.
 #[derive(Debug, Drop)]
 pub struct Kernel<'a> {
-    machine: Machine<'a>,
+    pub(crate) machine: Machine<'a>,
     // The choices that were made, with equal consecutive ones joined.
     made: Vec<Repeat>,
     // The cursor: no thread below it can move.
-    first: Tid,
+    pub(crate) first: Tid,
     // No thread that is marked here can move. Thread t is at index t - 1.
     asleep: Vec<bool>,
 }
@@ -139,7 +139,7 @@ impl<'a> Kernel<'a> {
 
     // Makes a choice and stores the entry that it adds, or none, in `added`. Returns whether it adds one. If memory runs out, the run and
     // `added` are unchanged.
-    fn choose(
+    pub(crate) fn choose(
         &mut self,
         alloc: Global,
         choice: Choice,

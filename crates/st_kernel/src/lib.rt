@@ -4,7 +4,9 @@
 
 pub mod kernel;
 pub mod play;
+pub mod runners;
 mod waking;
 
 pub use kernel::{Kernel, StepFault};
 pub use play::PlayFault;
+pub use runners::Work;

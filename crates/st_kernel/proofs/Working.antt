@@ -1,0 +1,148 @@
+-- What a worker is at, by its turn, and what it answers once it is ready.
+use Rattle.std.proofs.Common.{◌≡◌, ◌≤◌, ◌∙◌, ◌||◌, ℕ, Bool, true, false, cond, List, Option, Some, None, refl, ap, sym, subst, true≢false}
+use Rattle.std.proofs.lemmas.Option.{none-some}
+use Rattle.st_calls.specs.declared.judged.Snapshot.{Snapshot}
+use Rattle.st_effects.specs.Progress.{Progress, Word, Look, Stuck, Ready as Whole}
+use Rattle.st_filter.specs.Judging.{verdict}
+use Rattle.st_messages.specs.Messages.{HasWorker}
+use Rattle.st_report.specs.ScheduleText.{spelled_choices}
+use Rattle.st_report.specs.declared.schedule.Repeat.{Repeat}
+use Rattle.st_trace.specs.declared.entry.Choice.TheVariants.{Worker}
+use Rattle.st_trace.specs.declared.entry.Entry.TheVariants.{Answered}
+use Rattle.st_law.specs.declared.input.Input.{Input}
+use Rattle.st_law.specs.Machine.{answer_entry, state_of_run, turn_entry, worker_entry, working_entry, IsEnabled}
+use Rattle.st_law.specs.Meaning.{IsWorker}
+use Rattle.st_law.specs.Messages.{Head}
+use Rattle.st_law.specs.State.{State, is_live, is_ready, is_worker, progress_in, read_at, seq_at_work, snapshot_in, snapshot_of_progress, worker_at}
+use Rattle.st_law.proofs.Asked.{workers}
+use Rattle.st_law.proofs.Turns.{at_live}
+use Rattle.st_workers.specs.Refinement.{IsTurn, RepresentsMessages, at_work}
+use Rattle.st_workers.specs.UnderWay.{UnderWay, turn_of_worker}
+use Rattle.st_workers.specs.declared.turn.Turn.{Turn}
+use Rattle.st_workers.specs.declared.turn.Turn.TheVariants.{Idle, Working, Ready}
+use Rattle.st_decide.specs.Machine.{Refines, Running}
+use Rattle.st_kernel.specs.Kernel.{RunSoFar, IsRunSoFar, state_in}
+use Rattle.st_kernel.specs.Runners.{copies_at, kept_copies}
+
+number_same : (st : State) (o : Option ℕ) → seq_at_work st o ≡ at_work st.messages (is_live st) o
+number_same st None = refl
+number_same st (Some q) = refl
+
+or_right : (a b : Bool) → b ≡ true → (a || b) ≡ true
+or_right true b e = refl
+or_right false b e = e
+
+-- an incomplete message has no copies
+no_copies : (q : ℕ) (o : Option Head) (p : Progress) → is_ready p ≡ false → snapshot_of_progress q o p ≡ None
+no_copies q o (Whole args) e = absurd (true≢false e)
+no_copies q (Some head) (Word part place) e = refl
+no_copies q (Some head) (Look part name) e = refl
+no_copies q (Some head) (Stuck errno) e = refl
+no_copies q None (Word part place) e = refl
+no_copies q None (Look part name) e = refl
+no_copies q None (Stuck errno) e = refl
+
+-- a message with copies is complete
+complete : (q : ℕ) (o : Option Head) (p : Progress) (s : Snapshot) → snapshot_of_progress q o p ≡ Some s → is_ready p ≡ true
+complete q o (Whole args) s e = refl
+complete q o (Word part place) s e = absurd (none-some s (sym (no_copies q o (Word part place) refl) ∙ e))
+complete q o (Look part name) s e = absurd (none-some s (sym (no_copies q o (Look part name) refl) ∙ e))
+complete q o (Stuck errno) s e = absurd (none-some s (sym (no_copies q o (Stuck errno) refl) ∙ e))
+
+-- ---- by the turn of the machine that runs
+
+module _ (i : Input) (st : State) (kept : UnderWay) (w : ℕ) (is : RepresentsMessages i st (is_live st) kept) where
+  module _ (turn_is : turn_of_worker kept w ≡ Some Idle) where
+    pub idle_at : worker_at st w ≡ None
+    idle_at = number_same st (st.turns w) ∙ is.agrees.workers w Idle turn_is
+
+    pub idle_keeps : copies_at st (worker_at st w) ≡ None
+    idle_keeps = ap (copies_at st) idle_at
+
+  module _ (q : ℕ) (turn_is : turn_of_worker kept w ≡ Some (Working q)) where
+    its_turn : IsTurn st.messages (is_live st) (st.turns w) (Working q)
+    its_turn = is.agrees.workers w (Working q) turn_is
+
+    pub working_at : worker_at st w ≡ Some q
+    working_at = at_live st w q its_turn.0 its_turn.1
+
+    pub working_keeps : copies_at st (worker_at st w) ≡ None
+    working_keeps = ap (copies_at st) working_at ∙ no_copies q (st.messages q).head (progress_in st q) its_turn.2
+
+  module _ (q : ℕ) (s : Snapshot) (turn_is : turn_of_worker kept w ≡ Some (Ready q s)) where
+    turn_ready : IsTurn st.messages (is_live st) (st.turns w) (Ready q s)
+    turn_ready = is.agrees.workers w (Ready q s) turn_is
+
+    pub ready_at : worker_at st w ≡ Some q
+    ready_at =
+        let whole : is_ready (progress_in st q) ≡ true = complete q (st.messages q).head (progress_in st q) s turn_ready.1 in
+        ap (seq_at_work st) turn_ready.0 ∙ ap (λ (b : Bool). cond b (Some q) None) (or_right (is_live st q) (is_ready (progress_in st q)) whole)
+
+    pub ready_keeps : copies_at st (worker_at st w) ≡ Some s
+    ready_keeps = ap (copies_at st) ready_at ∙ turn_ready.1
+
+-- ---- by what the law keeps
+
+module _ (i : Input) (st : State) (w : ℕ) (there : IsWorker i w) (s : Snapshot) where
+  answer_by : (q : ℕ) (p : Progress) → is_ready p ≡ true → snapshot_of_progress q (st.messages q).head p ≡ Some s → working_entry i st w q p ≡ answer_entry i st w q (Some s)
+  answer_by q (Whole args) whole e = ap (answer_entry i st w q) e
+  answer_by q (Word part place) whole e = absurd (true≢false (sym whole))
+  answer_by q (Look part name) whole e = absurd (true≢false (sym whole))
+  answer_by q (Stuck errno) whole e = absurd (true≢false (sym whole))
+
+  -- a ready worker is at a number, and answers it with the verdict of the filters on its copies
+  abbrev pub Answers : Type 0
+  Answers = (q : ℕ) × (worker_at st w ≡ Some q) × (snapshot_in st q ≡ Some s) × (worker_entry i st w ≡ Some (Answered w s (verdict (read_at i st s.policy s.rule) s) (is_live st q)))
+
+  by_number : (o : Option ℕ) → worker_at st w ≡ o → copies_at st o ≡ Some s → Answers
+  by_number None at e = absurd (none-some s e)
+  by_number (Some q) at e = (
+    q,
+    at,
+    e,
+    ap (λ (b : Bool). cond b (turn_entry i st w (worker_at st w)) None) ((workers i w).1 there) ∙ ap (turn_entry i st w) at
+        ∙ answer_by q (progress_in st q) (complete q (st.messages q).head (progress_in st q) s e) e,
+  )
+
+  pub ready_answers : copies_at st (worker_at st w) ≡ Some s → Answers
+  ready_answers = by_number (worker_at st w) refl
+
+-- ---- in a run so far
+
+-- the number of a turn, and its copies
+abbrev pub number_of : Turn → Option ℕ
+number_of Idle = None
+number_of (Working q) = Some q
+number_of (Ready q s) = Some q
+
+abbrev pub copies_of : Turn → Option Snapshot
+copies_of Idle = None
+copies_of (Working q) = None
+copies_of (Ready q s) = Some s
+
+-- a turn has the number that the worker is at, and the copies that it is ready with
+abbrev pub IsTurnIn : State → ℕ → Turn → Type 0
+IsTurnIn st w turn = (worker_at st w ≡ number_of turn) × (copies_at st (worker_at st w) ≡ copies_of turn)
+
+by_turn : (i : Input) (st : State) (kept : UnderWay) (w : ℕ) → RepresentsMessages i st (is_live st) kept → (turn : Turn) → turn_of_worker kept w ≡ Some turn → IsTurnIn st w turn
+by_turn i st kept w is Idle turn_is = (idle_at i st kept w is turn_is, idle_keeps i st kept w is turn_is)
+by_turn i st kept w is (Working q) turn_is = (working_at i st kept w is q turn_is, working_keeps i st kept w is q turn_is)
+by_turn i st kept w is (Ready q s) turn_is = (ready_at i st kept w is q s turn_is, ready_keeps i st kept w is q s turn_is)
+
+module _ (m : Running) (made : List Repeat) (first : ℕ) (asleep : List Bool) (so_far : IsRunSoFar m made first asleep) (now : RunSoFar) (view_is : record { input = m.input; choices = spelled_choices made } ≡ now) (w : ℕ) where
+  pub at_turn : (turn : Turn) → turn_of_worker m.workers w ≡ Some turn → IsTurnIn (state_in now) w turn
+  at_turn turn turn_is =
+      subst (λ (k : RunSoFar). IsTurnIn (state_in k) w turn) view_is
+      (by_turn m.input (state_of_run m.input (spelled_choices made)) m.workers w so_far.machine.workers turn turn_is)
+
+  -- a worker of the input is one of the machine's
+  pub worker_here : IsWorker now.input w → HasWorker m.workers.calls w
+  worker_here there =
+      let same : now.input.options.workers ≡ m.workers.calls.workers = ap (λ (k : RunSoFar). k.input.options.workers) (sym view_is) ∙ sym so_far.machine.workers.workers in
+      (there.0, subst (λ (n : ℕ). w ≤ n) same there.1)
+
+-- a ready worker is enabled
+pub ready_enabled : (now : RunSoFar) (w : ℕ) → IsWorker now.input w → (s : Snapshot) → kept_copies now w ≡ Some s → IsEnabled now.input (state_in now) (Worker w)
+ready_enabled now w there s kept =
+    let own = ready_answers now.input (state_in now) w there s kept in
+    (Answered w s (verdict (read_at now.input (state_in now) s.policy s.rule) s) (is_live (state_in now) own.0), own.3)

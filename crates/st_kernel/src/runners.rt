@@ -1,0 +1,129 @@
+// What runners ask of a run, and how a worker moves until it is ready. A runner judges a ready worker's copies by itself.
+ghost use Rattle.std.specs.Prelude.{◌≡◌, ◌↔◌, true, None, Some, IfSome, IfOk, OnErr};
+ghost use Rattle.st_kernel.specs.Kernel.{state_in, IsPlayed};
+ghost use Rattle.st_kernel.specs.Runners.{kept_copies, HasEnabled, IsWork};
+ghost use Rattle.st_law.specs.Machine.{IsSettled};
+ghost use Rattle.st_law.specs.Meaning.{IsWorker};
+ghost use Rattle.st_law.specs.State.{thread_count, worker_at};
+ghost use Rattle.st_trace.specs.declared.entry.Choice.TheVariants as choices;
+
+use crate::kernel::Kernel;
+use st_base::{Seq, Shared, Worker};
+use st_calls::Snapshot;
+use st_trace::{Choice, Entry};
+use st_workers::Turn;
+use std::alloc::{AllocError, Global};
+
+/// What a worker did when it was asked to move.
+#[derive(Debug, Drop)]
+pub enum Work {
+    /// Nothing: it isn't enabled.
+    Idle,
+    /// Nothing: it is ready, and these are the copies to judge.
+    Judge(Shared<Snapshot>),
+    /// Its choice was made.
+    Went,
+}
+
+impl<'a> Kernel<'a> {
+    // Whether some thread can move. No thread below the cursor can.
+    fn has_thread_enabled(&self) -> bool
+        ensures enabled { HasEnabled choices.Thread (thread_count self.now.input) self.now result }
+        ensures played { IsPlayed self.now }
+    {
+        for tid in self.first..self.machine.view().thread_count() + 1 {
+            if self.enabled(Choice::Thread(tid)) {
+                return true;
+            }
+        }
+        false
+    }
+
+    // Whether some worker can move.
+    fn has_worker_enabled(&self) -> bool
+        ensures { HasEnabled choices.Worker self.now.input.options.workers self.now result }
+    {
+        for worker in 1..self.machine.view().worker_count() + 1 {
+            if self.enabled(Choice::Worker(worker)) {
+                return true;
+            }
+        }
+        false
+    }
+
+    /// Whether no choice is enabled. It takes no memory.
+    pub fn settled(&self) -> bool
+        ensures { (result ≡ true) ↔ IsSettled self.now.input (state_in self.now) }
+    {
+        if self.has_thread_enabled() {
+            return false;
+        }
+        if self.has_worker_enabled() {
+            return false;
+        }
+        !self.enabled(Choice::Operator)
+    }
+
+    /// The number that a worker is at; none iff it is idle.
+    pub fn working_on(&self, worker: Worker) -> Option<Seq>
+        requires { IsWorker self.now.input worker }
+        ensures { result ≡ worker_at (state_in self.now) worker }
+    {
+        let machine = self.machine.view();
+        match machine.workers.turn(worker) {
+            Turn::Idle => None,
+            Turn::Working(seq) => Some(*seq),
+            Turn::Ready(seq, _) => Some(*seq),
+        }
+    }
+
+    // The copies that a worker is ready with; none iff it isn't ready.
+    fn sealed(&self, worker: Worker) -> Option<&Shared<Snapshot>>
+        requires { IsWorker self.now.input worker }
+        ensures none { result ≡ None → kept_copies self.now worker ≡ None }
+        ensures some { IfSome result (λ copies. kept_copies self.now worker ≡ Some copies.now) }
+    {
+        let machine = self.machine.view();
+        match machine.workers.turn(worker) {
+            Turn::Ready(_, copies) => Some(copies),
+            Turn::Idle => None,
+            Turn::Working(_) => None,
+        }
+    }
+
+    /// The copies that a worker is ready with, which were sealed in the step that made it ready; none iff it isn't ready. It takes no
+    /// memory.
+    pub fn kept(&self, worker: Worker) -> Option<&Snapshot>
+        requires { IsWorker self.now.input worker }
+        ensures none { result ≡ None → kept_copies self.now worker ≡ None }
+        ensures some { IfSome result (λ copies. kept_copies self.now worker ≡ Some copies.now) }
+    {
+        match self.sealed(worker) {
+            Some(copies) => Some(copies.get()),
+            None => None,
+        }
+    }
+
+    /// Moves a worker, unless it is ready: then its copies are returned, and nothing changes. The entry that a move adds is stored in
+    /// `added`. If memory runs out, the run is unchanged.
+    pub fn work(
+        &mut self,
+        alloc: Global,
+        worker: Worker,
+        added: &mut Option<Entry>,
+    ) -> Result<Work, AllocError>
+        requires { IsWorker self.old.input worker }
+        ensures work { IfOk result (λ work. IsWork self.old worker work added.new self.new) }
+        ensures err { OnErr result (self.new ≡ self.old) }
+    {
+        if let Some(copies) = self.sealed(worker) {
+            let judged = copies.share()?;
+            return Ok(Work::Judge(judged));
+        }
+        if self.choose(alloc, Choice::Worker(worker), added)? {
+            Ok(Work::Went)
+        } else {
+            Ok(Work::Idle)
+        }
+    }
+}
