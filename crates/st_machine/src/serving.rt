@@ -1,7 +1,7 @@
 // The steps of workers. Each changes the messages as its entry says, and stores the entry in the caller's `added`.
 ghost use Rattle.std.specs.Prelude.{◌≡◌, ◌<◌, ℕ, Some, OnOk, OnErr};
 ghost use Rattle.st_decide.specs.Machine.{HasTask, IsStep, SameState};
-ghost use Rattle.st_machine.specs.Serving.{is_applied};
+ghost use Rattle.st_machine.specs.Serving.{is_applied, IsVerdictFor};
 ghost use Rattle.st_messages.specs.Messages.{HasWorker};
 ghost use Rattle.st_trace.specs.declared.entry.Choice.TheVariants.{Worker};
 ghost use Rattle.st_workers.specs.declared.task.Task.TheVariants as tasks;
@@ -9,6 +9,7 @@ ghost use Rattle.st_workers.specs.declared.task.Task.TheVariants as tasks;
 use crate::machine::Machine;
 use crate::placing::{leave, leave_none};
 use st_base::{Drawing, Errno, Pid, Worker};
+use st_calls::Verdict;
 use st_messages::Delivered;
 use st_trace::Entry;
 use st_workers::Task;
@@ -199,6 +200,17 @@ impl<'a> Machine<'a> {
     {
         let copies = self.workers.copies(worker);
         let verdict = self.answers.compiled().decide(copies);
+        self.answer(worker, verdict, added);
+    }
+
+    /// Lets a ready worker answer with a verdict, which is that of the filters that were read on its copies, and stores the entry that this
+    /// adds in `added`. It takes no memory.
+    pub fn answer(&mut self, worker: Worker, verdict: Verdict, added: &mut Option<Entry>)
+        requires task { HasTask self.old worker tasks.Answer }
+        requires verdict { IsVerdictFor self.old worker verdict }
+        ensures step { IsStep self.old (Worker worker) added.new self.new }
+        ensures input { self.new.input ≡ self.old.input }
+    {
         let (_, snapshot, delivered) = self.workers.answer(worker, verdict);
         leave(
             added,

@@ -1,38 +1,22 @@
-use Rattle.std.proofs.Common.{List, ◌≡◌, Some, ap, sym, subst, ◌∙◌}
-use Rattle.st_trace.specs.declared.entry.Choice.TheVariants as choice
-use Rattle.st_trace.specs.declared.entry.Entry.TheVariants as entry
-use Rattle.st_decide.specs.Machine.{HasTask, IsStep, Running}
-use Rattle.st_machine.proofs.Served.{answered, applied_as, left_as, running_step, same_copies, with_workers}
-use Rattle.st_workers.specs.declared.task.Task.TheVariants as tasks
+use Rattle.std.proofs.Common.{◌≡◌, ◌∙◌, List, Some, ap, sym, subst}
 use Rattle.st_calls.specs.declared.judged.Snapshot.{Snapshot}
+use Rattle.st_decide.specs.Machine.{Running}
 use Rattle.st_filter.specs.Judged.{verdict_under}
 use Rattle.st_filter.specs.declared.set.BinaryPolicy.{BinaryPolicy}
-use Rattle.st_messages.specs.Messages.{is_live_number}
+use Rattle.st_workers.specs.UnderWay.{turn_of_worker}
+use Rattle.st_workers.specs.declared.turn.Turn.TheVariants.{Ready}
 use Rattle.st_machine.proofs.Running.{running_of}
+use Rattle.st_machine.proofs.Served.{same_copies}
 use Rattle.st_machine.proofs.machine.Machine.answer_of.Goals as goal
 
-abbrev old : goal.After-leave → Running
-old c = running_of c.self.inside
-
-task : (c : goal.After-leave) → HasTask (old c) c.args.worker tasks.Answer
-task c = subst (λ (m : Running). HasTask m c.args.worker (tasks.Answer)) (sym c.self.view_is) c.requires.task
-
--- the copies that were judged are those of the answer
-judged : (c : goal.After-leave) → c.decide-verdict.result ≡ verdict_under c.self.inside.input.now.policies c.answer-snapshot.result.1
-judged c =
+-- the copies that were judged are those that the worker is ready with
+pub answer-requires-clause-verdict : goal.answer-requires-clause-verdict
+answer-requires-clause-verdict c q s ready =
+    let m : Running = running_of c.self.inside in
     let copies : Snapshot = c.copies-copies.result.now in
-    let same : copies ≡ c.answer-snapshot.result.1 = same_copies c.self.inside.workers c.args.worker c.copies-copies.ensures.0 c.answer-snapshot.result.0 copies c.answer-snapshot.result.1 c.copies-copies.ensures.1 c.answer-snapshot.ensures.copies in
-    c.decide-verdict.ensures
+    let here : turn_of_worker m.workers c.args.worker ≡ Some (Ready q s) = subst (λ (k : Running). turn_of_worker k.workers c.args.worker ≡ Some (Ready q s)) (sym c.self.view_is) ready in
+    let same : copies ≡ s = same_copies m.workers c.args.worker c.copies-copies.ensures.0 q copies s c.copies-copies.ensures.1 here in
+    subst (λ (k : Running). c.decide-verdict.result ≡ verdict_under k.input.policies s) c.self.view_is
+    (c.decide-verdict.ensures
     ∙ ap (λ (policies : List BinaryPolicy). verdict_under policies copies) (c.compiled.ensures ∙ c.self.invariant.is.answers.read)
-    ∙ ap (verdict_under c.self.inside.input.now.policies) same
-
-step : (c : goal.After-leave) → IsStep (old c) (choice.Worker c.args.worker) (Some (entry.Answered c.args.worker c.answer-snapshot.result.1 c.decide-verdict.result c.is_applied.result)) (with_workers (old c) c.answer-snapshot.new.self)
-step c = answered (old c) c.args.worker c.answer-snapshot.new.self c.answer-snapshot.result.0 c.answer-snapshot.result.1 c.decide-verdict.result c.is_applied.result c.answer-snapshot.ensures.copies (judged c)
-    (λ i st alive kept. c.is_applied.ensures ∙ applied_as c.answer-snapshot.result.2 (is_live_number c.self.inside.workers.calls c.answer-snapshot.result.0) c.answer-snapshot.ensures.applied ∙ c.answer-snapshot.ensures.lives i st alive kept)
-    (task c) c.answer-snapshot.ensures.kept
-
-pub invariant_of-self : goal.invariant_of-self
-invariant_of-self c = running_step (old c) (with_workers (old c) c.answer-snapshot.new.self) (choice.Worker c.args.worker) (entry.Answered c.args.worker c.answer-snapshot.result.1 c.decide-verdict.result c.is_applied.result) c.self.invariant (step c)
-
-pub returns-clause-step : goal.returns-clause-step
-returns-clause-step c = left_as _ _ (choice.Worker c.args.worker) _ _ c.leave.ensures (subst (λ (m : Running). IsStep m (choice.Worker c.args.worker) (Some (entry.Answered c.args.worker c.answer-snapshot.result.1 c.decide-verdict.result c.is_applied.result)) (with_workers (old c) c.answer-snapshot.new.self)) c.self.view_is (step c))
+    ∙ ap (verdict_under m.input.policies) same)

@@ -1,0 +1,32 @@
+use Rattle.std.proofs.Common.{◌≡◌, Some, sym, subst, ◌∙◌}
+use Rattle.st_trace.specs.declared.entry.Choice.TheVariants as choice
+use Rattle.st_trace.specs.declared.entry.Entry.TheVariants as entry
+use Rattle.st_decide.specs.Machine.{HasTask, IsStep, Running}
+use Rattle.st_machine.proofs.Served.{answered, applied_as, left_as, running_step, with_workers}
+use Rattle.st_workers.specs.declared.task.Task.TheVariants as tasks
+use Rattle.st_filter.specs.Judged.{verdict_under}
+use Rattle.st_machine.specs.Serving.{IsVerdictFor}
+use Rattle.st_messages.specs.Messages.{is_live_number}
+use Rattle.st_machine.proofs.Running.{running_of}
+use Rattle.st_machine.proofs.machine.Machine.answer.Goals as goal
+
+abbrev old : goal.After-leave → Running
+old c = running_of c.self.inside
+
+task : (c : goal.After-leave) → HasTask (old c) c.args.worker tasks.Answer
+task c = subst (λ (m : Running). HasTask m c.args.worker (tasks.Answer)) (sym c.self.view_is) c.requires.task
+
+-- the verdict is that on the copies of the answer
+judged : (c : goal.After-leave) → c.args.verdict ≡ verdict_under c.self.inside.input.now.policies c.answer-snapshot.result.1
+judged c = subst (λ (m : Running). IsVerdictFor m c.args.worker c.args.verdict) (sym c.self.view_is) c.requires.verdict c.answer-snapshot.result.0 c.answer-snapshot.result.1 c.answer-snapshot.ensures.copies
+
+step : (c : goal.After-leave) → IsStep (old c) (choice.Worker c.args.worker) (Some (entry.Answered c.args.worker c.answer-snapshot.result.1 c.args.verdict c.is_applied.result)) (with_workers (old c) c.answer-snapshot.new.self)
+step c = answered (old c) c.args.worker c.answer-snapshot.new.self c.answer-snapshot.result.0 c.answer-snapshot.result.1 c.args.verdict c.is_applied.result c.answer-snapshot.ensures.copies (judged c)
+    (λ i st alive kept. c.is_applied.ensures ∙ applied_as c.answer-snapshot.result.2 (is_live_number c.self.inside.workers.calls c.answer-snapshot.result.0) c.answer-snapshot.ensures.applied ∙ c.answer-snapshot.ensures.lives i st alive kept)
+    (task c) c.answer-snapshot.ensures.kept
+
+pub invariant_of-self : goal.invariant_of-self
+invariant_of-self c = running_step (old c) (with_workers (old c) c.answer-snapshot.new.self) (choice.Worker c.args.worker) (entry.Answered c.args.worker c.answer-snapshot.result.1 c.args.verdict c.is_applied.result) c.self.invariant (step c)
+
+pub returns-clause-step : goal.returns-clause-step
+returns-clause-step c = left_as _ _ (choice.Worker c.args.worker) _ _ c.leave.ensures (subst (λ (m : Running). IsStep m (choice.Worker c.args.worker) (Some (entry.Answered c.args.worker c.answer-snapshot.result.1 c.args.verdict c.is_applied.result)) (with_workers (old c) c.answer-snapshot.new.self)) c.self.view_is (step c))
