@@ -1,4 +1,4 @@
-ghost use Rattle.std.specs.Prelude.{◌≡◌, ◌++◌, ◌<◌, ◌∷◌, [], ℕ, List, length, vec_capacity, vec_len, IfOk, OnOk};
+ghost use Rattle.std.specs.Prelude.{◌≡◌, ◌++◌, ◌<◌, ◌∷◌, ◌+◌, ◌≤◌, [], ℕ, List, length, vec_capacity, vec_len, IfOk, OnOk};
 ghost use Rattle.st_law.specs.Machine.{run};
 ghost use Rattle.st_law.specs.Schedules.{Choices, played};
 ghost use Rattle.st_law.specs.declared.input.Input.{Input};
@@ -53,7 +53,9 @@ fn joins(last: Repeat, choice: Choice) -> bool
 /// another choice or is full.
 pub fn note_choice(repeats: &mut Vec<Repeat>, choice: Choice)
     requires room { vec_len repeats.old < vec_capacity repeats.old }
-    ensures { repeats.new.items ≡ repeats_with repeats.old.items choice }
+    ensures made { repeats.new.items ≡ repeats_with repeats.old.items choice }
+    ensures length { vec_len repeats.new ≤ vec_len repeats.old + 1 }
+    ensures capacity { vec_capacity repeats.new ≡ vec_capacity repeats.old }
 {
     let count = repeats.len();
     if count > 0 && joins(repeats[count - 1], choice) {
