@@ -2,6 +2,7 @@ mod RunsSoFar
 mod Cursors
 mod Plays
 mod Rests
+mod Room
 mod Settled
 mod Unwoken
 mod Woken

@@ -13,16 +13,15 @@ use Rattle.st_law.specs.declared.input.Input.{Input}
 use Rattle.st_law.specs.Machine.{answer_entry, state_of_run, turn_entry, worker_entry, working_entry, IsEnabled}
 use Rattle.st_law.specs.Meaning.{IsWorker}
 use Rattle.st_law.specs.Messages.{Head}
-use Rattle.st_law.specs.State.{State, is_live, is_ready, is_worker, progress_in, read_at, seq_at_work, snapshot_in, snapshot_of_progress, worker_at}
+use Rattle.st_law.specs.State.{State, is_live, is_ready, progress_in, read_at, seq_at_work, snapshot_in, snapshot_of_progress, worker_at}
 use Rattle.st_law.proofs.Asked.{workers}
 use Rattle.st_law.proofs.Turns.{at_live}
 use Rattle.st_workers.specs.Refinement.{IsTurn, RepresentsMessages, at_work}
 use Rattle.st_workers.specs.UnderWay.{UnderWay, turn_of_worker}
 use Rattle.st_workers.specs.declared.turn.Turn.{Turn}
 use Rattle.st_workers.specs.declared.turn.Turn.TheVariants.{Idle, Working, Ready}
-use Rattle.st_decide.specs.Machine.{Refines, Running}
-use Rattle.st_kernel.specs.Kernel.{RunSoFar, IsRunSoFar, state_in}
-use Rattle.st_kernel.specs.Runners.{copies_at, kept_copies}
+use Rattle.st_decide.specs.Machine.{Running}
+use Rattle.st_kernel.specs.Kernel.{RunSoFar, IsRunSoFar, copies_at, kept_copies, state_in}
 
 number_same : (st : State) (o : Option ℕ) → seq_at_work st o ≡ at_work st.messages (is_live st) o
 number_same st None = refl

@@ -1,12 +1,13 @@
 -- The abstract state of the kernel, a run so far, and how a choice, `rest` or a line of a schedule continues it.
-use Rattle.std.specs.Prelude.{◌≡◌, ◌≤◌, ◌<◌, ℕ, suc, Bool, true, false, List, [], ◌∷◌, ◌++◌, length, Option, Some, None}
+use Rattle.std.specs.Prelude.{◌≡◌, ◌≤◌, ◌<◌, ◌+◌, ℕ, zero, suc, if◌then◌else◌, Bool, true, false, is_some, List, [], ◌∷◌, ◌++◌, length, Option, Some, None}
+use Rattle.st_calls.specs.declared.judged.Snapshot.{Snapshot}
 use Rattle.st_trace.specs.declared.entry.Choice.{Choice}
 use Rattle.st_trace.specs.declared.entry.Entry.{Entry}
 use Rattle.st_law.specs.declared.input.Input.{Input}
 use Rattle.st_law.specs.Inputs.{IsStartable}
 use Rattle.st_law.specs.Machine.{entry_of, run, state_of_run, thread_entry}
 use Rattle.st_law.specs.Schedules.{EnabledChoice, Played, first_enabled, most_steps, rest_from}
-use Rattle.st_law.specs.State.{State, thread_count}
+use Rattle.st_law.specs.State.{State, snapshot_in, thread_count, worker_at}
 use Rattle.st_report.specs.ScheduleText.{repeats_of, spelled_choices}
 use Rattle.st_report.specs.declared.schedule.Repeat.{Repeat}
 use Rattle.st_decide.specs.Machine.{Refines, Running}
@@ -94,3 +95,23 @@ pub record IsRunSoFar (m : Running) (kept : List Repeat) (first : ℕ) (asleep :
   pub to : first ≤ suc (thread_count m.input)
   pub marked : AreStill m.input (state_of_run m.input (spelled_choices kept)) asleep
   pub count : length asleep ≡ thread_count m.input
+
+-- ---- workers that are ready
+
+-- the copies of a number, if there is one and they are complete
+abbrev pub copies_at : State → Option ℕ → Option Snapshot
+copies_at st None = None
+copies_at st (Some q) = snapshot_in st q
+
+-- the copies that a worker is ready with; none if it isn't ready
+abbrev pub kept_copies : RunSoFar → ℕ → Option Snapshot
+kept_copies so_far worker = copies_at (state_in so_far) (worker_at (state_in so_far) worker)
+
+-- how many of the first workers are ready
+abbrev pub ready_workers : State → ℕ → ℕ
+ready_workers st zero = 0
+ready_workers st (suc w) = if is_some (copies_at st (worker_at st (suc w))) then suc (ready_workers st w) else ready_workers st w
+
+-- the invariant: a list of this length and capacity has room for the answer of each ready worker
+abbrev pub HasRoom : RunSoFar → ℕ → ℕ → Type 0
+HasRoom so_far count capacity = ready_workers (state_in so_far) so_far.input.options.workers + count ≤ capacity

@@ -1,12 +1,10 @@
 -- What a runner asks of a run, and what it does.
 use Rattle.std.specs.Prelude.{◌≡◌, ◌≤◌, ℕ, Bool, true, false, Option, Some, None}
-use Rattle.st_calls.specs.declared.judged.Snapshot.{Snapshot}
 use Rattle.st_trace.specs.declared.entry.Choice.{Choice}
 use Rattle.st_trace.specs.declared.entry.Choice.TheVariants.{Worker}
 use Rattle.st_trace.specs.declared.entry.Entry.{Entry}
 use Rattle.st_law.specs.Machine.{entry_of, IsEnabled}
-use Rattle.st_law.specs.State.{State, snapshot_in, worker_at}
-use Rattle.st_kernel.specs.Kernel.{RunSoFar, state_in, with_choice}
+use Rattle.st_kernel.specs.Kernel.{RunSoFar, kept_copies, state_in, with_choice}
 use Rattle.st_kernel.specs.declared.runners.Work.{Work}
 use Rattle.st_kernel.specs.declared.runners.Work.TheVariants.{Idle, Judge, Went}
 
@@ -14,15 +12,6 @@ use Rattle.st_kernel.specs.declared.runners.Work.TheVariants.{Idle, Judge, Went}
 abbrev pub HasEnabled : (ℕ → Choice) → ℕ → RunSoFar → Bool → Type 0
 HasEnabled of count so_far true = (n : ℕ) × IsEnabled so_far.input (state_in so_far) (of n)
 HasEnabled of count so_far false = (n : ℕ) → 1 ≤ n → n ≤ count → entry_of so_far.input (state_in so_far) (of n) ≡ None
-
--- the copies of a number, if there is one and they are complete
-abbrev pub copies_at : State → Option ℕ → Option Snapshot
-copies_at st None = None
-copies_at st (Some q) = snapshot_in st q
-
--- the copies that a worker is ready with; none if it isn't ready
-abbrev pub kept_copies : RunSoFar → ℕ → Option Snapshot
-kept_copies so_far worker = copies_at (state_in so_far) (worker_at (state_in so_far) worker)
 
 -- what a worker did: it isn't enabled; it is ready with these copies, and has still to answer; or it isn't ready, and its choice was made,
 -- which adds this entry

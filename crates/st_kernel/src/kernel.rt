@@ -60,7 +60,7 @@ fn is_enabled(machine: &View<'_, '_>, choice: Choice) -> bool
 #[derive(Debug, Drop)]
 pub struct Kernel<'a> {
     pub(crate) machine: Machine<'a>,
-    // The choices that were made, with equal consecutive ones joined.
+    // The choices that were made, with equal consecutive ones joined. There is room for the answer of each ready worker.
     made: Vec<Repeat>,
     // The cursor: no thread below it can move.
     pub(crate) first: Tid,
@@ -72,7 +72,8 @@ impl<'a> Model for Kernel<'a> {
     ghost use Rattle.std.specs.Coded.{codes};
     ghost use Rattle.st_filter.specs.FormulaCode.{formula_code};
     ghost use Rattle.st_report.specs.ScheduleText.{spelled_choices};
-    ghost use Rattle.st_kernel.specs.Kernel.{RunSoFar, IsRunSoFar};
+    ghost use Rattle.std.specs.Prelude.{vec_capacity, vec_len};
+    ghost use Rattle.st_kernel.specs.Kernel.{HasRoom, RunSoFar, IsRunSoFar};
 
     ghost Value = { RunSoFar };
 
@@ -80,7 +81,7 @@ impl<'a> Model for Kernel<'a> {
 
     ghost view = { λ k. record { input = k.machine.input; choices = spelled_choices k.made.items } };
 
-    ghost invariant = { λ k. IsRunSoFar k.machine k.made.items k.first k.asleep.items };
+    ghost invariant = { λ k. IsRunSoFar k.machine k.made.items k.first k.asleep.items × HasRoom (record { input = k.machine.input; choices = spelled_choices k.made.items }) (vec_len k.made) (vec_capacity k.made) };
 }
 
 impl<'a> Kernel<'a> {
@@ -137,8 +138,8 @@ impl<'a> Kernel<'a> {
         is_enabled(&self.machine.view(), choice)
     }
 
-    // Makes a choice and stores the entry that it adds, or none, in `added`. Returns whether it adds one. If memory runs out, the run and
-    // `added` are unchanged.
+    // Makes a choice and stores the entry that it adds, or none, in `added`. Returns whether it adds one. Room is made for this choice and
+    // for the answer of each worker, since any may be ready after it. If memory runs out, the run and `added` are unchanged.
     pub(crate) fn choose(
         &mut self,
         alloc: Global,
@@ -149,7 +150,8 @@ impl<'a> Kernel<'a> {
         ensures err { OnErr result (self.new ≡ self.old) }
         ensures place { OnErr result (added.new ≡ added.old) }
     {
-        self.made.reserve(1)?;
+        self.made
+            .reserve(1 + self.machine.view().worker_count() as usize)?;
         self.machine.choose(alloc, choice, added)?;
         match added {
             Some(entry) => {

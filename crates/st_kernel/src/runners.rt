@@ -1,7 +1,7 @@
 // What runners ask of a run, and how a worker moves until it is ready. A runner judges a ready worker's copies by itself.
 ghost use Rattle.std.specs.Prelude.{◌≡◌, ◌↔◌, true, None, Some, IfSome, IfOk, OnErr};
-ghost use Rattle.st_kernel.specs.Kernel.{state_in, IsPlayed};
-ghost use Rattle.st_kernel.specs.Runners.{kept_copies, HasEnabled, IsWork};
+ghost use Rattle.st_kernel.specs.Kernel.{kept_copies, state_in, IsPlayed};
+ghost use Rattle.st_kernel.specs.Runners.{HasEnabled, IsWork};
 ghost use Rattle.st_law.specs.Machine.{IsSettled};
 ghost use Rattle.st_law.specs.Meaning.{IsWorker};
 ghost use Rattle.st_law.specs.State.{thread_count, worker_at};

@@ -13,5 +13,5 @@ returns c =
     let st : State = state_of_run m.input (spelled_choices c.self.inside.made.items) in
     let here : c.is_enabled.result ≡ is_some (entry_of m.input st c.args.choice) =
     subst (λ (machine : Running). c.is_enabled.result ≡ is_some (entry_of machine.input st c.args.choice)) c.view.ensures
-    (c.is_enabled.ensures st (subst (λ (machine : Running). Refines machine st) (sym c.view.ensures) c.self.invariant.machine)) in
+    (c.is_enabled.ensures st (subst (λ (machine : Running). Refines machine st) (sym c.view.ensures) c.self.invariant.0.machine)) in
     subst (λ (so_far : RunSoFar). c.is_enabled.result ≡ is_some (entry_of so_far.input (state_in so_far) c.args.choice)) c.self.view_is here

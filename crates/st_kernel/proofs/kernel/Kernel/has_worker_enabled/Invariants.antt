@@ -1,6 +1,5 @@
 use Rattle.std.proofs.Common.{◌≡◌, ◌≤◌, ◌<◌, ℕ, suc, None}
 use Rattle.st_law.specs.Machine.{entry_of}
-use Rattle.st_law.specs.State.{thread_count}
 use Rattle.st_trace.specs.declared.entry.Choice.TheVariants.{Worker}
 use Rattle.st_kernel.specs.Kernel.{state_in}
 use Rattle.st_kernel.proofs.kernel.Kernel.has_worker_enabled.Given as goal

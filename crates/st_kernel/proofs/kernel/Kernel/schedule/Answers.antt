@@ -10,5 +10,5 @@ pub returns-clause-lawful : goal.returns-clause-lawful
 returns-clause-lawful c =
     let m = c.self.inside.machine in
     let choices = spelled_choices c.self.inside.made.items in
-    let lawful : Lawful m.input (run m.input choices) = run_lawful m.input c.self.invariant.machine.reached.startable choices in
+    let lawful : Lawful m.input (run m.input choices) = run_lawful m.input c.self.invariant.0.machine.reached.startable choices in
     subst (λ (so_far : RunSoFar). Lawful so_far.input (trace_of so_far)) c.self.view_is lawful

@@ -11,5 +11,5 @@ returns c =
     let m = c.self.inside.machine in
     let choices = spelled_choices c.self.inside.made.items in
     let session = c.session.result.now.filters in
-    let following : session ≡ session_at m.input (reverse (run m.input choices)) = c.session.ensures (state_of_run m.input choices) c.self.invariant.machine ∙ session_later m.input choices in
+    let following : session ≡ session_at m.input (reverse (run m.input choices)) = c.session.ensures (state_of_run m.input choices) c.self.invariant.0.machine ∙ session_later m.input choices in
     subst (λ (so_far : RunSoFar). session ≡ session_at so_far.input (reverse (trace_of so_far))) c.self.view_is following

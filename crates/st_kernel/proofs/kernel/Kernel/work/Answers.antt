@@ -1,7 +1,6 @@
 use Rattle.std.proofs.Common.{◌≡◌, ◌∙◌, Some, true, false, refl, ap, sym, subst}
 use Rattle.st_trace.specs.declared.entry.Choice.TheVariants.{Worker}
-use Rattle.st_kernel.specs.Kernel.{IsChosen}
-use Rattle.st_kernel.specs.Runners.{kept_copies}
+use Rattle.st_kernel.specs.Kernel.{IsChosen, kept_copies}
 use Rattle.st_kernel.proofs.Working.{ready_enabled}
 use Rattle.st_kernel.proofs.kernel.Kernel.work.Goals as goal
 
