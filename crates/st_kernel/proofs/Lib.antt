@@ -1,4 +1,5 @@
 mod RunsSoFar
+mod Answering
 mod Cursors
 mod Plays
 mod Rests

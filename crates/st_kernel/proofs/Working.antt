@@ -32,7 +32,7 @@ or_right true b e = refl
 or_right false b e = e
 
 -- an incomplete message has no copies
-no_copies : (q : ℕ) (o : Option Head) (p : Progress) → is_ready p ≡ false → snapshot_of_progress q o p ≡ None
+pub no_copies : (q : ℕ) (o : Option Head) (p : Progress) → is_ready p ≡ false → snapshot_of_progress q o p ≡ None
 no_copies q o (Whole args) e = absurd (true≢false e)
 no_copies q (Some head) (Word part place) e = refl
 no_copies q (Some head) (Look part name) e = refl
