@@ -1,16 +1,29 @@
--- An answer leaves one ready worker less.
+-- What the answer of a ready worker adds, and that one ready worker less is left.
 use native.Mathlib.Omega.{arith}
-use Rattle.std.proofs.Common.{◌≡◌, ◌≢◌, ◌≤◌, ◌<◌, ◌∙◌, ◌||◌, ℕ, zero, suc, Bool, true, false, cond, inl, inr, Option, Some, None, refl, ap, sym}
+use Rattle.std.proofs.Common.{◌≡◌, ◌≢◌, ◌≤◌, ◌<◌, ◌+◌, ◌∙◌, ◌||◌, ◌++◌, ◌∷◌, ℕ, zero, suc, Bool, true, false, cond, inl, inr, List, [], Option, Some, None, refl, ap, sym, subst}
 use Rattle.std.proofs.lemmas.Bool.{cases_eq, eq-eqb, ne_eqb}
+use Rattle.std.proofs.lemmas.Option.{none-some, same_Some}
 use Rattle.std.specs.Prelude.{is_some}
 use Rattle.st_calls.specs.declared.judged.Snapshot.{Snapshot}
 use Rattle.st_calls.specs.declared.judged.Verdict.{Verdict}
+use Rattle.st_filter.specs.Judged.{JudgedCall, verdict_under}
+use Rattle.st_report.specs.ScheduleText.{repeats_with, spelled_choices}
+use Rattle.st_report.specs.declared.schedule.Repeat.{Repeat}
+use Rattle.st_trace.specs.declared.entry.Choice.TheVariants.{Worker}
+use Rattle.st_trace.specs.declared.entry.Entry.{Entry}
 use Rattle.st_trace.specs.declared.entry.Entry.TheVariants.{Answered}
 use Rattle.st_law.specs.declared.input.Input.{Input}
-use Rattle.st_law.specs.Machine.{state_after}
+use Rattle.st_law.specs.Machine.{entry_of, state_after, state_of_run, IsEnabled}
+use Rattle.st_law.specs.Meaning.{IsWorker}
 use Rattle.st_law.specs.State.{State, is_live, is_ready, progress_in, seq_at_work, snapshot_in, worker_at}
-use Rattle.st_kernel.specs.Kernel.{copies_at, ready_workers}
-use Rattle.st_kernel.proofs.Working.{no_copies}
+use Rattle.st_workers.specs.UnderWay.{turn_of_worker}
+use Rattle.st_workers.specs.declared.turn.Turn.{Turn}
+use Rattle.st_workers.specs.declared.turn.Turn.TheVariants.{Idle, Working, Ready}
+use Rattle.st_decide.specs.Machine.{IsStep, Running}
+use Rattle.st_decide.proofs.Asked.{drawing_is}
+use Rattle.st_kernel.specs.Kernel.{RunSoFar, HasRoom, IsRunSoFar, copies_at, kept_copies, ready_workers, state_in, with_choice}
+use Rattle.st_kernel.proofs.RunsSoFar.{spelled_more, state_more}
+use Rattle.st_kernel.proofs.Working.{at_turn, copies_of, no_copies, ready_answers, ready_keeps}
 
 -- ---- the count of ready workers, if one is ready no more
 
@@ -75,3 +88,118 @@ module _ (i : Input) (st : State) (w : ℕ) (s : Snapshot) (verdict : Verdict) (
 
   pub answered_none : copies_at after (worker_at after w) ≡ None
   answered_none = ap (λ (b : Bool). copies_at after (seq_at_work after (cond b None (st.turns w)))) (eq-eqb w w refl)
+
+-- ---- a ready worker answers
+
+-- a worker is ready in a run so far
+pub record IsReadyIn (m : Running) (made : List Repeat) (first : ℕ) (asleep : List Bool) (w q : ℕ) (s : Snapshot) : Type 0 where
+  pub so_far : IsRunSoFar m made first asleep
+  pub there : IsWorker m.input w
+  pub turn_is : turn_of_worker m.workers w ≡ Some (Ready q s)
+
+-- what is so of a run before and after an answer with a judged call, and of the entry that it adds
+pub record HasAnswered (old : RunSoFar) (w : ℕ) (judged : JudgedCall) (added : Option Entry) (new : RunSoFar) : Type 0 where
+  pub ok : new ≡ with_choice old (Worker w)
+  pub enabled : IsEnabled old.input (state_in old) (Worker w)
+  pub entry : added ≡ entry_of old.input (state_in old) (Worker w)
+  pub kept : kept_copies old w ≡ Some judged.snapshot
+  pub answered : added ≡ Some (Answered w judged.snapshot judged.verdict (is_live (state_in old) judged.snapshot.seq))
+
+module _ (m : Running) (made : List Repeat) (first : ℕ) (asleep : List Bool) (w q : ℕ) (s : Snapshot) (ready : IsReadyIn m made first asleep w q s) where
+  abbrev pub here : RunSoFar
+  here = record { input = m.input; choices = spelled_choices made }
+
+  abbrev st : State
+  st = state_in here
+
+  -- the entry that its answer adds
+  abbrev pub its_answer : Entry
+  its_answer = Answered w s (verdict_under m.input.policies s) (is_live st s.seq)
+
+  abbrev new : State
+  new = state_after m.input st its_answer
+
+  pub its_copies : kept_copies here w ≡ Some s
+  its_copies = ready_keeps m.input st m.workers w ready.so_far.machine.workers q s ready.turn_is
+
+  pub adds_answer : entry_of m.input st (Worker w) ≡ Some its_answer
+  adds_answer =
+      let own = ready_answers m.input st w ready.there s its_copies in
+      own.3 ∙ ap (λ (n : ℕ). Some (Answered w s (verdict_under m.input.policies s) (is_live st n))) (sym (drawing_is st own.0 s own.2))
+
+  pub one_ready_less : ready_workers st m.input.options.workers ≡ suc (ready_workers new m.input.options.workers)
+  one_ready_less =
+      let v = verdict_under m.input.policies s in
+      let applied = is_live st s.seq in
+      one_less st new w ready.there.0 (answered_others m.input st w s v applied) (answered_none m.input st w s v applied) s its_copies m.input.options.workers ready.there.1
+
+  -- there is room for its choice
+  pub has_room : (count capacity : ℕ) → HasRoom here count capacity → count < capacity
+  has_room count capacity room = let less = one_ready_less in omega (arith, less, room)
+
+  -- and then still for the answers of the other workers
+  pub room_left : (then : RunSoFar) (count count_then capacity capacity_then : ℕ) → then.input ≡ m.input → state_in then ≡ new → count_then ≤ count + 1 → capacity_then ≡ capacity → HasRoom here count capacity → HasRoom then count_then capacity_then
+  room_left then count count_then capacity capacity_then same state_is more kept room =
+      let less = one_ready_less in
+      let now : ready_workers (state_in then) then.input.options.workers ≡ ready_workers new m.input.options.workers = λ k. ready_workers (state_is k) (same k).options.workers in
+      omega (arith, less, now, more, kept, room)
+
+  -- the entry that a step of the machine adds is this one
+  pub its_entry : (e : Entry) (then : Running) → IsStep m (Worker w) (Some e) then → e ≡ its_answer
+  its_entry e then step = same_Some e its_answer (sym (step st ready.so_far.machine).0 ∙ adds_answer)
+
+  pub adds_one : (then : Running) → IsStep m (Worker w) None then → ⊥
+  adds_one then step = none-some its_answer (sym (step st ready.so_far.machine).0 ∙ adds_answer)
+
+  module _ (input : Input) (same : input ≡ m.input) (made_then : List Repeat) (noted : made_then ≡ repeats_with made (Worker w)) where
+    abbrev pub there_then : RunSoFar
+    there_then = record { input = input; choices = spelled_choices made_then }
+
+    spelled : spelled_choices made_then ≡ spelled_choices made ++ Worker w ∷ []
+    spelled = ap spelled_choices noted ∙ spelled_more made (Worker w) ready.so_far.joined
+
+    pub one_choice_more : there_then ≡ with_choice here (Worker w)
+    one_choice_more = λ k. record { input = same k; choices = spelled k }
+
+    pub room_then : (count count_then capacity capacity_then : ℕ) → count_then ≤ count + 1 → capacity_then ≡ capacity → HasRoom here count capacity → HasRoom there_then count_then capacity_then
+    room_then count count_then capacity capacity_then more kept room =
+        room_left there_then count count_then capacity capacity_then same ((λ k. state_of_run (same k) (spelled k)) ∙ state_more m.input (spelled_choices made) (Worker w) its_answer adds_answer) more kept room
+
+    -- what an answer with a judged call is
+    pub has_answered : (old : RunSoFar) → here ≡ old → (judged : JudgedCall) → s ≡ judged.snapshot → judged.verdict ≡ verdict_under m.input.policies judged.snapshot → (e : Entry) → e ≡ its_answer → (added : Option Entry) → added ≡ Some e → HasAnswered old w judged added there_then
+    has_answered old view judged same_s verdict_is e e_is added added_is = subst (λ (k : RunSoFar). HasAnswered k w judged added there_then) view (record {
+      ok = one_choice_more;
+      enabled = (its_answer, adds_answer);
+      entry = added_is ∙ ap Some e_is ∙ sym adds_answer;
+      kept = its_copies ∙ ap Some same_s;
+      answered = added_is ∙ ap Some e_is ∙ (λ k. Some (Answered w (same_s k) (verdict_under m.input.policies (same_s k)) (is_live st (same_s k).seq))) ∙ ap (λ (v : Verdict). Some (Answered w judged.snapshot v (is_live st judged.snapshot.seq))) (sym verdict_is);
+    })
+
+-- a worker is ready with one snapshot
+pub one_snapshot : (o : Option Turn) (p q : ℕ) (one two : Snapshot) → o ≡ Some (Ready p one) → o ≡ Some (Ready q two) → one ≡ two
+one_snapshot o p q one two first second = same_Some one two (ap copies_of (same_Some (Ready p one) (Ready q two) (sym first ∙ second)))
+
+-- a turn that isn't ready has no copies
+pub not_ready : (turn : Turn) → ((q : ℕ) (s : Snapshot) → turn ≡ Ready q s → ⊥) → copies_of turn ≡ None
+not_ready Idle other = refl
+not_ready (Working q) other = refl
+not_ready (Ready q s) other = absurd (other q s refl)
+
+-- ---- the worker that answers
+
+module _ (m : Running) (made : List Repeat) (first : ℕ) (asleep : List Bool) (so_far : IsRunSoFar m made first asleep) (now : RunSoFar) (view : record { input = m.input; choices = spelled_choices made } ≡ now) (w : ℕ) (there : IsWorker now.input w)
+    (seen : Running) (same : seen ≡ m) (turn : Turn) (turn_is : turn_of_worker seen.workers w ≡ Some turn) where
+  turn_here : turn_of_worker m.workers w ≡ Some turn
+  turn_here = subst (λ (k : Running). turn_of_worker k.workers w ≡ Some turn) same turn_is
+
+  -- the turn that was read is ready
+  pub is_ready_in : (q : ℕ) (s : Snapshot) → turn ≡ Ready q s → IsReadyIn m made first asleep w q s
+  is_ready_in q s is = record {
+    so_far = so_far;
+    there = subst (λ (k : RunSoFar). IsWorker k.input w) (sym view) there;
+    turn_is = turn_here ∙ ap Some is;
+  }
+
+  -- it isn't ready
+  pub keeps_none : ((q : ℕ) (s : Snapshot) → turn ≡ Ready q s → ⊥) → kept_copies now w ≡ None
+  keeps_none other = (at_turn m made first asleep so_far now view w turn turn_here).1 ∙ not_ready turn other

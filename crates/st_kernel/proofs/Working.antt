@@ -17,10 +17,12 @@ use Rattle.st_law.specs.State.{State, is_live, is_ready, progress_in, read_at, s
 use Rattle.st_law.proofs.Asked.{workers}
 use Rattle.st_law.proofs.Turns.{at_live}
 use Rattle.st_workers.specs.Refinement.{IsTurn, RepresentsMessages, at_work}
+use Rattle.st_workers.specs.Tasks.{task_of_turn, IsTask}
 use Rattle.st_workers.specs.UnderWay.{UnderWay, turn_of_worker}
+use Rattle.st_workers.specs.declared.task.Task.TheVariants.{Answer}
 use Rattle.st_workers.specs.declared.turn.Turn.{Turn}
 use Rattle.st_workers.specs.declared.turn.Turn.TheVariants.{Idle, Working, Ready}
-use Rattle.st_decide.specs.Machine.{Running}
+use Rattle.st_decide.specs.Machine.{HasTask, Running}
 use Rattle.st_kernel.specs.Kernel.{RunSoFar, IsRunSoFar, copies_at, kept_copies, state_in}
 
 number_same : (st : State) (o : Option ℕ) → seq_at_work st o ≡ at_work st.messages (is_live st) o
@@ -105,6 +107,24 @@ module _ (i : Input) (st : State) (w : ℕ) (there : IsWorker i w) (s : Snapshot
 
   pub ready_answers : copies_at st (worker_at st w) ≡ Some s → Answers
   ready_answers = by_number (worker_at st w) refl
+
+-- ---- the task of a ready worker
+
+module _ (kept : UnderWay) (w q : ℕ) (s : Snapshot) (there : HasWorker kept.calls w) (turn_is : turn_of_worker kept w ≡ Some (Ready q s)) where
+  is_to_answer : (i : Input) (st : State) → RepresentsMessages i st (is_live st) kept → IsTask i st kept w Answer
+  unfolding by_number
+  is_to_answer i st is =
+      let worker : IsWorker i w = (there.0, subst (λ (n : ℕ). w ≤ n) is.workers there.1) in
+      let own = by_number i st w worker s (Some q) (ready_at i st kept w is q s turn_is) (turn_ready i st kept w is q s turn_is).1 in
+      (q, s, turn_is, own.3)
+
+-- a ready worker has to answer
+pub answer_task : (m : Running) (w q : ℕ) (s : Snapshot) → HasWorker m.workers.calls w → turn_of_worker m.workers w ≡ Some (Ready q s) → HasTask m w Answer
+answer_task m w q s there turn_is = record {
+  here = ap (task_of_turn m.workers) turn_is;
+  there = tt;
+  law = is_to_answer m.workers w q s there turn_is;
+}
 
 -- ---- in a run so far
 

@@ -61,11 +61,11 @@ fn is_enabled(machine: &View<'_, '_>, choice: Choice) -> bool
 pub struct Kernel<'a> {
     pub(crate) machine: Machine<'a>,
     // The choices that were made, with equal consecutive ones joined. There is room for the answer of each ready worker.
-    made: Vec<Repeat>,
+    pub(crate) made: Vec<Repeat>,
     // The cursor: no thread below it can move.
     pub(crate) first: Tid,
     // No thread that is marked here can move. Thread t is at index t - 1.
-    asleep: Vec<bool>,
+    pub(crate) asleep: Vec<bool>,
 }
 
 impl<'a> Model for Kernel<'a> {

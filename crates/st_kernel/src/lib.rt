@@ -9,4 +9,4 @@ mod waking;
 
 pub use kernel::{Kernel, StepFault};
 pub use play::PlayFault;
-pub use runners::Work;
+pub use runners::{AnswerFault, Work};

@@ -1,15 +1,19 @@
 // What runners ask of a run, and how a worker moves until it is ready. A runner judges a ready worker's copies by itself.
-ghost use Rattle.std.specs.Prelude.{◌≡◌, ◌↔◌, true, None, Some, IfSome, IfOk, OnErr};
-ghost use Rattle.st_kernel.specs.Kernel.{kept_copies, state_in, IsPlayed};
-ghost use Rattle.st_kernel.specs.Runners.{HasEnabled, IsWork};
-ghost use Rattle.st_law.specs.Machine.{IsSettled};
+ghost use Rattle.std.specs.Prelude.{◌≡◌, ◌↔◌, true, None, Some, IfSome, IfOk, IfErr, OnOk, OnErr};
+ghost use Rattle.st_kernel.specs.Kernel.{kept_copies, state_in, with_choice, IsPlayed};
+ghost use Rattle.st_kernel.specs.Runners.{HasEnabled, IsAnswerFault, IsWork};
+ghost use Rattle.st_law.specs.Machine.{entry_of, IsEnabled, IsSettled};
 ghost use Rattle.st_law.specs.Meaning.{IsWorker};
-ghost use Rattle.st_law.specs.State.{thread_count, worker_at};
+ghost use Rattle.st_law.specs.State.{is_live, thread_count, worker_at};
 ghost use Rattle.st_trace.specs.declared.entry.Choice.TheVariants as choices;
+ghost use Rattle.st_trace.specs.declared.entry.Entry.TheVariants as entries;
 
 use crate::kernel::Kernel;
+use crate::waking::woken_by;
 use st_base::{Seq, Shared, Worker};
 use st_calls::Snapshot;
+use st_filter::Judged;
+use st_report::note_choice;
 use st_trace::{Choice, Entry};
 use st_workers::Turn;
 use std::alloc::{AllocError, Global};
@@ -23,6 +27,15 @@ pub enum Work {
     Judge(Shared<Snapshot>),
     /// Its choice was made.
     Went,
+}
+
+/// Why an answer wasn't taken. The judged call is returned.
+#[derive(Debug, Drop)]
+pub enum AnswerFault<'a> {
+    /// The worker isn't ready.
+    NotEnabled(Judged<'a>),
+    /// The worker is ready with other copies than those that were judged.
+    Differs(Judged<'a>),
 }
 
 impl<'a> Kernel<'a> {
@@ -125,5 +138,41 @@ impl<'a> Kernel<'a> {
         } else {
             Ok(Work::Idle)
         }
+    }
+
+    /// Lets a ready worker answer with the verdict of a judged call, if that is the call that it is ready with. The entry that this adds is
+    /// stored in `added`. A fault returns the judged call, and nothing changes. It takes no memory: the room is there since the worker is
+    /// ready.
+    pub fn answer(
+        &mut self,
+        worker: Worker,
+        judged: Judged<'a>,
+        added: &mut Option<Entry>,
+    ) -> Result<(), AnswerFault<'a>>
+        requires worker { IsWorker self.old.input worker }
+        requires policies { judged.policies ≡ self.old.input.policies }
+        ensures ok { OnOk result (self.new ≡ with_choice self.old (choices.Worker worker)) }
+        ensures enabled { OnOk result (IsEnabled self.old.input (state_in self.old) (choices.Worker worker)) }
+        ensures entry { OnOk result (added.new ≡ entry_of self.old.input (state_in self.old) (choices.Worker worker)) }
+        ensures kept { OnOk result (kept_copies self.old worker ≡ Some judged.entry.snapshot) }
+        ensures answered { OnOk result (added.new ≡ Some (entries.Answered worker judged.entry.snapshot judged.entry.verdict (is_live (state_in self.old) judged.entry.snapshot.seq))) }
+        ensures fault { IfErr result (λ fault. IsAnswerFault self.old worker judged.entry fault) }
+        ensures err { OnErr result (self.new ≡ self.old) }
+        ensures place { OnErr result (added.new ≡ added.old) }
+    {
+        let machine = self.machine.view();
+        let Turn::Ready(_, copies) = machine.workers.turn(worker) else {
+            return Err(AnswerFault::NotEnabled(judged));
+        };
+        if !copies.get().is_same(judged.snapshot()) {
+            return Err(AnswerFault::Differs(judged));
+        }
+        self.machine.answer(worker, judged.verdict(), added);
+        let Some(entry) = &*added else { unreachable!() };
+        let woken = woken_by(&self.machine, entry);
+        self.first = woken.cursor(&self.machine, self.first);
+        woken.wake(&self.machine, self.first, &mut self.asleep);
+        note_choice(&mut self.made, Choice::Worker(worker));
+        Ok(())
     }
 }

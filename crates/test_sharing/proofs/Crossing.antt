@@ -24,6 +24,7 @@ use Rattle.st_compile.specs.contracts.compiled.Compiled as Compiled
 use Rattle.st_compile.specs.contracts.filter.CompiledFilter as CompiledFilter
 use Rattle.st_compile.specs.contracts.policy.PolicyFilters as PolicyFilters
 use Rattle.st_compile.specs.contracts.rule.RuleFilters as RuleFilters
+use Rattle.st_kernel.specs.contracts.runners.AnswerFault as AnswerFault
 use Rattle.st_learn.specs.contracts.added_filter.AddedFilter as AddedFilter
 use Rattle.st_learn.specs.contracts.answers.Answers as Answers
 use Rattle.st_learn.specs.contracts.kept_filter.KeptFilter as KeptFilter
@@ -96,6 +97,12 @@ judged_sync κ = search (policies_sync, snapshot.the_field_sync, snapshot.the_fi
 
 pub judged_send : (κ : NamedLft) → IsSend (Judged.the_row κ)
 judged_send κ = search (policies_sync, snapshot.the_field_sync, snapshot.the_field_send, verdict.the_field_send, crosses, sendable) depth 60 fits 2000
+
+pub answer_fault_sync : (κ : NamedLft) → IsSync (AnswerFault.the_row κ)
+answer_fault_sync κ = search (judged_sync, crosses, sendable) depth 60 fits 2000
+
+pub answer_fault_send : (κ : NamedLft) → IsSend (AnswerFault.the_row κ)
+answer_fault_send κ = search (judged_send, crosses, sendable) depth 60 fits 2000
 
 pub compiled_filter_sync : (κ : NamedLft) → IsSync (CompiledFilter.the_row κ)
 compiled_filter_sync κ = search (filter_sync, compiled.crosses, crosses, sendable) depth 60 fits 2000

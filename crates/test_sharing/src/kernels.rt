@@ -2,7 +2,7 @@
 
 use crate::is_shareable;
 use st_decide::{ReadyCall, Step, View};
-use st_kernel::{Kernel, PlayFault, StepFault};
+use st_kernel::{AnswerFault, Kernel, PlayFault, StepFault, Work};
 use st_machine::Machine;
 use std::sync::Mutex;
 
@@ -12,6 +12,12 @@ pub fn steps_are_shareable() {
     is_shareable::<ReadyCall>();
     is_shareable::<StepFault>();
     is_shareable::<PlayFault>();
+}
+
+/// What a worker did, and why its answer wasn't taken.
+pub fn works_are_shareable() {
+    is_shareable::<Work>();
+    is_shareable::<AnswerFault<'_>>();
 }
 
 /// The machine, the kernel, and a kernel that several threads take in turns.
