@@ -1,7 +1,7 @@
 mod RunsSoFar
 mod Answering
 mod Cursors
-mod Plays
+pub mod Plays
 mod Rests
 mod Room
 mod Settled

@@ -1,16 +1,17 @@
-ghost use Rattle.std.specs.Prelude.{◌≡◌, ◌≤◌, [], reverse, None, Some, is_some, IfOk, OnOk, OnErr};
+ghost use Rattle.std.specs.Prelude.{◌≡◌, ◌≤◌, [], reverse, None, Some, is_some, IfOk, IfSome, ℕ, true, OnOk, OnErr};
 ghost use Rattle.st_law.specs.History.{session_at};
 ghost use Rattle.st_law.specs.Lawful.{Lawful};
 ghost use Rattle.st_law.specs.Machine.{entry_of, IsEnabled, IsSettled};
 ghost use Rattle.st_law.specs.State.{State, thread_count};
 ghost use Rattle.st_decide.specs.Machine.{Refines};
 ghost use Rattle.st_reached.specs.Runnable.{CanRun};
+ghost use Rattle.st_reached.specs.Waiting.{is_message_by};
 ghost use Rattle.st_report.specs.ScheduleText.{repeats_of};
 ghost use Rattle.st_trace.specs.declared.entry.Choice.TheVariants.{Thread, Worker};
 ghost use Rattle.st_kernel.specs.Kernel.{rested, state_in, trace_of, with_choice, Continues, HasMadeFirstEnabled, IsChosen, IsNextEntry, IsPlayed, IsTried, NoneMoves};
 
 use crate::waking::woken_by;
-use st_base::Tid;
+use st_base::{Seq, Tid};
 use st_compile::Compiled;
 use st_decide::View;
 use st_law::Input;
@@ -129,6 +130,13 @@ impl<'a> Kernel<'a> {
         ensures lawful { Lawful self.now.input (trace_of self.now) }
     {
         self.made.as_slice()
+    }
+
+    /// The thread that holds the call of a number, if the number is live. No other thread holds it.
+    pub fn holder(&self, seq: Seq) -> Option<Tid>
+        ensures { IfSome result (λ tid. (t : ℕ) → is_message_by (state_in self.now) t seq ≡ true → t ≡ tid) }
+    {
+        self.machine.view().holder(seq)
     }
 
     /// Whether a choice is enabled: it would add an entry now. It takes no memory.
