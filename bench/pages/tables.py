@@ -8,16 +8,10 @@ MEASURED = tree.TOP / "bench/measured"
 # The rows of README's short table of costs: kind and text of the row of bench/README.md, and what the run does.
 SHORT_COSTS = (
     ("held", "audit", "eight threads hold opens, eight workers serve them"),
-    ("held", "trace", "the same"),
     ("filters", "audit", "500 calls that the last of 4,096 filters permits"),
     ("fast", "audit", "4,076 calls that need no worker"),
-    ("fast", "trace", "the same"),
     ("forks", "audit", "63 forks, and 20 held calls by each child"),
-    ("threads", "audit", "64 threads, and 60 held calls by each"),
-    ("short", "audit", "3,900 held calls on a name of two components"),
     ("deep", "audit", "3,900 held calls on a name of 16 components"),
-    ("long", "audit", "3,900 held calls on a name of 960 bytes"),
-    ("names", "audit", "a file made, renamed and removed, 1,000 times"),
     ("questions", "audit", "500 questions to the operator, each with a reply"),
     ("learn", "audit", "1,000 calls that are learnt, and made again"),
 )
@@ -33,25 +27,6 @@ def edge(head):
 def row(cells):
     """Returns a row of a table."""
     return "|" + "|".join(cell or "" for cell in cells) + "|"
-
-
-def quoted(names):
-    return ", ".join(f"`{name}`" for name in names)
-
-
-def wrapped(text, width=150):
-    """Returns the lines of a paragraph, broken at blanks."""
-    lines = [""]
-    for word in text.split(" "):
-        if len(lines[-1]) + len(word) >= width:
-            lines.append("")
-        lines[-1] = f"{lines[-1]} {word}".strip()
-    return lines
-
-
-def crate_list(crates, _):
-    """The names of the crates, layer by layer."""
-    return [f"- *{layer}*: {quoted(crate.name for crate in each)}" for layer, each in tree.layers(crates).items()]
 
 
 def crate_tables(crates, _):
@@ -73,11 +48,11 @@ def sizes(crates, _):
 
 
 def gate_times(crates, _):
-    """The measured times of the gate, without the rows of crates that take less than 100 seconds."""
+    """The measured times of the gate, without the rows of crates that take less than 150 seconds."""
     lines = measured("gate_times")(crates, _)
     seconds = {line: sum(int(cell or 0) for cell in line.split("|")[2:5]) for line in lines[2:] if line.startswith("|`")}
-    short = [line for line in seconds if seconds[line] < 100]
-    rest = f"|{len(short)} others, each under 100|{sum(seconds[line] for line in short)}||||"
+    short = [line for line in seconds if seconds[line] < 150]
+    rest = f"|{len(short)} others, each under 150|{sum(seconds[line] for line in short)}||||"
     return [line for line in lines[:-3] if line not in short] + [rest] + lines[-3:]
 
 
@@ -99,7 +74,7 @@ def short_costs(crates, _):
 
 # By page, the parts that it has to have.
 PARTS = {
-    "README.md": {"crates": crate_list, "costs": short_costs},
+    "README.md": {"costs": short_costs},
     "bench/README.md": {name: measured(name) for name in ("run", "run_step", "run_check")},
     "docs/ARCHITECTURE.md": {"crates": crate_tables, "sizes": sizes, "gate times": gate_times},
 }
