@@ -2,6 +2,7 @@ ghost use Rattle.std.specs.Prelude.{◌≡◌};
 ghost use Rattle.st_filter.specs.Judging.{stands_in, is_path_prefix, is_on_way, compares, compares_ids};
 
 use crate::filter::{Cmp, Op};
+use memchr::memmem;
 use st_base::is_same_text;
 use st_glob::glob;
 
@@ -9,12 +10,7 @@ use st_glob::glob;
 fn stands_in(text: &[u8], argument: &[u8]) -> bool
     ensures { result ≡ stands_in text.now argument.now }
 {
-    for start in 0..argument.len() {
-        if argument[start..].starts_with(text) {
-            return true;
-        }
-    }
-    text.is_empty()
+    memmem::find(argument, text).is_some()
 }
 
 // Whether an argument is a prefix of a path, after which the path ends or goes on with a slash.
