@@ -1,4 +1,5 @@
 ghost use Rattle.st_messages.specs.Laws.{ClaimsGoUp, DeadNumbersStay, RenewedAreStale};
+ghost use Rattle.st_messages.specs.Tickets.{TicketsAreTakenOnce};
 
 /// A drawing that isn't live stays so in every run of calls. An answer to a drawing that was renewed is stale. Waiting drawings are claimed
 /// in ascending order.
@@ -6,4 +7,10 @@ pub fn numbers_are_used_once()
     ensures dead { DeadNumbersStay }
     ensures renewed { RenewedAreStale }
     ensures claims { ClaimsGoUp }
+{}
+
+/// At every moment the tickets that were taken are the first that were posted, in order. Each of them stands in the list of exactly one
+/// taker, once.
+pub fn tickets_are_taken_once()
+    ensures { TicketsAreTakenOnce }
 {}

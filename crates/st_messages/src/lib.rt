@@ -1,11 +1,16 @@
-//! Keeps the messages of held calls by their drawings: which are waiting, claimed, answered or faulted, and of which threads they are.
+//! Keeps the messages of held calls by their drawings: which are waiting, claimed, answered or faulted, and of which threads they are. Hands
+//! tickets from one poster to the workers that take them, in a queue without a lock.
 #![tactic(auto)]
 
 pub mod laws;
 mod live;
 pub mod message;
 pub mod messages;
+pub mod queue;
+pub mod ticket;
 
-pub use laws::numbers_are_used_once;
+pub use laws::{numbers_are_used_once, tickets_are_taken_once};
 pub use message::{Delivered, MsgState, seq_of};
 pub use messages::Messages;
+pub use queue::{Poster, Taker, tickets};
+pub use ticket::Ticket;
