@@ -12,13 +12,24 @@ use std::alloc::{AllocError, Global};
 use std::marker::Model;
 
 /// The policies that were read, compiled: a verdict on a call takes no look at filters of other policies and rules.
-#[derive(Debug, Drop)]
+#[derive(Debug)]
 pub struct Compiled<'a> {
     policies: &'a PolicySet,
     // The filters of each policy, by its index in the set.
     rows: Vec<PolicyFilters<'a>>,
     // Those of a binary without a policy.
     none: RuleFilters<'a>,
+}
+
+// Written out, so that another crate that drops one calls this, and doesn't drop its parts one by one.
+impl<'a> Drop for Compiled<'a> {
+    fn drop(self) {
+        let Self {
+            policies: _,
+            rows: _,
+            none: _,
+        } = self;
+    }
 }
 
 impl<'a> Model for Compiled<'a> {

@@ -18,7 +18,7 @@ const MOST_KEPT: usize = 0x7fff_ffff;
 
 /// What a run adds to the policies that were read: filters for policies and rules, in order. The filters of a policy, and those that ask
 /// for a text, are found without looking at the others.
-#[derive(Debug, Drop)]
+#[derive(Debug)]
 pub struct Session<'a> {
     // In the order in which they were added.
     kept: Vec<AddedFilter<'a>>,
@@ -30,6 +30,19 @@ pub struct Session<'a> {
     texts: Places,
     // Whether some filter asks for no text.
     has_textless: bool,
+}
+
+// Written out, so that another crate that drops one calls this, and doesn't drop its parts one by one.
+impl<'a> Drop for Session<'a> {
+    fn drop(self) {
+        let Self {
+            kept: _,
+            numbers: _,
+            policies: _,
+            texts: _,
+            has_textless: _,
+        } = self;
+    }
 }
 
 impl<'a> Model for Session<'a> {

@@ -29,12 +29,24 @@ use std::alloc::{AllocError, Global};
 use std::marker::Model;
 
 /// The modelled system that calls are made over: the file tree, descriptors, processes with their threads, and memories.
-#[derive(Debug, Drop)]
+#[derive(Debug)]
 pub struct System {
     pub(crate) tree: Tree,
     pub(crate) fds: Fds,
     pub(crate) procs: Procs,
     pub(crate) spaces: Spaces,
+}
+
+// Written out, so that another crate that drops one calls this, and doesn't drop its parts one by one.
+impl Drop for System {
+    fn drop(self) {
+        let Self {
+            tree: _,
+            fds: _,
+            procs: _,
+            spaces: _,
+        } = self;
+    }
 }
 
 impl Model for System {
