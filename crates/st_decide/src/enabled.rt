@@ -1,7 +1,7 @@
 // Whether a choice would add an entry, without making it. It takes no memory.
 ghost use Rattle.std.specs.Prelude.{◌≡◌, ℕ, true, is_some, IfSome};
 ghost use Rattle.st_law.specs.Machine.{thread_entry, worker_entry};
-ghost use Rattle.st_law.specs.State.{State};
+ghost use Rattle.st_law.specs.State.{State, is_live};
 ghost use Rattle.st_decide.specs.Enabled.{is_faulted_or_answered, is_work};
 ghost use Rattle.st_decide.specs.Machine.{Refines};
 ghost use Rattle.st_decide.specs.Questions.{CanBeMadeOrDenied};
@@ -68,6 +68,7 @@ impl<'v, 'a> View<'v, 'a> {
     pub fn holder(&self, drawing: Drawing) -> Option<Tid>
         ensures thread { result ≡ thread_of_number self.now.workers.calls drawing }
         ensures law { IfSome result (λ tid. (st : State) → Refines self.now st → (t : ℕ) → is_message_by st t drawing ≡ true → t ≡ tid) }
+        ensures live { (st : State) → Refines self.now st → is_some result ≡ is_live st drawing }
     {
         self.workers.thread(drawing)
     }

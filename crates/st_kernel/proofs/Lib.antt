@@ -1,3 +1,4 @@
+mod NumbersDrawn
 mod RunsSoFar
 mod Answering
 mod Cursors

@@ -2,7 +2,7 @@ ghost use Rattle.std.specs.Prelude.{◌≡◌, ◌≤◌, [], reverse, None, Som
 ghost use Rattle.st_law.specs.History.{session_at};
 ghost use Rattle.st_law.specs.Lawful.{Lawful};
 ghost use Rattle.st_law.specs.Machine.{entry_of, IsEnabled, IsSettled};
-ghost use Rattle.st_law.specs.State.{State, thread_count};
+ghost use Rattle.st_law.specs.State.{State, is_live, thread_count};
 ghost use Rattle.st_decide.specs.Machine.{Refines};
 ghost use Rattle.st_reached.specs.Runnable.{CanRun};
 ghost use Rattle.st_reached.specs.Waiting.{is_message_by};
@@ -58,7 +58,7 @@ fn is_enabled(machine: &View<'_, '_>, choice: Choice) -> bool
 }
 
 /// A run so far: its input, and the choices that were made.
-#[derive(Debug, Drop)]
+#[derive(Debug)]
 pub struct Kernel<'a> {
     pub(crate) machine: Machine<'a>,
     // The choices that were made, with equal consecutive ones joined. There is room for the answer of each ready worker.
@@ -83,6 +83,18 @@ impl<'a> Model for Kernel<'a> {
     ghost view = { λ k. record { input = k.machine.input; choices = spelled_choices k.made.items } };
 
     ghost invariant = { λ k. IsRunSoFar k.machine k.made.items k.first k.asleep.items × HasRoom (record { input = k.machine.input; choices = spelled_choices k.made.items }) (vec_len k.made) (vec_capacity k.made) };
+}
+
+// Written out, so that whoever drops a kernel calls this, and doesn't drop its parts one by one.
+impl<'a> Drop for Kernel<'a> {
+    fn drop(self) {
+        let Self {
+            machine: _,
+            made: _,
+            first: _,
+            asleep: _,
+        } = self;
+    }
 }
 
 impl<'a> Kernel<'a> {
@@ -134,7 +146,8 @@ impl<'a> Kernel<'a> {
 
     /// The thread that holds the call of a number, if the number is live. No other thread holds it.
     pub fn holder(&self, seq: Seq) -> Option<Tid>
-        ensures { IfSome result (λ tid. (t : ℕ) → is_message_by (state_in self.now) t seq ≡ true → t ≡ tid) }
+        ensures only { IfSome result (λ tid. (t : ℕ) → is_message_by (state_in self.now) t seq ≡ true → t ≡ tid) }
+        ensures live { is_some result ≡ is_live (state_in self.now) seq }
     {
         self.machine.view().holder(seq)
     }

@@ -2,6 +2,7 @@
 //! and gives each entry to a recorder.
 #![tactic(auto)]
 
+mod drawn;
 pub mod kernel;
 pub mod play;
 pub mod runners;

@@ -118,7 +118,7 @@ impl<'a> Kernel<'a> {
     }
 
     /// Moves a worker, unless it is ready: then its copies are returned, and nothing changes. The entry that a move adds is stored in
-    /// `added`. If memory runs out, the run is unchanged.
+    /// `added`. If memory runs out, the run and `added` are unchanged.
     pub fn work(
         &mut self,
         alloc: Global,
@@ -126,8 +126,9 @@ impl<'a> Kernel<'a> {
         added: &mut Option<Entry>,
     ) -> Result<Work, AllocError>
         requires { IsWorker self.old.input worker }
-        ensures work { IfOk result (λ work. IsWork self.old worker work added.new self.new) }
+        ensures work { IfOk result (λ work. IsWork self.old worker work added.old added.new self.new) }
         ensures err { OnErr result (self.new ≡ self.old) }
+        ensures place { OnErr result (added.new ≡ added.old) }
     {
         if let Some(copies) = self.sealed(worker) {
             let judged = copies.share()?;

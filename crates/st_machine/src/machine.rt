@@ -21,7 +21,7 @@ use std::marker::Model;
 
 /// The machine that runs: the modelled system, the messages under way with the workers that serve them, how far each thread has come, what
 /// answers calls, and what the operator has added.
-#[derive(Debug, Drop)]
+#[derive(Debug)]
 pub struct Machine<'a> {
     pub(crate) input: &'a Input,
     pub(crate) system: System,
@@ -30,6 +30,20 @@ pub struct Machine<'a> {
     pub(crate) threads: Vec<Thread<'a>>,
     pub(crate) answers: Answers<'a>,
     pub(crate) operator: Operator<'a>,
+}
+
+// Written out, so that another crate that drops one calls this, and doesn't drop its parts one by one.
+impl<'a> Drop for Machine<'a> {
+    fn drop(self) {
+        let Self {
+            input: _,
+            system: _,
+            workers: _,
+            threads: _,
+            answers: _,
+            operator: _,
+        } = self;
+    }
 }
 
 impl<'a> Model for Machine<'a> {

@@ -3,6 +3,7 @@ use Rattle.std.proofs.Common.{◌≡◌, ◌∙◌, ℕ, Bool, true, false, Opti
 use Rattle.std.proofs.lemmas.Bool.{true≢false}
 use Rattle.std.proofs.lemmas.Option.{none-some}
 use Rattle.std.specs.Option.{option_map}
+use Rattle.std.specs.Prelude.{is_some}
 use Rattle.st_calls.specs.declared.judged.Snapshot.{Snapshot}
 use Rattle.st_effects.specs.Progress.{Look, Progress, Stuck, Word}
 use Rattle.st_effects.specs.Progress.{Ready as Whole}
@@ -47,6 +48,14 @@ module _ (i : Input) (st : State) (kept : UnderWay) (is : RepresentsMessages i s
       let was : IsLive st.turns q (st.messages q) (found_in kept) = is.agrees.live q live in
       ap (option_map (λ (head : Head). head.tid)) was.is_slot.head ∙ sym was.thread_is ∙ found
   held_by false live t found = absurd (none-some t (sym (is.agrees.dead q live).thread ∙ found))
+
+  live_by : (b : Bool) → is_live st q ≡ b → is_some (thread_of_number kept.calls q) ≡ b
+  live_by true live = ap (λ (o : Option ℕ). is_some o) (is.agrees.live q live).thread_is
+  live_by false live = ap (λ (o : Option ℕ). is_some o) (is.agrees.dead q live).thread
+
+  -- a thread is kept of a number exactly if the number is live
+  pub is_live_by_thread : is_some (thread_of_number kept.calls q) ≡ is_live st q
+  is_live_by_thread = live_by (is_live st q) refl
 
   pub is_held_by : (t : ℕ) → thread_of_number kept.calls q ≡ Some t → IsHeldBy st q t
   is_held_by = held_by (is_live st q) refl

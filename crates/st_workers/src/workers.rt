@@ -1,4 +1,4 @@
-ghost use Rattle.std.specs.Prelude.{◌≡◌, ◌<◌, ◌≤◌, ◌-◌, ◌^◌, ◌↔◌, ℕ, suc, Bool, true, false, List, [], All, length, Option, Some, None, IsSome, IfSome, IfOk, OnOk, OnErr};
+ghost use Rattle.std.specs.Prelude.{◌≡◌, ◌<◌, ◌≤◌, ◌-◌, ◌^◌, ◌↔◌, ℕ, suc, Bool, true, false, List, [], All, length, Option, Some, None, IsSome, is_some, IfSome, IfOk, OnOk, OnErr};
 ghost use Rattle.st_workers.specs.declared.turn.Turn.TheVariants.{Idle, Ready, Working};
 ghost use Rattle.st_base.specs.declared.errno.Errno.{Errno};
 ghost use Rattle.st_calls.specs.declared.call.SysCall.{SysCall};
@@ -36,12 +36,23 @@ use std::alloc::{AllocError, Global};
 use std::marker::Model;
 
 /// The messages under way, and the workers that serve them.
-#[derive(Debug, Drop)]
+#[derive(Debug)]
 pub struct Workers {
     messages: Messages,
     slots: Slots,
     // Worker w is at index w - 1.
     turns: Vec<Turn>,
+}
+
+// Written out, so that another crate that drops one calls this, and doesn't drop its parts one by one.
+impl Drop for Workers {
+    fn drop(self) {
+        let Self {
+            messages: _,
+            slots: _,
+            turns: _,
+        } = self;
+    }
 }
 
 impl Model for Workers {
@@ -127,6 +138,7 @@ impl Workers {
     pub fn thread(&self, drawing: Drawing) -> Option<Tid>
         ensures thread { result ≡ thread_of_number self.now.calls drawing }
         ensures law { IfSome result (λ tid. (i : Input) (st : State) → RepresentsMessages i st (is_live_in st) self.now → IsHeldBy st drawing tid) }
+        ensures live { (i : Input) (st : State) → RepresentsMessages i st (is_live_in st) self.now → is_some result ≡ is_live_in st drawing }
     {
         self.messages.thread(drawing)
     }

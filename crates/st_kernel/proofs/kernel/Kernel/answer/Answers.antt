@@ -80,41 +80,27 @@ invariant_of-self c =
           (vec_len c.self.inside.made) (vec_len c.note_choice.new.repeats) (vec_capacity c.self.inside.made) (vec_capacity c.note_choice.new.repeats) c.note_choice.ensures.length c.note_choice.ensures.capacity c.self.invariant.1,
     )
 
-pub returns-clause-ok : goal.returns-clause-ok
-returns-clause-ok c =
-    let ready : IsReadyIn c.self.inside.machine c.self.inside.made.items c.self.inside.first c.self.inside.asleep.items c.args.worker c.in-Ready.field-0 c.in-Ready.copies =
-    is_ready_in c.self.inside.machine c.self.inside.made.items c.self.inside.first c.self.inside.asleep.items c.self.invariant.0 c.args.self.now c.self.view_is c.args.worker c.requires.worker _ (c.machine.view_is ∙ c.view-machine.ensures) c.turn.result.now c.turn.ensures c.in-Ready.field-0 c.in-Ready.copies c.in-Ready.is in
+-- the worker is ready when it answers
+ready_here : (c : goal.After-drop-judged-inside) → IsReadyIn c.self.inside.machine c.self.inside.made.items c.self.inside.first c.self.inside.asleep.items c.args.worker c.in-Ready.field-0 c.in-Ready.copies
+ready_here c =
+    is_ready_in c.self.inside.machine c.self.inside.made.items c.self.inside.first c.self.inside.asleep.items c.self.invariant.0 c.args.self.now c.self.view_is c.args.worker c.requires.worker _ (c.machine.view_is ∙ c.view-machine.ensures) c.turn.result.now c.turn.ensures c.in-Ready.field-0 c.in-Ready.copies c.in-Ready.is
+
+-- what its answer does
+answered_here : (c : goal.After-drop-judged-inside) → HasAnswered c.args.self.now c.args.worker c.args.judged c.answer.new.added (there_then c.self.inside.machine c.self.inside.made.items c.self.inside.first c.self.inside.asleep.items c.args.worker c.in-Ready.field-0 c.in-Ready.copies (ready_here c) c.answer.new.self.input c.answer.ensures.input c.note_choice.new.repeats.items c.note_choice.ensures.made)
+answered_here c =
+    let ready = ready_here c in
     let step : IsStep c.self.inside.machine (Worker c.args.worker) (Some c.in-Some.entry) c.answer.new.self = subst (λ (o : Option Entry). IsStep c.self.inside.machine (Worker c.args.worker) o c.answer.new.self) c.in-Some.is c.answer.ensures.step in
     let same_s : c.in-Ready.copies ≡ c.args.judged.snapshot = sym c.get.ensures ∙ c.is_same.ensures.0 c.if-not-is_same.false ∙ c.snapshot.ensures in
     let verdict_is : c.args.judged.verdict ≡ verdict_under c.self.inside.machine.input.policies c.args.judged.snapshot =
     sym c.verdict.ensures.is ∙ c.verdict.ensures.under ∙ ap (λ (policies : List BinaryPolicy). verdict_under policies c.args.judged.snapshot) (c.requires.policies ∙ sym (ap (λ (k : RunSoFar). k.input.policies) c.self.view_is)) in
-    let has : HasAnswered c.args.self.now c.args.worker c.args.judged c.answer.new.added (there_then c.self.inside.machine c.self.inside.made.items c.self.inside.first c.self.inside.asleep.items c.args.worker c.in-Ready.field-0 c.in-Ready.copies ready c.answer.new.self.input c.answer.ensures.input c.note_choice.new.repeats.items c.note_choice.ensures.made) =
     has_answered c.self.inside.machine c.self.inside.made.items c.self.inside.first c.self.inside.asleep.items c.args.worker c.in-Ready.field-0 c.in-Ready.copies ready c.answer.new.self.input c.answer.ensures.input c.note_choice.new.repeats.items c.note_choice.ensures.made
-    c.args.self.now c.self.view_is c.args.judged same_s verdict_is c.in-Some.entry (its_entry c.self.inside.machine c.self.inside.made.items c.self.inside.first c.self.inside.asleep.items c.args.worker c.in-Ready.field-0 c.in-Ready.copies ready c.in-Some.entry c.answer.new.self step) c.answer.new.added c.in-Some.is in
-    has.ok
+    c.args.self.now c.self.view_is c.args.judged same_s verdict_is c.in-Some.entry (its_entry c.self.inside.machine c.self.inside.made.items c.self.inside.first c.self.inside.asleep.items c.args.worker c.in-Ready.field-0 c.in-Ready.copies ready c.in-Some.entry c.answer.new.self step) c.answer.new.added c.in-Some.is
+
+pub returns-clause-ok : goal.returns-clause-ok
+returns-clause-ok c = (answered_here c).ok
 
 pub returns-clause-kept : goal.returns-clause-kept
-returns-clause-kept c =
-    let ready : IsReadyIn c.self.inside.machine c.self.inside.made.items c.self.inside.first c.self.inside.asleep.items c.args.worker c.in-Ready.field-0 c.in-Ready.copies =
-    is_ready_in c.self.inside.machine c.self.inside.made.items c.self.inside.first c.self.inside.asleep.items c.self.invariant.0 c.args.self.now c.self.view_is c.args.worker c.requires.worker _ (c.machine.view_is ∙ c.view-machine.ensures) c.turn.result.now c.turn.ensures c.in-Ready.field-0 c.in-Ready.copies c.in-Ready.is in
-    let step : IsStep c.self.inside.machine (Worker c.args.worker) (Some c.in-Some.entry) c.answer.new.self = subst (λ (o : Option Entry). IsStep c.self.inside.machine (Worker c.args.worker) o c.answer.new.self) c.in-Some.is c.answer.ensures.step in
-    let same_s : c.in-Ready.copies ≡ c.args.judged.snapshot = sym c.get.ensures ∙ c.is_same.ensures.0 c.if-not-is_same.false ∙ c.snapshot.ensures in
-    let verdict_is : c.args.judged.verdict ≡ verdict_under c.self.inside.machine.input.policies c.args.judged.snapshot =
-    sym c.verdict.ensures.is ∙ c.verdict.ensures.under ∙ ap (λ (policies : List BinaryPolicy). verdict_under policies c.args.judged.snapshot) (c.requires.policies ∙ sym (ap (λ (k : RunSoFar). k.input.policies) c.self.view_is)) in
-    let has : HasAnswered c.args.self.now c.args.worker c.args.judged c.answer.new.added (there_then c.self.inside.machine c.self.inside.made.items c.self.inside.first c.self.inside.asleep.items c.args.worker c.in-Ready.field-0 c.in-Ready.copies ready c.answer.new.self.input c.answer.ensures.input c.note_choice.new.repeats.items c.note_choice.ensures.made) =
-    has_answered c.self.inside.machine c.self.inside.made.items c.self.inside.first c.self.inside.asleep.items c.args.worker c.in-Ready.field-0 c.in-Ready.copies ready c.answer.new.self.input c.answer.ensures.input c.note_choice.new.repeats.items c.note_choice.ensures.made
-    c.args.self.now c.self.view_is c.args.judged same_s verdict_is c.in-Some.entry (its_entry c.self.inside.machine c.self.inside.made.items c.self.inside.first c.self.inside.asleep.items c.args.worker c.in-Ready.field-0 c.in-Ready.copies ready c.in-Some.entry c.answer.new.self step) c.answer.new.added c.in-Some.is in
-    has.kept
+returns-clause-kept c = (answered_here c).kept
 
 pub returns-clause-answered : goal.returns-clause-answered
-returns-clause-answered c =
-    let ready : IsReadyIn c.self.inside.machine c.self.inside.made.items c.self.inside.first c.self.inside.asleep.items c.args.worker c.in-Ready.field-0 c.in-Ready.copies =
-    is_ready_in c.self.inside.machine c.self.inside.made.items c.self.inside.first c.self.inside.asleep.items c.self.invariant.0 c.args.self.now c.self.view_is c.args.worker c.requires.worker _ (c.machine.view_is ∙ c.view-machine.ensures) c.turn.result.now c.turn.ensures c.in-Ready.field-0 c.in-Ready.copies c.in-Ready.is in
-    let step : IsStep c.self.inside.machine (Worker c.args.worker) (Some c.in-Some.entry) c.answer.new.self = subst (λ (o : Option Entry). IsStep c.self.inside.machine (Worker c.args.worker) o c.answer.new.self) c.in-Some.is c.answer.ensures.step in
-    let same_s : c.in-Ready.copies ≡ c.args.judged.snapshot = sym c.get.ensures ∙ c.is_same.ensures.0 c.if-not-is_same.false ∙ c.snapshot.ensures in
-    let verdict_is : c.args.judged.verdict ≡ verdict_under c.self.inside.machine.input.policies c.args.judged.snapshot =
-    sym c.verdict.ensures.is ∙ c.verdict.ensures.under ∙ ap (λ (policies : List BinaryPolicy). verdict_under policies c.args.judged.snapshot) (c.requires.policies ∙ sym (ap (λ (k : RunSoFar). k.input.policies) c.self.view_is)) in
-    let has : HasAnswered c.args.self.now c.args.worker c.args.judged c.answer.new.added (there_then c.self.inside.machine c.self.inside.made.items c.self.inside.first c.self.inside.asleep.items c.args.worker c.in-Ready.field-0 c.in-Ready.copies ready c.answer.new.self.input c.answer.ensures.input c.note_choice.new.repeats.items c.note_choice.ensures.made) =
-    has_answered c.self.inside.machine c.self.inside.made.items c.self.inside.first c.self.inside.asleep.items c.args.worker c.in-Ready.field-0 c.in-Ready.copies ready c.answer.new.self.input c.answer.ensures.input c.note_choice.new.repeats.items c.note_choice.ensures.made
-    c.args.self.now c.self.view_is c.args.judged same_s verdict_is c.in-Some.entry (its_entry c.self.inside.machine c.self.inside.made.items c.self.inside.first c.self.inside.asleep.items c.args.worker c.in-Ready.field-0 c.in-Ready.copies ready c.in-Some.entry c.answer.new.self step) c.answer.new.added c.in-Some.is in
-    has.answered
+returns-clause-answered c = (answered_here c).answered
