@@ -3,4 +3,5 @@ pub mod Deciding
 pub mod Following
 pub mod Growth
 pub mod Rows
+mod Summarized
 mod WorkedRows

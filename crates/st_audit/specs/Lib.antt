@@ -5,3 +5,4 @@ pub mod PolicyText
 pub mod Recording
 pub mod Rows
 pub mod FromHistory
+pub mod Summary

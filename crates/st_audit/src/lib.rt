@@ -13,6 +13,8 @@ mod line;
 mod marks;
 mod policies;
 mod process;
+mod summary;
 
 pub use audit::{AuditRecorder, longer_runs_extend_the_audit};
 pub use policies::policies_text;
+pub use summary::{Summary, SummaryRecorder};
