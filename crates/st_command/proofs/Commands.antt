@@ -1,19 +1,20 @@
 -- Words spell exactly the command that is read from them.
-use Rattle.std.proofs.Common.{◌≡◌, ◌≢◌, ℕ, ◌≤◌, Bool, true, false, ◌&&◌, not, if◌then◌else◌, nat_le, List, [], ◌∷◌, ◌++◌, codes, Option, Some, None, option_map, refl, ap, sym, ◌∙◌, subst, leb-true, le-leb}
+use Rattle.std.proofs.Common.{◌≡◌, ◌≢◌, ℕ, ◌≤◌, arith, decimal, Bool, true, false, ◌&&◌, not, if◌then◌else◌, nat_le, List, [], ◌∷◌, ◌++◌, codes, Option, Some, None, option_map, refl, ap, sym, ◌∙◌, subst, leb-true, le-leb}
 use Rattle.std.proofs.lemmas.Bool.{and_parts, and_from}
 use Rattle.std.proofs.lemmas.Slice.Eq.{bytes_eq-Decides}
 use Rattle.std.specs.Prelude.{IfSome}
 use Rattle.std.specs.List.{list_all}
 use Rattle.std.specs.Str.{bytes_eq}
-use Rattle.st_command.specs.Words.{Word, has_dash}
+use Rattle.st_command.specs.Words.{Word, has_dash, rounds_in}
 use Rattle.st_command.specs.Given.{GivenOption, PolicyFile, ModeIs, Inherits, Unaliased, IdsAre, WorkersAre, PrintIs, all_spelled, AreWithin, count_of, options_in}
-use Rattle.st_command.specs.Command.{CheckWords, step_words, single_kinds, may_be_given, step_with, step_in, check_with, check_in}
-use Rattle.st_command.specs.Grammar.{MayBeGiven, SpellsStep, ids_spelled, IdsFit, maybe_word, MayBeOperand, SpellsCheck, SpellsCommand}
-use Rattle.st_command.specs.Reading.{command_in}
+use Rattle.st_command.specs.Command.{RunWords, CheckWords, step_words, run_words, run_with, run_in, gen_in, single_kinds, may_be_given, step_with, step_in, check_with, check_in}
+use Rattle.st_command.specs.Grammar.{MayBeGiven, SpellsStep, SpellsRun, SpellsGen, ids_spelled, IdsFit, maybe_word, MayBeOperand, SpellsCheck, SpellsCommand}
+use Rattle.st_command.specs.Reading.{command_in, run_of_words, gen_of_words}
 use Rattle.st_command.specs.declared.command.Command.{Command}
 use Rattle.st_command.specs.declared.command.Command.TheVariants as command
 use Rattle.st_command.specs.declared.given.Kind.{Kind}
 use Rattle.st_command.specs.declared.given.Kind.TheVariants as kind
+use Rattle.st_command.proofs.Numbers.{ArePositive, positive_in-decimal, positive_in-sound}
 use Rattle.st_command.proofs.Options.{pick, if_mapped, all_options, WereTaken, options_were_taken}
 
 -- ---- options that may be given together
@@ -70,6 +71,17 @@ step_read given script schedule within may one two =
     ap (λ taken. option_map command.Step (step_in taken)) (all_options given script (schedule ∷ []) within one) ∙
     ap (λ (b : Bool). option_map command.Step (if b then Some (step_words given script schedule) else None)) (and_three (has_dash script) (has_dash schedule) (may_be_given given) one two (may_from given may))
 
+run_read : (given : List GivenOption) (script : Word) → AreWithin given → MayBeGiven given → has_dash script ≡ false → run_of_words (codes "run" ∷ (all_spelled given ++ script ∷ [])) ≡ Some (run_words given script)
+run_read given script within may one =
+    ap run_in (all_options given script [] within one) ∙
+    ap (λ (b : Bool). if b then Some (run_words given script) else None) (and_from _ _ (ap not one) (may_from given may))
+
+run_of_spelled : (words : List Word) (run : RunWords) → SpellsRun words run → run_of_words words ≡ Some run
+run_of_spelled words run is = ap run_of_words is.words_are ∙ run_read is.given run.script is.within is.together is.script ∙ ap (λ r. Some r) (sym is.asked)
+
+gen_of_spelled : (words : List Word) (rounds : ℕ) → SpellsGen words rounds → gen_of_words words ≡ Some rounds
+gen_of_spelled words rounds is = ap gen_of_words is.words_are ∙ positive_in-decimal 512 rounds (omega (arith, is.most)) is.least is.most
+
 ids_given : Option (ℕ × ℕ) → List GivenOption
 ids_given None = []
 ids_given (Some ids) = IdsAre ids.0 ids.1 ∷ []
@@ -121,6 +133,30 @@ step_spelled given (script ∷ schedule ∷ []) words are within =
     })
 step_spelled given (a ∷ b ∷ c ∷ rest) words are within = tt
 
+run_spelled : (given : List GivenOption) (rest words : List Word) → words ≡ all_spelled given ++ rest → AreWithin given → IfSome (run_with given rest) (SpellsRun (codes "run" ∷ words))
+run_spelled given [] words are within = tt
+run_spelled given (script ∷ []) words are within =
+    if_some (SpellsRun (codes "run" ∷ words)) (not (has_dash script) && may_be_given given) (Some (run_words given script)) (λ all.
+    let p : ((not (has_dash script) ≡ true) × (may_be_given given ≡ true)) = and_parts (not (has_dash script)) (may_be_given given) all in
+    record {
+      given = given;
+      within = within;
+      together = to_may given p.1;
+      script = no_dash (has_dash script) p.0;
+      words_are = ap (λ ws. codes "run" ∷ ws) are;
+      asked = refl;
+    })
+run_spelled given (a ∷ b ∷ rest) words are within = tt
+
+gen_spelled : (words : List Word) → IfSome (gen_in words) (SpellsGen (codes "gen" ∷ words))
+gen_spelled [] = tt
+gen_spelled (word ∷ []) = of_number (rounds_in word) (positive_in-sound 512 word (omega arith))
+  where
+    of_number : (o : Option ℕ) → IfSome o (ArePositive 512 word) → IfSome o (SpellsGen (codes "gen" ∷ word ∷ []))
+    of_number (Some rounds) is = record { least = is.1; most = is.2; words_are = ap (λ w. codes "gen" ∷ w ∷ []) is.0 }
+    of_number None is = tt
+gen_spelled (a ∷ b ∷ rest) = tt
+
 with_spelled : (ids : Option (ℕ × ℕ)) (rest words : List Word) → words ≡ ids_spelled ids ++ rest → IdsFit ids → IfSome (check_with ids rest) (SpellsCheck (codes "check" ∷ words))
 with_spelled ids [] words are fit = tt
 with_spelled ids (policy ∷ []) words are fit =
@@ -159,3 +195,31 @@ read_is_spelled (name ∷ words) =
 
 pub spelled_exactly : (words : List Word) (c : Command) → (SpellsCommand words c → command_in words ≡ Some c) × (command_in words ≡ Some c → SpellsCommand words c)
 spelled_exactly words c = (read_of_spelled words c, λ is. subst (λ o. IfSome o (SpellsCommand words)) is (read_is_spelled words))
+
+pub read_is_spelled_run : (words : List Word) → IfSome (run_of_words words) (SpellsRun words)
+read_is_spelled_run [] = tt
+read_is_spelled_run (name ∷ words) =
+    let taken = options_in words in
+    let were : WereTaken words taken = options_were_taken words in
+    if_some (SpellsRun (name ∷ words)) (bytes_eq name (codes "run")) (run_in taken) (λ same.
+    named name (codes "run") words (λ ws. IfSome (run_in taken) (SpellsRun ws)) same (run_spelled taken.given taken.rest words were.words_are were.within))
+
+pub read_is_spelled_gen : (words : List Word) → IfSome (gen_of_words words) (SpellsGen words)
+read_is_spelled_gen [] = tt
+read_is_spelled_gen (name ∷ words) =
+    if_some (SpellsGen (name ∷ words)) (bytes_eq name (codes "gen")) (gen_in words) (λ same.
+    named name (codes "gen") words (λ ws. IfSome (gen_in words) (SpellsGen ws)) same (gen_spelled words))
+
+pub run_spelled_exactly : (words : List Word) (run : RunWords) → (SpellsRun words run → run_of_words words ≡ Some run) × (run_of_words words ≡ Some run → SpellsRun words run)
+run_spelled_exactly words run = (run_of_spelled words run, λ is. subst (λ o. IfSome o (SpellsRun words)) is (read_is_spelled_run words))
+
+pub gen_spelled_exactly : (words : List Word) (rounds : ℕ) → (SpellsGen words rounds → gen_of_words words ≡ Some rounds) × (gen_of_words words ≡ Some rounds → SpellsGen words rounds)
+gen_spelled_exactly words rounds = (gen_of_spelled words rounds, λ is. subst (λ o. IfSome o (SpellsGen words)) is (read_is_spelled_gen words))
+
+-- ---- words spell one command
+
+pub run_alone : (words : List Word) (run : RunWords) → SpellsRun words run → (command_in words ≡ None) × (gen_of_words words ≡ None)
+run_alone words run is = (ap command_in is.words_are, ap gen_of_words is.words_are)
+
+pub gen_alone : (words : List Word) (rounds : ℕ) → SpellsGen words rounds → command_in words ≡ None
+gen_alone words rounds is = ap command_in is.words_are

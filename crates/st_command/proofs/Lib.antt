@@ -2,3 +2,4 @@ pub mod Numbers
 pub mod Options
 pub mod Commands
 pub mod Limits
+mod WordRows

@@ -14,7 +14,7 @@ use Rattle.std.specs.Str.{bytes_eq}
 use Rattle.std.specs.Str.Parse.{AllDigits, digits_value}
 use Rattle.st_base.specs.Number.{numeral_up_to, is_numeral}
 use Rattle.st_base.proofs.Digits.{numeral_up_to-some, AllDigits-from_test}
-use Rattle.st_command.specs.Words.{Word, decimal_in, most_id, is_no_colon, group_in, ids_with, ids_in, from_one, workers_in}
+use Rattle.st_command.specs.Words.{Word, decimal_in, most_id, is_no_colon, group_in, ids_with, ids_in, from_one, positive_in}
 
 -- ---- decimal digits
 
@@ -130,19 +130,19 @@ ids_in-sound word =
     ids_of_parts (take n word) (drop n word) word (take-append-drop n word) (decimal_in most_id (take n word)) (group_in (drop n word))
     (decimal_in-sound most_id (take n word) (omega arith)) (group_in-sound (drop n word) (at_colon word))
 
--- ---- workers
+-- ---- numbers from 1
 
-pub workers_in-decimal : (n : ℕ) → 1 ≤ n → n ≤ 8 → workers_in (decimal n) ≡ Some n
-workers_in-decimal n low high =
-    ap (option_and_then from_one) (decimal_in-decimal 8 n (omega arith) high) ∙ rw (le-leb 1 n low) refl
+pub positive_in-decimal : (most n : ℕ) → n < 2 ^ 64 → 1 ≤ n → n ≤ most → positive_in most (decimal n) ≡ Some n
+positive_in-decimal most n h low high =
+    ap (option_and_then from_one) (decimal_in-decimal most n h high) ∙ rw (le-leb 1 n low) refl
 
--- a word is the digits of a number of workers
-abbrev pub AreWorkers : Word → ℕ → Type 0
-AreWorkers word n = (word ≡ decimal n) × (1 ≤ n) × (n ≤ 8)
+-- a word is the digits of a number from 1 up to this
+abbrev pub ArePositive : ℕ → Word → ℕ → Type 0
+ArePositive most word n = (word ≡ decimal n) × (1 ≤ n) × (n ≤ most)
 
-workers_of_number : (word : Word) (o : Option ℕ) → IfSome o (IsDecimal 8 word) → IfSome (option_and_then from_one o) (AreWorkers word)
-workers_of_number word None is = tt
-workers_of_number word (Some n) is = if_some (AreWorkers word) (nat_le 1 n) (Some n) (λ low. (is.0, leb-true 1 n low, is.1))
+positive_of_number : (most : ℕ) (word : Word) (o : Option ℕ) → IfSome o (IsDecimal most word) → IfSome (option_and_then from_one o) (ArePositive most word)
+positive_of_number most word None is = tt
+positive_of_number most word (Some n) is = if_some (ArePositive most word) (nat_le 1 n) (Some n) (λ low. (is.0, leb-true 1 n low, is.1))
 
-pub workers_in-sound : (word : Word) → IfSome (workers_in word) (AreWorkers word)
-workers_in-sound word = workers_of_number word (decimal_in 8 word) (decimal_in-sound 8 word (omega arith))
+pub positive_in-sound : (most : ℕ) (word : Word) → most < 2 ^ 64 → IfSome (positive_in most word) (ArePositive most word)
+positive_in-sound most word h = positive_of_number most word (decimal_in most word) (decimal_in-sound most word h)

@@ -1,5 +1,5 @@
 -- The options read at the beginning of words are those that the words spell.
-use Rattle.std.proofs.Common.{◌≡◌, Bool, true, false, if◌then◌else◌, List, [], ◌∷◌, ◌++◌, codes, decimal, Option, Some, None, option_map, refl, ap, sym, ◌∙◌, append_assoc}
+use Rattle.std.proofs.Common.{◌≡◌, Bool, true, false, if◌then◌else◌, List, [], ◌∷◌, ◌++◌, codes, decimal, Option, Some, None, option_map, refl, ap, sym, ◌∙◌, append_assoc, arith}
 use Rattle.std.proofs.lemmas.Bool.{false_from_ne_true}
 use Rattle.std.proofs.lemmas.Slice.Eq.{bytes_eq-Decides}
 use Rattle.std.specs.Prelude.{IfSome}
@@ -10,7 +10,7 @@ use Rattle.st_command.specs.Words.{Word, has_dash, ids_in, workers_in}
 use Rattle.st_command.specs.Given.{GivenOption, PolicyFile, ModeIs, Inherits, Unaliased, IdsAre, WorkersAre, PrintIs, mode_word, print_word, option_words, all_spelled, IsOptionWithin, AreWithin, alone, print_in, valued, TakenOptions, with_option, none_taken, options_in, next_option}
 use Rattle.st_command.specs.declared.given.Print.{Print}
 use Rattle.st_command.specs.declared.given.Print.TheVariants.{Audit, Trace, Schedule, Policy}
-use Rattle.st_command.proofs.Numbers.{AreIds, ids_in-decimal, ids_in-sound, AreWorkers, workers_in-decimal, workers_in-sound}
+use Rattle.st_command.proofs.Numbers.{AreIds, ids_in-decimal, ids_in-sound, ArePositive, positive_in-decimal, positive_in-sound}
 
 -- ---- what is spelled is read
 
@@ -57,7 +57,7 @@ spelled_first Unaliased words within = alone_more (codes "-u") words Unaliased r
 spelled_first (IdsAre uid gid) words within =
     valued_more (codes "-c") (decimal uid ++ (codes ":" ++ decimal gid)) words (IdsAre uid gid) refl (ap (option_map (λ ids. IdsAre ids.0 ids.1)) (ids_in-decimal uid gid within.0 within.1))
 spelled_first (WorkersAre count) words within =
-    valued_more (codes "-w") (decimal count) words (WorkersAre count) refl (ap (option_map WorkersAre) (workers_in-decimal count within.0 within.1))
+    valued_more (codes "-w") (decimal count) words (WorkersAre count) refl (ap (option_map WorkersAre) (positive_in-decimal 8 count (omega (arith, within.1)) within.0 within.1))
 spelled_first (PrintIs print) words within =
     valued_more (codes "--print") (print_word print) words (PrintIs print) refl (ap (option_map PrintIs) (print_in-word print))
 
@@ -146,8 +146,8 @@ valued_sound word value =
     pick P (bytes_eq word (codes "-f")) _ _ (λ same. (two (codes "-f") word value value (same_word word (codes "-f") same) refl, tt)) (
     pick P (bytes_eq word (codes "-c")) _ _ (λ same. if_mapped (λ ids. IdsAre ids.0 ids.1) (AreIds value) P (ids_in value)
     (λ ids is. (two (codes "-c") word _ value (same_word word (codes "-c") same) (sym is.0), (is.1, is.2))) (ids_in-sound value)) (
-    pick P (bytes_eq word (codes "-w")) _ _ (λ same. if_mapped WorkersAre (AreWorkers value) P (workers_in value)
-    (λ count is. (two (codes "-w") word _ value (same_word word (codes "-w") same) (sym is.0), (is.1, is.2))) (workers_in-sound value)) (
+    pick P (bytes_eq word (codes "-w")) _ _ (λ same. if_mapped WorkersAre (ArePositive 8 value) P (workers_in value)
+    (λ count is. (two (codes "-w") word _ value (same_word word (codes "-w") same) (sym is.0), (is.1, is.2))) (positive_in-sound 8 value (omega arith))) (
     pick P (bytes_eq word (codes "--print")) _ _ (λ same. if_mapped PrintIs (λ print. print_word print ≡ value) P (print_in value)
     (λ print is. (two (codes "--print") word _ value (same_word word (codes "--print") same) is, tt)) (print_sound value)) tt)))
 

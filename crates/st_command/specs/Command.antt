@@ -1,10 +1,10 @@
--- What the commands `step` and `check` are asked to do.
+-- What the commands are asked to do.
 use Rattle.std.specs.Prelude.{ℕ, Bool, true, false, not, ◌&&◌, nat_le, nat_lt, ◌==◌, if◌then◌else◌, List, [], ◌∷◌, Option, Some, None, option_map, unwrap_or}
 use Rattle.std.specs.List.{list_all}
 use Rattle.st_law.specs.declared.input.Mode.{Mode}
 use Rattle.st_law.specs.declared.input.Mode.TheVariants.{Enforce}
 use Rattle.st_law.specs.declared.input.Options.{Options}
-use Rattle.st_command.specs.Words.{Word, has_dash}
+use Rattle.st_command.specs.Words.{Word, has_dash, rounds_in}
 use Rattle.st_command.specs.Given.{GivenOption, PolicyFile, ModeIs, IdsAre, WorkersAre, PrintIs, count_of, TakenOptions}
 use Rattle.st_command.specs.declared.given.Kind.{Kind}
 use Rattle.st_command.specs.declared.given.Kind.TheVariants as kind
@@ -16,6 +16,13 @@ pub record StepWords : Type 0 where
   pub policies : List Word
   pub script : Word
   pub schedule : Word
+  pub options : Options
+  pub print : Print
+
+-- what `run` is asked to do: as `step`, but without a schedule
+pub record RunWords : Type 0 where
+  pub policies : List Word
+  pub script : Word
   pub options : Options
   pub print : Print
 
@@ -75,6 +82,15 @@ step_words given script schedule = record {
   print = unwrap_or (option_print given) Audit;
 }
 
+-- what `run` is asked to do by these options and this operand
+abbrev pub run_words : List GivenOption → Word → RunWords
+run_words given script = record {
+  policies = policies_of given;
+  script = script;
+  options = options_of given;
+  print = unwrap_or (option_print given) Audit;
+}
+
 -- ---- the words after the command's name
 
 -- the kinds of options that may be given once
@@ -94,6 +110,20 @@ step_with given _ = None
 -- what `step` is asked to do by its options and the words after them
 abbrev pub step_in : TakenOptions → Option StepWords
 step_in taken = step_with taken.given taken.rest
+
+-- what `run` is asked to do by the words after its options
+abbrev pub run_with : List GivenOption → List Word → Option RunWords
+run_with given (script ∷ []) = if not (has_dash script) && may_be_given given then Some (run_words given script) else None
+run_with given _ = None
+
+-- what `run` is asked to do by its options and the words after them
+abbrev pub run_in : TakenOptions → Option RunWords
+run_in taken = run_with taken.given taken.rest
+
+-- the rounds of `gen`, which has no option
+abbrev pub gen_in : List Word → Option ℕ
+gen_in (word ∷ []) = rounds_in word
+gen_in _ = None
 
 -- the ids of `check`, which has no other option
 abbrev pub check_ids : List GivenOption → Option (Option (ℕ × ℕ))

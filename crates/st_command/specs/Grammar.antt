@@ -2,10 +2,12 @@
 --
 --     check [-c U:G] POLICY [SCRIPT]
 --     step {OPTION} SCRIPT SCHEDULE
-use Rattle.std.specs.Prelude.{◌≡◌, ◌≢◌, ℕ, ◌<◌, ◌≤◌, ◌^◌, false, List, [], ◌∷◌, ◌++◌, codes, Option, Some, None}
+--     run {OPTION} SCRIPT
+--     gen N
+use Rattle.std.specs.Prelude.{◌≡◌, ◌≢◌, ℕ, ◌<◌, ◌≤◌, ◌^◌, false, List, [], ◌∷◌, ◌++◌, codes, decimal, Option, Some, None}
 use Rattle.st_command.specs.Words.{Word, has_dash}
 use Rattle.st_command.specs.Given.{GivenOption, IdsAre, option_words, all_spelled, AreWithin, count_of}
-use Rattle.st_command.specs.Command.{StepWords, CheckWords, step_words}
+use Rattle.st_command.specs.Command.{StepWords, RunWords, CheckWords, step_words, run_words}
 use Rattle.st_command.specs.declared.command.Command.{Command}
 use Rattle.st_command.specs.declared.command.Command.TheVariants as command
 use Rattle.st_command.specs.declared.given.Kind.{Kind}
@@ -25,6 +27,21 @@ pub record SpellsStep (words : List Word) (step : StepWords) : Type 0 where
   pub schedule : has_dash step.schedule ≡ false
   pub words_are : words ≡ codes "step" ∷ (all_spelled given ++ step.script ∷ step.schedule ∷ [])
   pub asked : step ≡ step_words given step.script step.schedule
+
+-- words are `run`, options in any order, and a script
+pub record SpellsRun (words : List Word) (run : RunWords) : Type 0 where
+  pub given : List GivenOption
+  pub within : AreWithin given
+  pub together : MayBeGiven given
+  pub script : has_dash run.script ≡ false
+  pub words_are : words ≡ codes "run" ∷ (all_spelled given ++ run.script ∷ [])
+  pub asked : run ≡ run_words given run.script
+
+-- words are `gen` and a number of rounds
+pub record SpellsGen (words : List Word) (rounds : ℕ) : Type 0 where
+  pub least : 1 ≤ rounds
+  pub most : rounds ≤ 512
+  pub words_are : words ≡ codes "gen" ∷ decimal rounds ∷ []
 
 -- the words of ids, if they are given
 abbrev pub ids_spelled : Option (ℕ × ℕ) → List Word

@@ -45,6 +45,14 @@ ids_in word =
 abbrev pub from_one : ℕ → Option ℕ
 from_one n = if nat_le 1 n then Some n else None
 
+-- the number that a word spells, if it is at least 1 and at most this
+abbrev pub positive_in : ℕ → Word → Option ℕ
+positive_in most word = option_and_then from_one (decimal_in most word)
+
 -- the number of workers that a word spells: 1 to 8
 abbrev pub workers_in : Word → Option ℕ
-workers_in word = option_and_then from_one (decimal_in 8 word)
+workers_in word = positive_in 8 word
+
+-- the number of rounds that a word spells: 1 to 512
+abbrev pub rounds_in : Word → Option ℕ
+rounds_in word = positive_in 512 word

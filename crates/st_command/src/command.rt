@@ -26,6 +26,25 @@ impl<'a> Model for StepWords<'a> {
     ghost view = { λ s. record { policies = map (λ name. name.now) s.policies; script = s.script.now; schedule = s.schedule.now; options = s.options; print = s.print } };
 }
 
+/// What `run` is asked to do.
+#[derive(Debug, Drop)]
+pub struct RunWords<'a> {
+    /// The names of the policy files, in order.
+    pub policies: Sequence<&'a Text>,
+    pub script: &'a Text,
+    pub options: Options,
+    pub print: Print,
+}
+
+impl<'a> Model for RunWords<'a> {
+    ghost use Rattle.std.specs.Prelude.{map};
+    ghost use Rattle.st_command.specs.Command as command;
+
+    ghost Value = { command.RunWords };
+
+    ghost view = { λ r. record { policies = map (λ name. name.now) r.policies; script = r.script.now; options = r.options; print = r.print } };
+}
+
 /// What `check` is asked to do.
 #[derive(Debug, Drop)]
 pub struct CheckWords<'a> {

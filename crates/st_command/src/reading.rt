@@ -1,13 +1,13 @@
-ghost use Rattle.std.specs.Prelude.{◌≡◌, ◌<◌, length, map, option_map, IfOk, IfSome};
+ghost use Rattle.std.specs.Prelude.{◌≡◌, ◌<◌, ◌≤◌, length, map, option_map, IfOk, IfSome};
 ghost use Rattle.st_command.specs.Given.{next_option, options_in};
-ghost use Rattle.st_command.specs.Command.{may_be_given, options_of, step_words, step_with, check_ids, check_with};
-ghost use Rattle.st_command.specs.Reading.{option_value, shown_next, command_after, command_in, IsWithinLimits};
+ghost use Rattle.st_command.specs.Command.{may_be_given, options_of, step_words, step_with, run_words, run_with, check_ids, check_with};
+ghost use Rattle.st_command.specs.Reading.{option_value, shown_next, command_after, command_in, run_of_words, gen_of_words, IsWithinLimits, IsRunWithinLimits};
 
-use crate::command::{CheckWords, Command, StepWords};
+use crate::command::{CheckWords, Command, RunWords, StepWords};
 use crate::given::{
     Given, Kind, Print, alone, count_of, ids_of, mode_of, policies_of, print_of, valued, workers_of,
 };
-use crate::words::has_dash;
+use crate::words::{has_dash, rounds_in};
 use st_base::{Sequence, Text};
 use st_law::{Mode, Options};
 use std::alloc::{AllocError, Global};
@@ -105,6 +105,39 @@ fn step_with<'a>(
     }
 }
 
+fn run_of<'a>(
+    alloc: Global,
+    given: &[Given<'a>],
+    script: &'a Text,
+) -> Result<RunWords<'a>, AllocError>
+    ensures { IfOk result (λ run. run ≡ run_words (map option_value given.now) script.now) }
+{
+    Ok(RunWords {
+        policies: policies_of(alloc, given)?,
+        script,
+        options: options_of(given),
+        print: print_of(given).unwrap_or(Print::Audit),
+    })
+}
+
+// What `run` is asked to do by its options and the words after them.
+fn run_with<'a>(
+    alloc: Global,
+    given: &[Given<'a>],
+    operands: &'a [Text],
+) -> Result<Option<RunWords<'a>>, AllocError>
+    ensures { IfOk result (λ run. run ≡ run_with (map option_value given.now) operands.now) }
+{
+    let [script] = operands else {
+        return Ok(None);
+    };
+    if !has_dash(script.bytes()) && may_be_given(given) {
+        Ok(Some(run_of(alloc, given, script)?))
+    } else {
+        Ok(None)
+    }
+}
+
 // The ids of `check`, which has no other option.
 fn check_ids(given: &[Given<'_>]) -> Option<Option<(u32, u32)>>
     ensures { result ≡ check_ids (map option_value given.now) }
@@ -173,4 +206,38 @@ pub fn read_words(alloc: Global, words: &[Text]) -> Result<Option<Command<'_>>, 
     ensures limits { IfOk result (λ command. IfSome command IsWithinLimits) }
 {
     command_in(alloc, words)
+}
+
+// What `run` is asked to do by words, if they spell it.
+fn run_of_words(alloc: Global, words: &[Text]) -> Result<Option<RunWords<'_>>, AllocError>
+    ensures { IfOk result (λ run. run ≡ run_of_words words.now) }
+{
+    match words.split_first() {
+        Some((name, following)) if name.bytes() == b"run".as_slice() => {
+            let (given, operands) = options_in(alloc, following)?;
+            run_with(alloc, given.as_slice(), operands)
+        }
+        _ => Ok(None),
+    }
+}
+
+/// What `run` is asked to do by words, or `None` exactly when they don't spell it.
+#[tactic(auto, using(crate::proofs::Limits::run_limits_kept))]
+pub fn read_run_words(alloc: Global, words: &[Text]) -> Result<Option<RunWords<'_>>, AllocError>
+    ensures is { IfOk result (λ run. run ≡ run_of_words words.now) }
+    ensures limits { IfOk result (λ run. IfSome run IsRunWithinLimits) }
+{
+    run_of_words(alloc, words)
+}
+
+/// The rounds that `gen` is asked for by words, or `None` exactly when they don't spell it.
+#[tactic(auto, using(crate::proofs::Limits::gen_limits_kept))]
+pub fn read_gen_words(words: &[Text]) -> Option<u32>
+    ensures is { result ≡ gen_of_words words.now }
+    ensures limits { IfSome result (λ rounds. (1 ≤ rounds) × (rounds ≤ 512)) }
+{
+    match words {
+        [name, rounds] if name.bytes() == b"gen".as_slice() => rounds_in(rounds.bytes()),
+        _ => None,
+    }
 }

@@ -1,6 +1,6 @@
 ghost use Rattle.std.specs.Prelude.{◌≡◌, ◌≤◌, ◌<◌, ◌^◌, length, IfSome};
 ghost use Rattle.std.specs.List.{prefix_len};
-ghost use Rattle.st_command.specs.Words.{has_dash, decimal_in, most_id, is_no_colon, group_in, ids_in, workers_in};
+ghost use Rattle.st_command.specs.Words.{has_dash, decimal_in, most_id, is_no_colon, group_in, ids_in, positive_in, workers_in, rounds_in};
 
 use st_base::number::numeral_up_to;
 
@@ -51,10 +51,24 @@ pub(crate) fn ids_in(word: &[u8]) -> Option<(u32, u32)>
     Some((uid, gid))
 }
 
+// The number that a word spells, if it is at least 1 and at most this.
+fn positive_in(most: u32, word: &[u8]) -> Option<u32>
+    ensures { result ≡ positive_in most word.now }
+{
+    let number = decimal_in(most, word)?;
+    if 1 <= number { Some(number) } else { None }
+}
+
 /// The number of workers that a word spells: 1 to 8.
 pub(crate) fn workers_in(word: &[u8]) -> Option<u32>
     ensures { result ≡ workers_in word.now }
 {
-    let count = decimal_in(8, word)?;
-    if 1 <= count { Some(count) } else { None }
+    positive_in(8, word)
+}
+
+/// The number of rounds that a word spells: 1 to 512.
+pub(crate) fn rounds_in(word: &[u8]) -> Option<u32>
+    ensures { result ≡ rounds_in word.now }
+{
+    positive_in(512, word)
 }

@@ -1,0 +1,106 @@
+-- Examples of words that spell no command, and of words that are taken as they stand.
+use Rattle.std.proofs.Common.{◌≡◌, ℕ, List, [], ◌∷◌, codes, Option, Some, None, refl}
+use Rattle.st_law.specs.declared.input.Mode.TheVariants.{Learn}
+use Rattle.st_command.specs.Words.{Word}
+use Rattle.st_command.specs.Given.{GivenOption, PolicyFile, ModeIs, Inherits, Unaliased, IdsAre, WorkersAre, PrintIs}
+use Rattle.st_command.specs.Command.{RunWords, run_words}
+use Rattle.st_command.specs.Reading.{command_in, run_of_words, gen_of_words}
+use Rattle.st_command.specs.declared.command.Command.{Command}
+use Rattle.st_command.specs.declared.given.Print.TheVariants.{Trace}
+
+-- what words are read as: a command, a `run`, and the rounds of a `gen`
+abbrev read : List Word → Option Command × Option RunWords × Option ℕ
+read words = (command_in words, run_of_words words, gen_of_words words)
+
+-- words spell nothing
+abbrev SpellNothing : List Word → Type 0
+SpellNothing words = read words ≡ (None, None, None)
+
+-- two modes exclude each other
+two_modes : SpellNothing (codes "step" ∷ codes "-a" ∷ codes "-t" ∷ codes "s" ∷ codes "c" ∷ [])
+two_modes = refl
+
+-- there are at most eight workers
+nine_workers : SpellNothing (codes "step" ∷ codes "-w" ∷ codes "9" ∷ codes "s" ∷ codes "c" ∷ [])
+nine_workers = refl
+
+-- `step` has a schedule
+no_schedule : SpellNothing (codes "step" ∷ codes "-f" ∷ codes "p" ∷ codes "s" ∷ [])
+no_schedule = refl
+
+-- ids are a user and a group
+no_group : SpellNothing (codes "check" ∷ codes "-c" ∷ codes "1" ∷ codes "p" ∷ [])
+no_group = refl
+
+-- an option and its value are two words
+joined_by_a_sign : SpellNothing (codes "step" ∷ codes "--print=trace" ∷ codes "s" ∷ codes "c" ∷ [])
+joined_by_a_sign = refl
+
+-- options stand before the operands
+an_option_after_the_script : SpellNothing (codes "step" ∷ codes "s" ∷ codes "-a" ∷ codes "c" ∷ [])
+an_option_after_the_script = refl
+
+-- `run` has no schedule
+a_run_with_a_schedule : SpellNothing (codes "run" ∷ codes "s" ∷ codes "c" ∷ [])
+a_run_with_a_schedule = refl
+
+a_run_without_a_script : SpellNothing (codes "run" ∷ [])
+a_run_without_a_script = refl
+
+a_run_with_two_modes : SpellNothing (codes "run" ∷ codes "-a" ∷ codes "-t" ∷ codes "s" ∷ [])
+a_run_with_two_modes = refl
+
+a_run_by_nine : SpellNothing (codes "run" ∷ codes "-w" ∷ codes "9" ∷ codes "s" ∷ [])
+a_run_by_nine = refl
+
+a_run_by_none : SpellNothing (codes "run" ∷ codes "-w" ∷ codes "0" ∷ codes "s" ∷ [])
+a_run_by_none = refl
+
+a_run_joined : SpellNothing (codes "run" ∷ codes "--print=trace" ∷ codes "s" ∷ [])
+a_run_joined = refl
+
+a_run_joined_to_a_number : SpellNothing (codes "run" ∷ codes "-w2" ∷ codes "s" ∷ [])
+a_run_joined_to_a_number = refl
+
+a_run_with_an_option_after : SpellNothing (codes "run" ∷ codes "s" ∷ codes "-a" ∷ [])
+a_run_with_an_option_after = refl
+
+a_run_that_inherits_twice : SpellNothing (codes "run" ∷ codes "-i" ∷ codes "-i" ∷ codes "s" ∷ [])
+a_run_that_inherits_twice = refl
+
+-- there are 1 to 512 rounds, without a leading zero or a sign
+no_rounds : SpellNothing (codes "gen" ∷ codes "0" ∷ [])
+no_rounds = refl
+
+too_many_rounds : SpellNothing (codes "gen" ∷ codes "513" ∷ [])
+too_many_rounds = refl
+
+a_leading_zero : SpellNothing (codes "gen" ∷ codes "01" ∷ [])
+a_leading_zero = refl
+
+a_sign : SpellNothing (codes "gen" ∷ codes "+1" ∷ [])
+a_sign = refl
+
+a_gen_without_rounds : SpellNothing (codes "gen" ∷ [])
+a_gen_without_rounds = refl
+
+a_gen_with_an_option : SpellNothing (codes "gen" ∷ codes "-w" ∷ codes "1" ∷ [])
+a_gen_with_an_option = refl
+
+a_gen_with_more : SpellNothing (codes "gen" ∷ codes "1" ∷ codes "2" ∷ [])
+a_gen_with_more = refl
+
+-- every option may be given
+all_options : run_of_words (codes "run" ∷ codes "-f" ∷ codes "p" ∷ codes "-A" ∷ codes "-i" ∷ codes "-u" ∷ codes "-c" ∷ codes "1:2" ∷ codes "-w" ∷ codes "8" ∷ codes "--print" ∷ codes "trace" ∷ codes "s" ∷ []) ≡
+    Some (run_words (PolicyFile (codes "p") ∷ ModeIs Learn ∷ Inherits ∷ Unaliased ∷ IdsAre 1 2 ∷ WorkersAre 8 ∷ PrintIs Trace ∷ []) (codes "s"))
+all_options = refl
+
+-- an option's value may begin with a dash
+a_policy_with_a_dash : run_of_words (codes "run" ∷ codes "-f" ∷ codes "-a" ∷ codes "s" ∷ []) ≡ Some (run_words (PolicyFile (codes "-a") ∷ []) (codes "s"))
+a_policy_with_a_dash = refl
+
+few_rounds : gen_of_words (codes "gen" ∷ codes "1" ∷ []) ≡ Some 1
+few_rounds = refl
+
+many_rounds : gen_of_words (codes "gen" ∷ codes "512" ∷ []) ≡ Some 512
+many_rounds = refl
