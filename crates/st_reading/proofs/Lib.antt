@@ -4,4 +4,5 @@ pub mod Meanings
 pub mod ReadFiles
 pub mod Refusals
 pub mod Runnable
+pub mod RunMeanings
 mod Unasked

@@ -55,12 +55,12 @@ reads_one (FileBytes text) w R known one a b u v (inr (inr p)) (inr (inr q)) =
     one text a b u v (subst (λ t. R t a) p.1 p.3) (subst (λ t. R t b) q.1 q.3)
 
 -- a known file has one content, so a fetch has one meaning if each content has
-fetches_one : (h : FileView) (w : Which) (R : List ℕ → Meaning → Type 0) → IsFileKnown h → ((text : List ℕ) → IsOne (R text)) → IsOne (λ o. Fetches h w (λ text. R text o) o)
+pub fetches_one : (h : FileView) (w : Which) (R : List ℕ → Meaning → Type 0) → IsFileKnown h → ((text : List ℕ) → IsOne (R text)) → IsOne (λ o. Fetches h w (λ text. R text o) o)
 fetches_one h w R known one a b u v (inl p) q = stopped a w (a ≡ b) u p
 fetches_one h w R known one a b u v (inr p) (inl q) = stopped b w (a ≡ b) v q
 fetches_one h w R known one a b u v (inr p) (inr q) = reads_one h w R known one a b u v p q
 
-script_one : (said : Result ReadScript ScriptFault) (R : ReadScript → Meaning → Type 0) → ((script : ReadScript) → IsOne (R script)) → IsOne (λ o. SaysScript said (λ script. R script o) o)
+pub script_one : (said : Result ReadScript ScriptFault) (R : ReadScript → Meaning → Type 0) → ((script : ReadScript) → IsOne (R script)) → IsOne (λ o. SaysScript said (λ script. R script o) o)
 script_one (Ok script) R one a b u v p q = one script a b u v p q
 script_one (Err fault) R one a b u v p q = p ∙ sym q
 
@@ -80,7 +80,7 @@ unrefused : (text : List ℕ) (env : Env) (before policies : List BinaryPolicy) 
 unrefused text env before policies reads = none_known (refusal_in text env before) (reads-faultless text env before policies reads)
 
 -- a text has exactly one reading, or a first fault
-policy_one : (text : List ℕ) (env : Env) (before : List BinaryPolicy) (n : ℕ) (R : List BinaryPolicy → Meaning → Type 0) → ((policies : List BinaryPolicy) → IsOne (R policies)) →
+pub policy_one : (text : List ℕ) (env : Env) (before : List BinaryPolicy) (n : ℕ) (R : List BinaryPolicy → Meaning → Type 0) → ((policies : List BinaryPolicy) → IsOne (R policies)) →
     IsOne (λ o. SaysPolicy text env before n (λ policies. R policies o) o)
 policy_one text env before n R one a b u v (inl p) (inl q) =
     one q.0 a b u v (subst (λ ps. R ps a) (reads-once text env before p.0 q.0 p.1 q.1) p.2) q.2
@@ -88,7 +88,7 @@ policy_one text env before n R one a b u v (inl p) (inr q) = let e : None ≡ So
 policy_one text env before n R one a b u v (inr p) (inl q) = let e : None ≡ Some p.0 = sym (unrefused text env before q.0 q.1) ∙ p.1 in absurd (cc)
 policy_one text env before n R one a b u v (inr p) (inr q) = p.2 ∙ same_fault n p.0 q.0 (sym p.1 ∙ q.1) ∙ sym q.2
 
-policies_one : (contents : Contents) (env : Env) (R : List BinaryPolicy → Meaning → Type 0) → ((policies : List BinaryPolicy) → IsOne (R policies)) →
+pub policies_one : (contents : Contents) (env : Env) (R : List BinaryPolicy → Meaning → Type 0) → ((policies : List BinaryPolicy) → IsOne (R policies)) →
     (names : List Word) → AreFilesKnown contents names → (n : ℕ) (before : List BinaryPolicy) → IsOne (λ o. MeansPolicies contents env n names before (λ policies. R policies o) o)
 policies_one contents env R one [] known n before = one before
 policies_one contents env R one (name ∷ names) known n before =
@@ -104,7 +104,7 @@ known_back : (contents : Contents) (front back : List Word) → AreFilesKnown co
 known_back contents [] back known = known
 known_back contents (name ∷ front) back known = known_back contents front back known.1
 
-is_one : (outcome : Meaning) → IsOne (λ o. o ≡ outcome)
+pub is_one : (outcome : Meaning) → IsOne (λ o. o ≡ outcome)
 is_one outcome a b u v p q = p ∙ sym q
 
 canon_one : (contents : Contents) (name : Word) (env : Env) → IsFileKnown (contents name) → IsOne (MeansCanon contents name env)
@@ -136,14 +136,14 @@ one_meaning contents (command.Check check) known = check_one contents check.poli
 -- ---- at least one meaning
 
 -- a relation that holds of some outcome that is no stop
-abbrev HasOne : (Meaning → Type 0) → Type 0
+abbrev pub HasOne : (Meaning → Type 0) → Type 0
 HasOne R = (o : Meaning) × (is_stop o ≡ false) × R o
 
 cut_or_whole : (text : List ℕ) (b : Bool) → nat_le (length text) FILE_LIMIT ≡ b → (length text ≤ FILE_LIMIT) ⊎ (FILE_LIMIT < length text)
 cut_or_whole text true e = inl (leb-true (length text) FILE_LIMIT e)
 cut_or_whole text false e = inr (grind (arith, nat_tests))
 
-fetches_some : (h : FileView) (w : Which) (R : List ℕ → Meaning → Type 0) → IsFileKnown h → ((text : List ℕ) → HasOne (R text)) → HasOne (λ o. Fetches h w (λ text. R text o) o)
+pub fetches_some : (h : FileView) (w : Which) (R : List ℕ → Meaning → Type 0) → IsFileKnown h → ((text : List ℕ) → HasOne (R text)) → HasOne (λ o. Fetches h w (λ text. R text o) o)
 fetches_some Unknown w R known some = absurd known
 fetches_some Absent w R known some = (Refuses (Missing w), refl, inr (inl (tt, refl)))
 fetches_some (FileBytes text) w R known some = by (cut_or_whole text (nat_le (length text) FILE_LIMIT) refl)
@@ -152,11 +152,11 @@ fetches_some (FileBytes text) w R known some = by (cut_or_whole text (nat_le (le
     by (inl whole) = let one = some text in (one.0, one.1, inr (inr (inr (text, refl, whole, one.2))))
     by (inr long) = (Refuses (TooLong w), refl, inr (inr (inl (long, refl))))
 
-script_some : (said : Result ReadScript ScriptFault) (R : ReadScript → Meaning → Type 0) → ((script : ReadScript) → HasOne (R script)) → HasOne (λ o. SaysScript said (λ script. R script o) o)
+pub script_some : (said : Result ReadScript ScriptFault) (R : ReadScript → Meaning → Type 0) → ((script : ReadScript) → HasOne (R script)) → HasOne (λ o. SaysScript said (λ script. R script o) o)
 script_some (Ok script) R some = some script
 script_some (Err fault) R some = (Refuses (Script fault), refl, refl)
 
-policy_some : (text : List ℕ) (env : Env) (before : List BinaryPolicy) (n : ℕ) (R : List BinaryPolicy → Meaning → Type 0) → filters_in before ≤ MOST_FILTERS →
+pub policy_some : (text : List ℕ) (env : Env) (before : List BinaryPolicy) (n : ℕ) (R : List BinaryPolicy → Meaning → Type 0) → filters_in before ≤ MOST_FILTERS →
     ((policies : List BinaryPolicy) → filters_in policies ≤ MOST_FILTERS → HasOne (R policies)) → HasOne (λ o. SaysPolicy text env before n (λ policies. R policies o) o)
 policy_some text env before n R few some = by (refusal_in text env before) refl
   where
@@ -167,7 +167,7 @@ policy_some text env before n R few some = by (refusal_in text env before) refl
         let one = some read.0 read.1.few in
         (one.0, one.1, inl (read.0, read.1, one.2))
 
-policies_some : (contents : Contents) (env : Env) (R : List BinaryPolicy → Meaning → Type 0) → ((policies : List BinaryPolicy) → HasOne (R policies)) →
+pub policies_some : (contents : Contents) (env : Env) (R : List BinaryPolicy → Meaning → Type 0) → ((policies : List BinaryPolicy) → HasOne (R policies)) →
     (names : List Word) → AreFilesKnown contents names → (n : ℕ) (before : List BinaryPolicy) → filters_in before ≤ MOST_FILTERS → HasOne (λ o. MeansPolicies contents env n names before (λ policies. R policies o) o)
 policies_some contents env R some [] known n before few = some before
 policies_some contents env R some (name ∷ names) known n before few =
@@ -175,7 +175,7 @@ policies_some contents env R some (name ∷ names) known n before few =
     (λ text. policy_some text env before n (λ policies o. MeansPolicies contents env (n + 1) names policies (λ policies. R policies o) o) few
     (λ policies more. policies_some contents env R some names known.1 (n + 1) policies more))
 
-is_some_one : (outcome : Meaning) → is_stop outcome ≡ false → HasOne (λ o. o ≡ outcome)
+pub is_some_one : (outcome : Meaning) → is_stop outcome ≡ false → HasOne (λ o. o ≡ outcome)
 is_some_one outcome go = (outcome, go, refl)
 
 canon_some : (contents : Contents) (name : Word) (env : Env) → IsFileKnown (contents name) → HasOne (MeansCanon contents name env)

@@ -19,7 +19,7 @@ use Rattle.st_command.specs.declared.command.Command.{Command}
 use Rattle.st_command.specs.declared.command.Command.TheVariants as command
 use Rattle.st_reading.specs.Meaning.{Contents, Meaning, is_stop, Stops, Refuses, Runs, Prints, SaysScript, SaysPolicy, Fetches, MeansPolicies, MeansSchedule, MeansAfterScript, MeansCanon, MeansCheck, Means, names_to}
 use Rattle.st_reading.specs.Files.{Has, FetchRefused, IsScript, ScriptRefused, PolicyRefused, ArePolicies, ReachesFile, PoliciesRefused, GivesEnv, EnvRefused}
-use Rattle.st_reading.specs.Ends.{AskedTo, StopsAt, RefusesReading, as_meaning, ending, EndsReading}
+use Rattle.st_reading.specs.Ends.{AreAskedTo, AskedTo, CanStopAt, RefusesFiles, RefusesReading, as_meaning, ending, EndsReading}
 use Rattle.st_reading.specs.declared.reading.Reading.{Reading}
 use Rattle.st_reading.specs.declared.reading.Reading.TheVariants as reading
 use Rattle.st_reading.specs.declared.refusal.Refusal.{Refusal}
@@ -29,18 +29,18 @@ use Rattle.st_reading.specs.declared.refusal.Which.TheVariants as which
 use Rattle.st_reading.proofs.Leads.{leads_has, leads_script, leads_policies, take_to, has_fits}
 use Rattle.st_reading.proofs.Meanings.{IsOne}
 
-module _ (contents : Contents) (c : Command) (faults faults_after : ℕ) (old new : List Word) where
-  -- one file of the command, which is reached and was the last that was asked for
-  module _ (w : Which) (name : Word) (front : List Word) (named : names_to c w ≡ front ++ name ∷ []) (asked : AskedTo c w old new) where
-    stops : Means contents c (Stops w) → StopsAt contents c old new w
+module _ (contents : Contents) (IsMeaning : Meaning → Type 0) (names_up_to : Which → List Word) (faults faults_after : ℕ) (old new : List Word) where
+  -- one of the files, which is reached and was the last that was asked for
+  module _ (w : Which) (name : Word) (front : List Word) (named : names_up_to w ≡ front ++ name ∷ []) (asked : AreAskedTo names_up_to w old new) where
+    stops : IsMeaning (Stops w) → CanStopAt IsMeaning names_up_to old new w
     stops meant = record { meant = meant; asked = asked }
 
-    pub fetch_refused : (R : List ℕ → Meaning → Type 0) → ((o : Meaning) → Fetches (contents name) w (λ text. R text o) o → Means contents c o) →
-        (r : Refusal) → FetchRefused (contents name) w faults faults_after r → RefusesReading contents c faults faults_after old new r
+    pub fetch_refused : (R : List ℕ → Meaning → Type 0) → ((o : Meaning) → Fetches (contents name) w (λ text. R text o) o → IsMeaning o) →
+        (r : Refusal) → FetchRefused (contents name) w faults faults_after r → RefusesFiles contents IsMeaning names_up_to faults faults_after old new r
     fetch_refused R lead (Missing other) p =
-        subst (λ v. Means contents c (Refuses (Missing v)) × AskedTo c v old new) (sym p.0) (lead (Refuses (Missing w)) (inr (inl (p.1, refl))), asked)
+        subst (λ v. IsMeaning (Refuses (Missing v)) × AreAskedTo names_up_to v old new) (sym p.0) (lead (Refuses (Missing w)) (inr (inl (p.1, refl))), asked)
     fetch_refused R lead (TooLong other) p =
-        subst (λ v. Means contents c (Refuses (TooLong v)) × AskedTo c v old new) (sym p.0) (lead (Refuses (TooLong w)) (inr (inr (inl (p.1, refl)))), asked)
+        subst (λ v. IsMeaning (Refuses (TooLong v)) × AreAskedTo names_up_to v old new) (sym p.0) (lead (Refuses (TooLong w)) (inr (inr (inl (p.1, refl)))), asked)
     fetch_refused R lead ReadFault p = (p, (w, stops (lead (Stops w) (inl refl))))
     fetch_refused R lead NoMemory p =
         inr (w, stops (lead (Stops w) (inl refl)), record { front = front; name = name; names_are = named; fits = p })
@@ -48,9 +48,9 @@ module _ (contents : Contents) (c : Command) (faults faults_after : ℕ) (old ne
     fetch_refused R lead (Policy n fault) p = absurd p
 
   -- a script file that is refused
-  pub script_refused : (name : Word) (options : Options) (R : ReadScript → Meaning → Type 0) → names_to c which.Script ≡ name ∷ [] → AskedTo c which.Script old new →
-      ((o : Meaning) → Fetches (contents name) which.Script (λ text. SaysScript (script_in text options) (λ script. R script o) o) o → Means contents c o) →
-      (r : Refusal) → ScriptRefused (contents name) options faults faults_after r → RefusesReading contents c faults faults_after old new r
+  pub script_refused : (name : Word) (options : Options) (R : ReadScript → Meaning → Type 0) → names_up_to which.Script ≡ name ∷ [] → AreAskedTo names_up_to which.Script old new →
+      ((o : Meaning) → Fetches (contents name) which.Script (λ text. SaysScript (script_in text options) (λ script. R script o) o) o → IsMeaning o) →
+      (r : Refusal) → ScriptRefused (contents name) options faults faults_after r → RefusesFiles contents IsMeaning names_up_to faults faults_after old new r
   script_refused name options R named asked lead (Script fault) p = (
     lead (Refuses (Script fault)) (leads_has (contents name) which.Script _ (λ text. SaysScript (script_in text options) (λ script. R script (Refuses (Script fault))) (Refuses (Script fault))) (Refuses (Script fault)) p
         (subst (λ s. SaysScript s (λ script. R script (Refuses (Script fault))) (Refuses (Script fault))) (sym p.says) refl)),
@@ -68,33 +68,33 @@ module _ (contents : Contents) (c : Command) (faults faults_after : ℕ) (old ne
 
   -- one of several policy files that is refused
   module _ (env : Env) (names first : List Word) (Read : List BinaryPolicy → Meaning → Type 0)
-      (lead : (o : Meaning) → MeansPolicies contents env 1 names [] (λ policies. Read policies o) o → Means contents c o)
-      (named : (n : ℕ) → names_to c (which.Policy n) ≡ first ++ take n names) where
+      (lead : (o : Meaning) → MeansPolicies contents env 1 names [] (λ policies. Read policies o) o → IsMeaning o)
+      (named : (n : ℕ) → names_up_to (which.Policy n) ≡ first ++ take n names) where
     module _ (n : ℕ) (name : Word) (before : List BinaryPolicy) (comes : ReachesFile contents env names n name before) (asked_are : new ≡ (old ++ first) ++ (comes.front ++ name ∷ [])) where
       abbrev Here : List ℕ → Meaning → Type 0
       Here text o = SaysPolicy text env before n (λ policies. MeansPolicies contents env (n + 1) comes.back policies (λ policies. Read policies o) o) o
 
-      leads_here : (o : Meaning) → Fetches (contents name) (which.Policy n) (λ text. Here text o) o → Means contents c o
+      leads_here : (o : Meaning) → Fetches (contents name) (which.Policy n) (λ text. Here text o) o → IsMeaning o
       leads_here o m =
           let number : n ≡ 1 + length comes.front = omega (arith, comes.number) in
           lead o (subst (λ ns. MeansPolicies contents env 1 ns [] (λ policies. Read policies o) o) (sym comes.names_are)
           (leads_policies contents env (λ policies. Read policies o) o comes.front (name ∷ comes.back) 1 [] before comes.read
           (subst (λ k. MeansPolicies contents env k (name ∷ comes.back) before (λ policies. Read policies o) o) number m)))
 
-      named_here : names_to c (which.Policy n) ≡ (first ++ comes.front) ++ name ∷ []
+      named_here : names_up_to (which.Policy n) ≡ (first ++ comes.front) ++ name ∷ []
       named_here =
           named n ∙ ap (λ ns. first ++ take n ns) comes.names_are ∙ ap (λ k. first ++ take k (comes.front ++ name ∷ comes.back)) comes.number ∙
           ap (λ ns. first ++ ns) (take_to comes.front name comes.back) ∙ sym (append_assoc first comes.front (name ∷ []))
 
-      asked_here : AskedTo c (which.Policy n) old new
+      asked_here : AreAskedTo names_up_to (which.Policy n) old new
       asked_here =
           asked_are ∙ append_assoc old first (comes.front ++ name ∷ []) ∙
           ap (λ ns. old ++ ns) (sym (append_assoc first comes.front (name ∷ [])) ∙ sym named_here)
 
-      policy_refused : (r : Refusal) → PolicyRefused (contents name) env before n faults faults_after r → RefusesReading contents c faults faults_after old new r
+      policy_refused : (r : Refusal) → PolicyRefused (contents name) env before n faults faults_after r → RefusesFiles contents IsMeaning names_up_to faults faults_after old new r
       policy_refused (Policy other fault) p =
           let o : Meaning = Refuses (Policy n fault) in
-          subst (λ k. Means contents c (Refuses (Policy k fault)) × AskedTo c (which.Policy k) old new) (sym p.0)
+          subst (λ k. IsMeaning (Refuses (Policy k fault)) × AreAskedTo names_up_to (which.Policy k) old new) (sym p.0)
           (leads_here o (leads_has (contents name) (which.Policy n) (λ text. refusal_in text env before ≡ Some fault) (λ text. Here text o) o p.1 (inr (fault, p.1.says, refl))), asked_here)
       policy_refused (Missing w) p = fetch_refused (which.Policy n) name (first ++ comes.front) named_here asked_here Here leads_here (Missing w) p
       policy_refused (TooLong w) p = fetch_refused (which.Policy n) name (first ++ comes.front) named_here asked_here Here leads_here (TooLong w) p
@@ -102,10 +102,10 @@ module _ (contents : Contents) (c : Command) (faults faults_after : ℕ) (old ne
       policy_refused NoMemory p = fetch_refused (which.Policy n) name (first ++ comes.front) named_here asked_here Here leads_here NoMemory p
       policy_refused (Script fault) p = absurd p
 
-    pub policies_refused : (r : Refusal) → PoliciesRefused contents env names faults faults_after (old ++ first) new r → RefusesReading contents c faults faults_after old new r
+    pub policies_refused : (r : Refusal) → PoliciesRefused contents env names faults faults_after (old ++ first) new r → RefusesFiles contents IsMeaning names_up_to faults faults_after old new r
     policies_refused r p = policy_refused p.n p.name p.policies p.comes p.asked r p.refused
 
-append_nil : (names : List Word) → names ++ [] ≡ names
+pub append_nil : (names : List Word) → names ++ [] ≡ names
 append_nil [] = refl
 append_nil (name ∷ names) = ap (λ ns. name ∷ ns) (append_nil names)
 
@@ -134,12 +134,12 @@ module _ (contents : Contents) (step : StepWords) where
     pub step_script_refused : new ≡ old ++ step.script ∷ [] → (r : Refusal) → ScriptRefused (contents step.script) step.options faults faults_after r →
         RefusesReading contents (command.Step step) faults faults_after old new r
     step_script_refused asked r p =
-        script_refused contents (command.Step step) faults faults_after old new step.script step.options (MeansAfterScript contents step) refl asked (λ o m. m) r p
+        script_refused contents (Means contents (command.Step step)) (names_to (command.Step step)) faults faults_after old new step.script step.options (MeansAfterScript contents step) refl asked (λ o m. m) r p
 
     pub step_policies_refused : (script : ReadScript) → IsScript (contents step.script) step.options script → (r : Refusal) →
         PoliciesRefused contents script.env step.policies faults faults_after (old ++ step.script ∷ []) new r → RefusesReading contents (command.Step step) faults faults_after old new r
     step_policies_refused script is r p =
-        policies_refused contents (command.Step step) faults faults_after old new script.env step.policies (step.script ∷ []) (MeansSchedule contents step script)
+        policies_refused contents (Means contents (command.Step step)) (names_to (command.Step step)) faults faults_after old new script.env step.policies (step.script ∷ []) (MeansSchedule contents step script)
         (after_script script is) (λ n. refl) r p
 
     all_asked : new ≡ ((old ++ step.script ∷ []) ++ step.policies) ++ step.schedule ∷ [] → AskedTo (command.Step step) which.Schedule old new
@@ -150,7 +150,7 @@ module _ (contents : Contents) (step : StepWords) where
         new ≡ ((old ++ step.script ∷ []) ++ step.policies) ++ step.schedule ∷ [] → (r : Refusal) → FetchRefused (contents step.schedule) which.Schedule faults faults_after r →
         RefusesReading contents (command.Step step) faults faults_after old new r
     step_schedule_refused script policies is are asked r p =
-        fetch_refused contents (command.Step step) faults faults_after old new which.Schedule step.schedule (step.script ∷ step.policies) refl (all_asked asked)
+        fetch_refused contents (Means contents (command.Step step)) (names_to (command.Step step)) faults faults_after old new which.Schedule step.schedule (step.script ∷ step.policies) refl (all_asked asked)
         (λ text o. o ≡ Runs (input_with policies step.options script) (schedule_in text)) (after_policies script policies is are) r p
 
     pub step_read : (script : ReadScript) (policies : List BinaryPolicy) (schedule : ReadSchedule) → IsScript (contents step.script) step.options script →
@@ -175,7 +175,7 @@ module _ (contents : Contents) (faults faults_after : ℕ) (old new : List Word)
       subst (RefusesReading contents (command.Check (record { policy = policy; script = None; ids = ids })) faults faults_after old new) (sym p) (inl (asked ∙ append_nil old))
   check_refused policy ids (Some name) r p asked =
       let check : CheckWords = record { policy = policy; script = Some name; ids = ids } in
-      script_refused contents (command.Check check) faults faults_after old new name (check_options check) (λ script o. MeansCanon contents policy script.env o) refl asked (λ o m. m) r p
+      script_refused contents (Means contents (command.Check check)) (names_to (command.Check check)) faults faults_after old new name (check_options check) (λ script o. MeansCanon contents policy script.env o) refl asked (λ o m. m) r p
 
   pub check_env_refused : (check : CheckWords) (r : Refusal) → EnvRefused contents check check.script faults faults_after r → new ≡ old ++ maybe_word check.script →
       RefusesReading contents (command.Check check) faults faults_after old new r
@@ -185,7 +185,7 @@ module _ (contents : Contents) (faults faults_after : ℕ) (old new : List Word)
     pub check_policies_refused : (r : Refusal) → PoliciesRefused contents env (check.policy ∷ []) faults faults_after (old ++ maybe_word check.script) new r →
         RefusesReading contents (command.Check check) faults faults_after old new r
     check_policies_refused r p =
-        policies_refused contents (command.Check check) faults faults_after old new env (check.policy ∷ []) (maybe_word check.script) (λ policies o. o ≡ Prints (canon policies))
+        policies_refused contents (Means contents (command.Check check)) (names_to (command.Check check)) faults faults_after old new env (check.policy ∷ []) (maybe_word check.script) (λ policies o. o ≡ Prints (canon policies))
         (check_leads contents check check.script env gives) (λ n. refl) r p
 
     canon_meant : (policies : List BinaryPolicy) → ArePolicies contents env (check.policy ∷ []) [] policies → (o : Meaning) → o ≡ Prints (canon policies) → Means contents (command.Check check) o

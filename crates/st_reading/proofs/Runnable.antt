@@ -35,11 +35,11 @@ use Rattle.st_reading.proofs.ReadFiles.{AreKept, IsRead, IsStepRead, each_kept, 
 use Rattle.st_reading.proofs.Unasked.{read_asks_nothing}
 
 -- policies that are read with this environment grant no ids for setting ids, and have no filter that asks if filters are learnt
-record AreClean (env : Env) (policies : List BinaryPolicy) : Type 0 where
-  ungranted : SetIdsUngranted policies
-  unasked : env.learn ≡ true → NoneAsks policies
+pub record AreClean (env : Env) (policies : List BinaryPolicy) : Type 0 where
+  pub ungranted : SetIdsUngranted policies
+  pub unasked : env.learn ≡ true → NoneAsks policies
 
-none_clean : (env : Env) → AreClean env []
+pub none_clean : (env : Env) → AreClean env []
 none_clean env = record {
   ungranted = λ k policy within. absurd (omega (arith, within));
   unasked = λ learns k policy within. absurd (omega (arith, within));
@@ -57,7 +57,7 @@ script_learns text options script is learning =
     let same : script.env.learn ≡ learns options.mode = read_has (λ (other : ReadScript). other.env.learn ≡ learns options.mode) text options (λ uncut none. refl) script is in
     same ∙ ap learns learning
 
-all_clean : (contents : Contents) (names : List Word) → AreKept AreClean contents names
+pub all_clean : (contents : Contents) (names : List Word) → AreKept AreClean contents names
 all_clean contents = each_kept AreClean contents (λ name env text old set there. read_clean text env old set)
 
 -- ---- `step`

@@ -12,9 +12,9 @@ use Rattle.st_reading.specs.declared.refusal.Refusal.TheVariants.{Missing, TooLo
 use Rattle.st_reading.specs.declared.refusal.Which.{Which}
 use Rattle.st_reading.specs.declared.refusal.Which.TheVariants as which
 
--- the names of a command up to this file were asked for, in order, and no others
-abbrev pub AskedTo : Command → Which → List Word → List Word → Type 0
-AskedTo c w old new = new ≡ old ++ names_to c w
+-- the names up to this file were asked for, in order, and no others
+abbrev pub AreAskedTo : (Which → List Word) → Which → List Word → List Word → Type 0
+AreAskedTo names w old new = new ≡ old ++ names w
 
 -- the last of some names can hold a file that a fetch can give
 pub record LastFits (contents : Contents) (names : List Word) : Type 0 where
@@ -23,24 +23,42 @@ pub record LastFits (contents : Contents) (names : List Word) : Type 0 where
   pub names_are : names ≡ front ++ name ∷ []
   pub fits : CanFit (contents name)
 
+-- what is meant can be a stop at this file, and the names up to the file were asked for
+pub record CanStopAt (IsMeaning : Meaning → Type 0) (names : Which → List Word) (old new : List Word) (w : Which) : Type 0 where
+  pub meant : IsMeaning (Stops w)
+  pub asked : AreAskedTo names w old new
+
+-- memory ran out before any file was asked for, or after asking for a file that can be fetched and that can be a stop
+abbrev pub HasNoMemory : Contents → (Meaning → Type 0) → (Which → List Word) → List Word → List Word → Type 0
+HasNoMemory contents IsMeaning names old new = (new ≡ old) ⊎ ((w : Which) × CanStopAt IsMeaning names old new w × LastFits contents (names w))
+
+-- a refusal is what is meant, and the names up to the refused file were asked for; or a file that was reached couldn't be read and the count
+-- of faults rose; or memory ran out
+abbrev pub RefusesFiles : Contents → (Meaning → Type 0) → (Which → List Word) → ℕ → ℕ → List Word → List Word → Refusal → Type 0
+RefusesFiles contents IsMeaning names faults faults_after old new (Missing w) = IsMeaning (Refuses (Missing w)) × AreAskedTo names w old new
+RefusesFiles contents IsMeaning names faults faults_after old new (TooLong w) = IsMeaning (Refuses (TooLong w)) × AreAskedTo names w old new
+RefusesFiles contents IsMeaning names faults faults_after old new (Script fault) = IsMeaning (Refuses (Script fault)) × AreAskedTo names which.Script old new
+RefusesFiles contents IsMeaning names faults faults_after old new (Policy n fault) = IsMeaning (Refuses (Policy n fault)) × AreAskedTo names (which.Policy n) old new
+RefusesFiles contents IsMeaning names faults faults_after old new ReadFault = HasRisen faults faults_after × ((w : Which) × CanStopAt IsMeaning names old new w)
+RefusesFiles contents IsMeaning names faults faults_after old new NoMemory = HasNoMemory contents IsMeaning names old new
+
+-- ---- of a command
+
+-- the names of a command up to this file were asked for, in order, and no others
+abbrev pub AskedTo : Command → Which → List Word → List Word → Type 0
+AskedTo c w old new = AreAskedTo (names_to c) w old new
+
 -- the command can mean to stop at this file, and the names up to the file were asked for
-pub record StopsAt (contents : Contents) (c : Command) (old new : List Word) (w : Which) : Type 0 where
-  pub meant : Means contents c (Stops w)
-  pub asked : AskedTo c w old new
+abbrev pub StopsAt : Contents → Command → List Word → List Word → Which → Type 0
+StopsAt contents c old new w = CanStopAt (Means contents c) (names_to c) old new w
 
--- memory ran out before any file was asked for, or after asking for a file that can be fetched and at which the command can stop
+-- memory ran out while the command was read
 abbrev pub ReadingIsOutOfMemory : Contents → Command → List Word → List Word → Type 0
-ReadingIsOutOfMemory contents c old new = (new ≡ old) ⊎ ((w : Which) × StopsAt contents c old new w × LastFits contents (names_to c w))
+ReadingIsOutOfMemory contents c old new = HasNoMemory contents (Means contents c) (names_to c) old new
 
--- a refusal is what the command means, and the names up to the refused file were asked for; or a file that was reached couldn't be read and
--- the count of faults rose; or memory ran out
+-- a refusal of the command
 abbrev pub RefusesReading : Contents → Command → ℕ → ℕ → List Word → List Word → Refusal → Type 0
-RefusesReading contents c faults faults_after old new (Missing w) = Means contents c (Refuses (Missing w)) × AskedTo c w old new
-RefusesReading contents c faults faults_after old new (TooLong w) = Means contents c (Refuses (TooLong w)) × AskedTo c w old new
-RefusesReading contents c faults faults_after old new (Script fault) = Means contents c (Refuses (Script fault)) × AskedTo c which.Script old new
-RefusesReading contents c faults faults_after old new (Policy n fault) = Means contents c (Refuses (Policy n fault)) × AskedTo c (which.Policy n) old new
-RefusesReading contents c faults faults_after old new ReadFault = HasRisen faults faults_after × ((w : Which) × StopsAt contents c old new w)
-RefusesReading contents c faults faults_after old new NoMemory = ReadingIsOutOfMemory contents c old new
+RefusesReading contents c faults faults_after old new refusal = RefusesFiles contents (Means contents c) (names_to c) faults faults_after old new refusal
 
 -- what was read, as a meaning: a run, or a text to be printed
 abbrev pub as_meaning : Reading → Meaning

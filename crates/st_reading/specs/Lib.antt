@@ -3,3 +3,4 @@ pub mod Meaning
 pub mod Files
 pub mod Ends
 pub mod Runnable
+pub mod RunMeaning

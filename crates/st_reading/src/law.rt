@@ -1,11 +1,18 @@
-ghost use Rattle.std.specs.Prelude.{◌≡◌, ℕ, List, false};
+ghost use Rattle.std.specs.Prelude.{◌≡◌, ◌≤◌, ℕ, List, false, length};
 ghost use Rattle.st_law.specs.declared.input.Input.{Input};
 ghost use Rattle.st_law.specs.declared.input.ReadSchedule.{ReadSchedule};
-ghost use Rattle.st_command.specs.Command.{StepWords, CheckWords};
+ghost use Rattle.st_command.specs.Command.{StepWords, RunWords, CheckWords};
+ghost use Rattle.st_command.specs.Reading.{IsRunWithinLimits};
+ghost use Rattle.st_command.specs.Words.{Word};
 ghost use Rattle.st_command.specs.declared.command.Command.{Command};
 ghost use Rattle.st_command.specs.declared.command.Command.TheVariants as command;
 ghost use Rattle.st_reading.specs.Meaning.{Contents, Meaning, Means, Runs, Prints, is_stop, AreFilesKnown, names_of};
+ghost use Rattle.st_reading.specs.RunMeaning.{MeansRun, starts, no_lines, run_names, with_schedule_of};
 ghost use Rattle.st_reading.specs.Runnable.{IsRunnable};
+ghost use Rattle.st_outside.specs.Files.{CanHold};
+ghost use Rattle.st_outside.specs.declared.files.TheConstants.{FILE_LIMIT};
+ghost use Rattle.st_reached.specs.Runnable.{CanRun};
+ghost use Rattle.st_schedule.specs.Schedule.{schedule_in};
 
 use st_script::policies::what_is_replied_grants_no_ids_for_setting;
 
@@ -28,4 +35,27 @@ pub fn what_is_meant_to_run_can_run()
 pub fn each_command_means_its_own_kind()
     ensures step { (contents : Contents) (step : StepWords) (text : List ℕ) → Means contents (command.Step step) (Prints text) → ⊥ }
     ensures check { (contents : Contents) (check : CheckWords) (input : Input) (schedule : ReadSchedule) → Means contents (command.Check check) (Runs input schedule) → ⊥ }
+{}
+
+/// `run` over known files has exactly one meaning, besides the files at which reading may stop.
+pub fn a_run_has_one_meaning()
+    ensures some { (contents : Contents) (run : RunWords) → AreFilesKnown contents (run_names run) → (outcome : Meaning) × (is_stop outcome ≡ false) × MeansRun contents run outcome }
+    ensures one { (contents : Contents) (run : RunWords) (a b : Meaning) → AreFilesKnown contents (run_names run) → is_stop a ≡ false → is_stop b ≡ false →
+        MeansRun contents run a → MeansRun contents run b → a ≡ b }
+{}
+
+/// Each input that `run` means to run can be run. `run` has no line of a schedule, and never means a text without a run.
+pub fn what_run_means_can_run()
+    ensures runnable { (contents : Contents) (run : RunWords) (input : Input) → IsRunWithinLimits run → MeansRun contents run (starts input) → CanRun input }
+    ensures lines { (contents : Contents) (run : RunWords) (input : Input) (schedule : ReadSchedule) → MeansRun contents run (Runs input schedule) → schedule ≡ no_lines }
+    ensures text { (contents : Contents) (run : RunWords) (text : List ℕ) → MeansRun contents run (Prints text) → ⊥ }
+{
+    what_is_replied_grants_no_ids_for_setting();
+}
+
+/// `step` with the options and the script of a `run`, and with any schedule that can be fetched, means to run the input that the `run` means.
+pub fn what_run_means_step_means()
+    ensures { (contents : Contents) (run : RunWords) (input : Input) → MeansRun contents run (starts input) →
+        (name : Word) (text : List ℕ) → CanHold (contents name) text → length text ≤ FILE_LIMIT →
+        Means contents (command.Step (with_schedule_of run name)) (Runs input (schedule_in text)) }
 {}

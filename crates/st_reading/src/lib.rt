@@ -7,7 +7,9 @@ pub mod files;
 pub mod law;
 pub mod reading;
 pub mod refusal;
+pub mod running;
 
 pub use environment::bare_env;
 pub use reading::{Reading, read_command};
 pub use refusal::{Refusal, Which};
+pub use running::read_run;
