@@ -1,0 +1,374 @@
+// What lies under the lock: a run, and which of its runners wait.
+ghost use Rattle.std.specs.Prelude.{◌≡◌, IfOk};
+ghost use Rattle.st_law.specs.Machine.{IsSettled};
+ghost use Rattle.st_kernel.specs.Kernel.{state_in, trace_of};
+
+use crate::recorded::{InputName, RecordedRun};
+use crate::runners::{OPERATOR, Runners, Sleepers};
+use st_base::{Seq, Tid, Worker};
+use st_calls::{Snapshot, Verdict};
+use st_filter::Judged;
+use st_kernel::{Kernel, Work};
+use st_report::Recorder;
+use st_trace::{Change, Choice, Entry};
+use std::alloc::{AllocError, Global};
+
+/// A run that runners take in turns.
+///
+/// A runner sleeps only if it can't go on, and a body only if some runner serves a call, so that somebody is awake as long as anybody sleeps.
+/// A body whose thread can't move, and a runner that has served a call, claim the next call before they sleep. If another one waits then, and
+/// a worker is idle, a runner is woken that can claim it: so too when a call is waiting again, and when a body returns. A body is woken when
+/// its thread can move: when its call is answered or blocked by a fault, when the operator has answered, and when its process runs another
+/// binary or dies. When nobody serves a call and none is waiting, all bodies are woken. The operator is woken when there is a question.
+#[derive(Drop)]
+pub struct Desk<'a, N: InputName, R: Recorder + Drop> {
+    run: RecordedRun<'a, N, R>,
+    // Whether every body has ended.
+    over: bool,
+    // Whether there may be a question.
+    may_ask: bool,
+    runners: Runners,
+    // Who can go on after this turn, beside those that were named.
+    woken: Sleepers,
+}
+
+/// What a body did with its turn.
+#[derive(Clone, Copy)]
+pub enum BodyTurn {
+    /// It isn't at its end. It may have to wait for its next turn.
+    Went,
+    /// It started the thread of this number.
+    Forked(Tid),
+    /// It serves a call under the number of this worker, which was idle.
+    Serves(Worker),
+    /// Its thread has ended, or the run is stopped.
+    Over,
+}
+
+/// What a worker's runner did with its turn.
+#[derive(Drop)]
+pub enum WorkerTurn {
+    /// The worker is still at its call.
+    Went,
+    /// The worker is ready with these copies.
+    Judge(st_base::Shared<Snapshot>),
+    /// The worker is idle, or the run is stopped.
+    Over,
+}
+
+// What the changes of a call mean for other runners.
+#[derive(Clone, Copy)]
+struct News {
+    // The thread that they start, if there is one.
+    started: Option<Tid>,
+    // Whether they may let other threads move: their process runs another binary, or dies.
+    may_end_threads: bool,
+    // Whether a call is waiting again.
+    renews: bool,
+}
+
+fn news_of(changes: &[Change]) -> News {
+    let mut news = News {
+        started: None,
+        may_end_threads: false,
+        renews: false,
+    };
+    for change in changes {
+        match change {
+            Change::Forked { tid, .. } => news.started = Some(*tid),
+            Change::Execed { .. } | Change::Dying(_) => news.may_end_threads = true,
+            Change::Renewed { .. } => news.renews = true,
+            _ => {}
+        }
+    }
+    news
+}
+
+impl<'a, N: InputName, R: Recorder + Drop> Desk<'a, N, R> {
+    /// A run whose runners haven't begun.
+    pub fn new(run: RecordedRun<'a, N, R>, runners: Runners) -> Desk<'a, N, R> {
+        Desk {
+            run,
+            over: false,
+            may_ask: true,
+            runners,
+            woken: Sleepers::Nobody,
+        }
+    }
+
+    /// The kernel, settled, and what recorded its run.
+    pub fn finish(self, alloc: Global) -> Result<(Kernel<'a>, R), AllocError>
+        ensures input { IfOk result (λ both. both.0.input ≡ N.input) }
+        ensures settled { IfOk result (λ both. IsSettled both.0.input (state_in both.0)) }
+        ensures noted { IfOk result (λ both. ∥ R.has_noted both.1 both.0.input (trace_of both.0) ∥₁) }
+    {
+        let Self { run, .. } = self;
+        run.finish(alloc)
+    }
+
+    /// Whether the script starts a thread of its own.
+    pub fn starts(&self, tid: Tid) -> bool {
+        self.run.starts(tid)
+    }
+
+    /// Notes that every body has ended. The other runners are woken, and return.
+    pub fn close(&mut self) {
+        self.over = true;
+        self.woken = Sleepers::Everybody;
+    }
+
+    /// Notes that a runner begins, if it was away.
+    pub fn begin(&mut self, runner: usize) {
+        self.runners.begin(runner);
+    }
+
+    /// Whether a runner waits.
+    pub fn waits(&self, runner: usize) -> bool {
+        self.runners.waits(runner)
+    }
+
+    /// Ends a turn. Returns the runner that is to take the next turn, if that one waits.
+    pub fn end_turn(&mut self) -> Option<usize> {
+        if self.run.is_stopped() {
+            self.woken = Sleepers::Everybody;
+        }
+        match self.woken {
+            Sleepers::Nobody => {}
+            _ => self.wake_sleepers(),
+        }
+        self.runners.take_ready()
+    }
+
+    fn wake_sleepers(&mut self) {
+        for runner in 0..self.runners.len() {
+            if self.is_woken(runner) {
+                self.runners.wake(runner);
+            }
+        }
+        self.woken = Sleepers::Nobody;
+    }
+
+    fn is_woken(&self, runner: usize) -> bool {
+        match self.woken {
+            Sleepers::Nobody => false,
+            Sleepers::Movable => { self.runners.is_body(runner) && self.can_move(runner) }
+            Sleepers::Bodies => self.runners.is_body(runner),
+            Sleepers::Everybody => true,
+        }
+    }
+
+    // Whether the thread of this number can move.
+    fn can_move(&self, tid: usize) -> bool {
+        match u32::try_from(tid) {
+            Ok(tid) => self.run.enabled(Choice::Thread(tid)),
+            Err(_) => false,
+        }
+    }
+
+    // The first worker that no runner serves, if it can claim a call.
+    fn claimant(&self) -> Option<Worker> {
+        let worker = self.runners.first_idle()?;
+        if self.run.enabled(Choice::Worker(worker)) {
+            Some(worker)
+        } else {
+            None
+        }
+    }
+
+    // Wakes a runner if an idle worker can claim a call.
+    fn wake_server(&mut self) {
+        if let Some(worker) = self.claimant() {
+            self.runners.wake_server(worker);
+        }
+    }
+
+    // Wakes the operator if there is a question.
+    fn wake_operator(&mut self) {
+        if self.may_ask && self.run.enabled(Choice::Operator) {
+            self.runners.wake(OPERATOR);
+        }
+    }
+
+    /// Moves a thread. If it can't move, claims a call under the number of an idle worker, or answers a question. If there is neither, its
+    /// runner sleeps until it is woken.
+    pub fn body_turn(&mut self, alloc: Global, tid: Tid) -> BodyTurn {
+        if self.run.is_stopped() {
+            return self.leave_body(tid);
+        }
+        let mut added = None;
+        if self.run.advance(alloc, Choice::Thread(tid), &mut added) {
+            return match &added {
+                Some(entry) => self.after_body(tid, entry),
+                None => BodyTurn::Went,
+            };
+        }
+        if let Some(worker) = self.claim_any(alloc) {
+            return BodyTurn::Serves(worker);
+        }
+        if self.ask(alloc) {
+            return BodyTurn::Went;
+        }
+        self.rest_body(tid)
+    }
+
+    // What a body's step means for its runner, and for those that wait.
+    fn after_body(&mut self, tid: Tid, entry: &Entry) -> BodyTurn {
+        match entry {
+            Entry::Ended { .. } => self.leave_body(tid),
+            Entry::Used { changes, .. } => self.after_use(tid, changes.as_slice()),
+            _ => BodyTurn::Went,
+        }
+    }
+
+    // A body that starts another begins again, since its runner and that of the other may go on one after the other.
+    fn after_use(&mut self, tid: Tid, changes: &[Change]) -> BodyTurn {
+        let news = news_of(changes);
+        if news.may_end_threads {
+            self.woken = Sleepers::Movable;
+        }
+        if news.renews {
+            self.wake_server();
+        }
+        match news.started {
+            Some(child) => {
+                self.runners.end(tid as usize);
+                BodyTurn::Forked(child)
+            }
+            None => BodyTurn::Went,
+        }
+    }
+
+    // The runner of a body returns.
+    fn leave_body(&mut self, tid: Tid) -> BodyTurn {
+        self.runners.end(tid as usize);
+        self.wake_server();
+        BodyTurn::Over
+    }
+
+    // A body whose thread can't move, and that finds nothing else to do, sleeps. If nobody serves a call, nobody would wake it.
+    fn rest_body(&mut self, tid: Tid) -> BodyTurn {
+        if self.run.is_stopped() || !self.runners.is_any_served() {
+            return self.leave_body(tid);
+        }
+        self.runners.sleep(tid as usize);
+        BodyTurn::Went
+    }
+
+    // Lets the first idle worker claim a call. Returns it if it did.
+    fn claim_any(&mut self, alloc: Global) -> Option<Worker> {
+        let worker = self.runners.first_idle()?;
+        if self.claim(alloc, worker) {
+            Some(worker)
+        } else {
+            None
+        }
+    }
+
+    // Lets an idle worker claim a call. Returns whether it did, and its runner has to serve it.
+    fn claim(&mut self, alloc: Global, worker: Worker) -> bool {
+        if self.run.is_stopped() || matches!(self.run.work(alloc, worker, &mut None), Work::Idle) {
+            return false;
+        }
+        self.runners.note_served(worker, true);
+        self.wake_server();
+        true
+    }
+
+    // Answers a question, if there is one.
+    fn ask(&mut self, alloc: Global) -> bool {
+        if !self.may_ask || self.run.is_stopped() {
+            return false;
+        }
+        self.may_ask = self.run.advance(alloc, Choice::Operator, &mut None);
+        if self.may_ask {
+            self.woken = Sleepers::Movable;
+            self.wake_operator();
+        }
+        self.may_ask
+    }
+
+    // Whether a runner that isn't a body has to return: every body has ended, or memory ran out.
+    fn is_closed(&self) -> bool {
+        self.over || self.run.is_stopped()
+    }
+
+    /// Lets a worker claim a call. Returns whether its runner has to serve it, or none if its runner has to return. If there is no call to
+    /// claim, its runner sleeps.
+    pub fn worker_claims(&mut self, alloc: Global, worker: Worker) -> Option<bool> {
+        let runner = self.runners.of_worker(worker);
+        if self.is_closed() {
+            self.runners.end(runner);
+            return None;
+        }
+        let claims = !self.runners.is_served(worker) && self.claim(alloc, worker);
+        if !claims {
+            self.runners.sleep(runner);
+        }
+        Some(claims)
+    }
+
+    /// Makes the next step of a worker that its runner serves.
+    pub fn work(&mut self, alloc: Global, worker: Worker) -> WorkerTurn {
+        if self.run.is_stopped() {
+            return WorkerTurn::Over;
+        }
+        let mut added = None;
+        match self.run.work(alloc, worker, &mut added) {
+            Work::Judge(copies) => WorkerTurn::Judge(copies),
+            Work::Went => match &added {
+                Some(Entry::Faulted { seq, .. }) => {
+                    self.release(*seq);
+                    self.rest_worker(worker)
+                }
+                _ => WorkerTurn::Went,
+            },
+            Work::Idle => self.rest_worker(worker),
+        }
+    }
+
+    // Wakes the body whose call has this number.
+    fn release(&mut self, seq: Seq) {
+        if let Some(tid) = self.run.holder(seq) {
+            self.runners.wake(tid as usize);
+        }
+    }
+
+    // No runner serves a worker any more.
+    fn rest_worker(&mut self, worker: Worker) -> WorkerTurn {
+        self.runners.note_served(worker, false);
+        if !self.runners.is_any_served() && self.claimant().is_none() {
+            self.woken = Sleepers::Bodies;
+        }
+        WorkerTurn::Over
+    }
+
+    /// Answers under the number of a worker that its runner serves.
+    pub fn answer(&mut self, alloc: Global, worker: Worker, judged: Judged<'a>)
+        requires { judged.policies ≡ N.input.policies }
+    {
+        if self.run.is_stopped() {
+            return;
+        }
+        let seq = judged.snapshot().seq;
+        let is_unmatched = matches!(judged.verdict(), Verdict::Unmatched);
+        self.run.answer(alloc, worker, judged);
+        if is_unmatched {
+            self.may_ask = true;
+            self.wake_operator();
+        }
+        self.release(seq);
+        self.rest_worker(worker);
+    }
+
+    /// Answers a question. If there is none, the operator's runner sleeps until it is woken. Returns whether it goes on.
+    pub fn operator_turn(&mut self, alloc: Global) -> bool {
+        if self.is_closed() {
+            self.runners.end(OPERATOR);
+            return false;
+        }
+        if !self.ask(alloc) {
+            self.runners.sleep(OPERATOR);
+        }
+        true
+    }
+}
