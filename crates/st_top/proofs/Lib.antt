@@ -1,5 +1,9 @@
 mod Endings
+mod GenMeaning
+mod GenEndings
 mod Learning
 mod Outcomes
 mod Preparing
 mod Runs
+mod RunEndings
+mod ThreadedRuns

@@ -8,7 +8,7 @@ use Rattle.st_report.specs.TraceText.{trace_text}
 use Rattle.st_report.specs.ScheduleText.{schedule_text}
 use Rattle.st_audit.specs.AuditText.{audit}
 use Rattle.st_audit.specs.PolicyText.{policy_text}
-use Rattle.st_command.specs.Reading.{command_in}
+use Rattle.st_command.specs.Reading.{command_in, gen_of_words}
 use Rattle.st_command.specs.Words.{Word}
 use Rattle.st_command.specs.declared.command.Command.{Command}
 use Rattle.st_command.specs.declared.command.Command.TheVariants as command
@@ -21,6 +21,7 @@ use Rattle.st_reading.specs.Meaning.{Contents, Meaning, Means}
 use Rattle.st_reading.specs.declared.refusal.Refusal.{Refusal}
 use Rattle.st_reading.specs.declared.refusal.Refusal.TheVariants as refusal
 use Rattle.st_reading.specs.declared.refusal.Which.{Which}
+use Rattle.st_top.specs.Generated.{MeansGenerated}
 use Rattle.st_top.specs.declared.status.Status.{Status}
 use Rattle.st_top.specs.declared.status.Status.TheVariants.{Missing, Usage, Policy, Script, ReadFault, NoMemory, Schedule, TooLong}
 
@@ -80,11 +81,16 @@ command_outcome print (meaning.Refuses refusal) = Refuses (status_of refusal)
 command_outcome print (meaning.Runs i schedule) = outcome_of_play print i (played i schedule)
 command_outcome print (meaning.Prints text) = Writes text
 
--- the outcome of words, by the command that they spell: wrong usage if they spell none
-abbrev pub HasOutcome : Contents → Option Command → CommandOutcome → Type 0
-HasOutcome contents None outcome = outcome ≡ Refuses Usage
-HasOutcome contents (Some c) outcome = (m : Meaning) × Means contents c m × (outcome ≡ command_outcome (print_of c) m)
+-- the outcome of words that spell neither `check` nor `step`: that of `gen`, or wrong usage
+abbrev pub HasOtherOutcome : Option ℕ → CommandOutcome → Type 0
+HasOtherOutcome None outcome = outcome ≡ Refuses Usage
+HasOtherOutcome (Some rounds) outcome = (m : Meaning) × MeansGenerated rounds m × (outcome ≡ command_outcome print.Audit m)
+
+-- the outcome of words, by the command or the rounds of `gen` that they spell
+abbrev pub HasOutcome : Contents → Option Command → Option ℕ → CommandOutcome → Type 0
+HasOutcome contents None rounds outcome = HasOtherOutcome rounds outcome
+HasOutcome contents (Some c) rounds outcome = (m : Meaning) × Means contents c m × (outcome ≡ command_outcome (print_of c) m)
 
 -- the outcome of words over files of which this much is known
 abbrev pub WordsHaveOutcome : List Word → Contents → CommandOutcome → Type 0
-WordsHaveOutcome words contents outcome = HasOutcome contents (command_in words) outcome
+WordsHaveOutcome words contents outcome = HasOutcome contents (command_in words) (gen_of_words words) outcome

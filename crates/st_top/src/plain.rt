@@ -8,7 +8,7 @@ ghost use Rattle.st_law.specs.Lawful.{Lawful};
 ghost use Rattle.st_law.specs.Machine.{run};
 ghost use Rattle.st_law.specs.Schedules.{Choices, BadLine, played};
 ghost use Rattle.st_command.specs.Command.{StepWords, CheckWords};
-ghost use Rattle.st_command.specs.Reading.{command_in, IsWithinLimits};
+ghost use Rattle.st_command.specs.Reading.{command_in, gen_of_words, IsWithinLimits};
 ghost use Rattle.st_command.specs.declared.command.Command.TheVariants.{Step, Check};
 ghost use Rattle.st_grammar.specs.declared.fault.PolicyRefusal.{PolicyRefusal};
 ghost use Rattle.st_script_faults.specs.declared.fault.ScriptFault.{ScriptFault};
@@ -17,12 +17,15 @@ ghost use Rattle.st_reading.specs.declared.refusal.Refusal.TheVariants as refusa
 ghost use Rattle.st_reading.specs.declared.refusal.Which.{Which};
 ghost use Rattle.st_reading.specs.declared.refusal.Which.TheVariants as which;
 ghost use Rattle.st_top.specs.Outcome.{CommandOutcome, WordsHaveOutcome, is_stop, print_of, printed};
+ghost use Rattle.st_generated_run.specs.Generated.{IsGeneratedLine};
+ghost use Rattle.st_top.specs.Generated.{IsGeneratedBy, WordsMeanGenerated};
 ghost use Rattle.st_top.specs.Ends.{Prepares, EndsCommand, IsMeantBy, WordsMeanUpTo, WantsMemoryFor, EndsAs, names_asked};
 
+use crate::generated::serve_generated;
 use crate::run::text_of_run;
 use crate::status::Status;
 use st_base::Text;
-use st_command::{Command, Print, read_words};
+use st_command::{Command, Print, read_gen_words, read_words};
 use st_outside::{Files, Sink, write_all};
 use st_reading::law::what_is_meant_to_run_can_run;
 use st_reading::{Reading, read_command};
@@ -74,9 +77,10 @@ fn serve<F: Files, S: Sink>(
     }
 }
 
-/// Runs the command of the words after the program's name: `step` or `check`, with these files and this sink.
+/// Runs the command of the words after the program's name: `step`, `check` or `gen`, with these files and this sink.
 ///
-/// The words are read first, then the script, then each policy file, then the schedule. The first of them that is refused decides.
+/// The words are read first, then the script, then each policy file, then the schedule. The first of them that is refused decides. `gen`
+/// asks for no file: its script and its policy are generated.
 pub fn systrace_plain<F: Files, S: Sink>(
     alloc: Global,
     words: &[Text],
@@ -93,22 +97,27 @@ pub fn systrace_plain<F: Files, S: Sink>(
     // `check` writes the canonical text of the policies that its words and files mean.
     ensures check { result ≡ Status.Done → (check : CheckWords) → command_in words.now ≡ Some (Check check) →
         (text : List ℕ) × Means (F.contents files.old) (Check check) (Prints text) × Appends (S.written out.old) (S.written out.new) text }
-    ensures served { result ≡ Status.Done → command_in words.now ≢ None }
+    // `gen` writes the line of the run of the generated script and policy of so many rounds.
+    ensures generated { result ≡ Status.Done → (rounds : ℕ) → gen_of_words words.now ≡ Some rounds →
+        (line : List ℕ) × IsGeneratedLine rounds line × Appends (S.written out.old) (S.written out.new) line }
+    ensures served { result ≡ Status.Done → (command_in words.now ≢ None) ⊎ (gen_of_words words.now ≢ None) }
     // If a text was written, whole or in part, all names of the command were asked for, in order.
     ensures asked { (result ≡ Status.Done) ⊎ (result ≡ Status.WriteFault) → F.asked files.new ≡ F.asked files.old ++ names_asked (command_in words.now) }
 
     // Each refusal is what the words and files mean, and the names that were asked for are those up to the refused file: none if the words
-    // spell no command.
-    ensures usage { result ≡ Status.Usage → (command_in words.now ≡ None) × (F.asked files.new ≡ F.asked files.old) }
+    // spell no command, or `gen`.
+    ensures usage { result ≡ Status.Usage → (command_in words.now ≡ None) × (gen_of_words words.now ≡ None) × (F.asked files.new ≡ F.asked files.old) }
     ensures missing { (w : Which) → result ≡ Status.Missing w → WordsMeanUpTo words.now (F.contents files.old) (Refuses (refusal.Missing w)) w (F.asked files.old) (F.asked files.new) }
     ensures too_long { (w : Which) → result ≡ Status.TooLong w → WordsMeanUpTo words.now (F.contents files.old) (Refuses (refusal.TooLong w)) w (F.asked files.old) (F.asked files.new) }
-    ensures script { (fault : ScriptFault) → result ≡ Status.Script fault → WordsMeanUpTo words.now (F.contents files.old) (Refuses (refusal.Script fault)) which.Script (F.asked files.old) (F.asked files.new) }
-    ensures policy { (n : ℕ) (fault : PolicyRefusal) → result ≡ Status.Policy n fault → WordsMeanUpTo words.now (F.contents files.old) (Refuses (refusal.Policy n fault)) (which.Policy n) (F.asked files.old) (F.asked files.new) }
+    ensures script { (fault : ScriptFault) → result ≡ Status.Script fault → WordsMeanUpTo words.now (F.contents files.old) (Refuses (refusal.Script fault)) which.Script (F.asked files.old) (F.asked files.new) ⊎
+        WordsMeanGenerated words.now (Refuses (refusal.Script fault)) (F.asked files.old) (F.asked files.new) }
+    ensures policy { (n : ℕ) (fault : PolicyRefusal) → result ≡ Status.Policy n fault → WordsMeanUpTo words.now (F.contents files.old) (Refuses (refusal.Policy n fault)) (which.Policy n) (F.asked files.old) (F.asked files.new) ⊎
+        WordsMeanGenerated words.now (Refuses (refusal.Policy n fault)) (F.asked files.old) (F.asked files.new) }
     ensures schedule { (line : ℕ) → result ≡ Status.Schedule line → (input : Input) × (schedule : ReadSchedule) ×
         WordsMeanUpTo words.now (F.contents files.old) (Runs input schedule) which.Schedule (F.asked files.old) (F.asked files.new) × (played input schedule ≡ BadLine line) }
     ensures read_fault { result ≡ Status.ReadFault → HasRisen (F.faults files.old) (F.faults files.new) × ((w : Which) × WordsMeanUpTo words.now (F.contents files.old) (Stops w) w (F.asked files.old) (F.asked files.new)) }
     ensures write_fault { result ≡ Status.WriteFault → HasRisen (S.faults out.old) (S.faults out.new) ×
-        ((text : List ℕ) × IsMeantBy words.now (F.contents files.old) text × AppendsPrefix (S.written out.old) (S.written out.new) text) }
+        ((text : List ℕ) × (IsMeantBy words.now (F.contents files.old) text ⊎ IsGeneratedBy words.now text) × AppendsPrefix (S.written out.old) (S.written out.new) text) }
     ensures no_memory { result ≡ Status.NoMemory → WantsMemoryFor (F.contents files.old) (command_in words.now) (F.asked files.old) (F.asked files.new) }
 
     // Nothing is written unless the call succeeds or writing fails, the files stay as they are, and no count rises without its fault.
@@ -122,6 +131,9 @@ pub fn systrace_plain<F: Files, S: Sink>(
         (outcome : CommandOutcome) → is_stop outcome ≡ false → WordsHaveOutcome words.now (F.contents files.old) outcome →
         (result ≡ Status.NoMemory) ⊎ EndsAs outcome (S.written out.old) (S.written out.new) result }
 {
+    if let Some(rounds) = read_gen_words(words) {
+        return serve_generated(alloc, rounds, out);
+    }
     match read_words(alloc, words) {
         Ok(Some(command)) => serve(alloc, &command, files, out),
         Ok(None) => Status::Usage,

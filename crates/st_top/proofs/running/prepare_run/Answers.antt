@@ -1,0 +1,18 @@
+use Rattle.std.proofs.Common.{ap, rules, subst}
+use Rattle.st_command.specs.Command.{RunWords}
+use Rattle.st_command.specs.declared.given.Print.{Print}
+use Rattle.st_top.specs.RunEnds.{ThreadsShow}
+use Rattle.st_top.proofs.ThreadedRuns.{threads_ready}
+use Rattle.st_top.proofs.running.prepare_run.Goals as goal
+
+pub text_of_threads-requires : goal.text_of_threads-requires
+text_of_threads-requires g c = (
+  search rules,
+  (search rules, c.what_run_means_can_run.ensures.runnable (g.F.Files.contents c.args.files.now) c.args.threaded.now c.in_ok-input.input c.requires.limits c.in_ok-input.ensures.ends.0),
+)
+
+pub returns-clause-prepares : goal.returns-clause-prepares
+returns-clause-prepares g c =
+    threads_ready (g.F.Files.contents c.args.files.now) c.args.threaded.now (g.F.Files.faults c.args.files.now) (g.F.Files.faults c.read_run.new.files) (g.F.Files.asked c.args.files.now) (g.F.Files.asked c.read_run.new.files)
+    c.in_ok-input.input c.in_ok-input.ensures.ends.0 c.in_ok-input.ensures.ends.1 c.text_of_threads.result
+    (subst (λ (print : Print). ThreadsShow print c.in_ok-input.input c.text_of_threads.result) (ap (λ (threaded : RunWords). threaded.print) c.threaded.view_is) c.text_of_threads.ensures)
