@@ -4,3 +4,4 @@ mod PlayedAgain
 mod OtherFilters
 mod OtherOptions
 mod ReadAgain
+mod ThreadsAgain

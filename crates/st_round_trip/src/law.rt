@@ -1,6 +1,6 @@
-ghost use Rattle.std.specs.Prelude.{◌≡◌, ◌≤◌, ◌∷◌, ℕ, List, [], length, reverse};
-ghost use Rattle.st_command.specs.Command.{StepWords};
-ghost use Rattle.st_command.specs.Reading.{IsWithinLimits};
+ghost use Rattle.std.specs.Prelude.{◌≡◌, ◌≤◌, ◌∷◌, ℕ, List, [], None, Some, length, reverse};
+ghost use Rattle.st_command.specs.Command.{RunWords, StepWords};
+ghost use Rattle.st_command.specs.Reading.{IsRunWithinLimits, IsWithinLimits};
 ghost use Rattle.st_command.specs.Words.{Word};
 ghost use Rattle.st_command.specs.declared.command.Command.TheVariants.{Step};
 ghost use Rattle.st_command.specs.declared.given.Print.TheVariants as print;
@@ -14,16 +14,20 @@ ghost use Rattle.st_law.specs.declared.input.ReadSchedule.{ReadSchedule};
 ghost use Rattle.st_outside.specs.Files.{CanHold, FileBytes};
 ghost use Rattle.st_outside.specs.declared.files.TheConstants.{FILE_LIMIT};
 ghost use Rattle.st_reading.specs.Meaning.{Contents, Means, Runs};
+ghost use Rattle.st_reading.specs.RunMeaning.{MeansRun, starts, with_schedule_of};
 ghost use Rattle.st_round_trip.specs.RoundTrip.{HoldBytes, IsReadAgain, IsScriptOf, Plays, enforcing, with_schedule};
 ghost use Rattle.st_schedule.specs.Schedule.{schedule_in};
 ghost use Rattle.st_script.specs.declared.reading.ReadScript.{ReadScript};
 ghost use Rattle.st_top.specs.Learning.{PermitsWhatWasMade, policies_after};
-ghost use Rattle.st_top.specs.Outcome.{printed};
+ghost use Rattle.st_top.specs.Outcome.{HasOutcome, Writes, printed};
+ghost use Rattle.st_top.specs.RunEnds.{IsWholeRun};
 ghost use Rattle.st_trace.specs.declared.entry.Choice.{Choice};
 
 use st_fault_laws::what_is_a_filter_is_read;
 use st_grammar::{reading_is_one, what_is_read_is_a_filter};
-use st_reading::law::what_is_meant_to_run_can_run;
+use st_reading::law::{
+    what_is_meant_to_run_can_run, what_run_means_can_run, what_run_means_step_means,
+};
 use st_relearn::law::{
     learnt_text_is_read_again, what_a_run_adds_can_be_written, what_a_script_says_can_be_written,
     what_was_read_is_what_can_be_written,
@@ -66,6 +70,21 @@ pub fn what_is_written_is_played_again()
         (name : Word) → contents name ≡ FileBytes (printed print.Schedule input choices) → length (printed print.Schedule input choices) ≤ FILE_LIMIT → Plays contents (with_schedule step name) input choices }
 {
     what_is_meant_to_run_can_run();
+    a_printed_schedule_is_read_again();
+}
+
+/// What `run` writes is what `step` writes: if a name holds the text of the choices that the threads of a `run` made, and the text isn't
+/// longer than a file may be, `step` with this schedule and otherwise the same words means to run the same input, the schedule is played as
+/// the same choices, and the outcome is the text that `run` writes.
+pub fn what_threads_made_is_played_again()
+    ensures plays { (contents : Contents) (threaded : RunWords) (input : Input) → IsRunWithinLimits threaded → MeansRun contents threaded (starts input) → (choices : List Choice) → IsWholeRun input choices →
+        (name : Word) → contents name ≡ FileBytes (printed print.Schedule input choices) → length (printed print.Schedule input choices) ≤ FILE_LIMIT → Plays contents (with_schedule_of threaded name) input choices }
+    ensures writes { (contents : Contents) (threaded : RunWords) (input : Input) → IsRunWithinLimits threaded → MeansRun contents threaded (starts input) → (choices : List Choice) → IsWholeRun input choices →
+        (name : Word) → contents name ≡ FileBytes (printed print.Schedule input choices) → length (printed print.Schedule input choices) ≤ FILE_LIMIT →
+        HasOutcome contents (Some (Step (with_schedule_of threaded name))) None (Writes (printed threaded.print input choices)) }
+{
+    what_run_means_can_run();
+    what_run_means_step_means();
     a_printed_schedule_is_read_again();
 }
 
