@@ -6,9 +6,10 @@ pub mod message;
 mod options;
 mod report;
 mod unread;
+mod usage;
 mod wrong_words;
 
-pub use answer::answer_of;
+pub use answer::{Answer, answer_of, answer_text};
 pub use report::line_of;
 pub use st_policy_diagnostics::policy_message;
 pub use st_policy_diagnostics::shown::OUT_OF_MEMORY;

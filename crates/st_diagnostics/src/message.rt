@@ -1,14 +1,10 @@
+use crate::usage::append_usage;
 use st_base::Text;
 use st_command::Command;
 use st_policy_diagnostics::shown::OUT_OF_MEMORY;
 use st_schedule_diagnostics::names::file_in;
 use st_top::{Status, Which};
 use std::alloc::{AllocError, Global};
-
-/// How the commands are written.
-pub const USAGE: &str =
-    "usage: systrace step [-f POLICY]... [-a|-A|-t] [-i] [-u] [-c U:G] [-w N] [--print audit|trace|schedule|policy] SCRIPT SCHEDULE
-       systrace check [-c U:G] POLICY [SCRIPT]";
 
 const REFUSED: &str = "refused, and no memory was left for the reason";
 
@@ -29,6 +25,12 @@ fn about_file(
     Ok(line)
 }
 
+fn usage_lines(alloc: Global) -> Result<Text, AllocError> {
+    let mut lines = Text::new(alloc);
+    append_usage(alloc, &mut lines)?;
+    Ok(lines)
+}
+
 /// The message for a status alone, without its newline; empty for `Done`.
 pub fn message(
     alloc: Global,
@@ -46,7 +48,7 @@ pub fn message(
         }
         Status::Script(_) => return about_file(alloc, command, Which::Script, REFUSED),
         Status::Schedule(_) => return about_file(alloc, command, Which::Schedule, REFUSED),
-        Status::Usage => USAGE,
+        Status::Usage => return usage_lines(alloc),
         Status::ReadFault => "systrace: a file could not be read",
         Status::WriteFault => "systrace: standard output could not be written",
         Status::NoMemory => OUT_OF_MEMORY,

@@ -1,13 +1,12 @@
-//! The two commands with their options and operands, as messages name them.
-
-/// The most operands that a command has.
-pub const MOST_OPERANDS: u32 = 2;
+//! The commands with their options and operands, as messages name them.
 
 /// A command, by its name.
 #[derive(Clone, Copy)]
 pub enum CommandName {
     Step,
     Check,
+    Run,
+    Gen,
 }
 
 /// Whether an option says what becomes of a call that no filter decides.
@@ -30,8 +29,8 @@ pub fn value_of(word: &[u8]) -> Option<&'static str> {
     }
 }
 
-// Whether a word is an option of `step`.
-fn is_of_step(word: &[u8]) -> bool {
+// Whether a word is an option of `step` and of `run`.
+fn is_of_runs(word: &[u8]) -> bool {
     is_mode(word)
         || word == b"-i".as_slice()
         || word == b"-u".as_slice()
@@ -45,6 +44,10 @@ impl CommandName {
             Some(CommandName::Step)
         } else if word == b"check".as_slice() {
             Some(CommandName::Check)
+        } else if word == b"run".as_slice() {
+            Some(CommandName::Run)
+        } else if word == b"gen".as_slice() {
+            Some(CommandName::Gen)
         } else {
             None
         }
@@ -53,17 +56,27 @@ impl CommandName {
     /// Whether a word is an option of the command.
     pub fn has_option(self, word: &[u8]) -> bool {
         match self {
-            CommandName::Step => is_of_step(word),
+            CommandName::Step | CommandName::Run => is_of_runs(word),
             CommandName::Check => word == b"-c".as_slice(),
+            CommandName::Gen => false,
+        }
+    }
+
+    /// The most operands that the command has.
+    pub fn most_operands(self) -> u32 {
+        match self {
+            CommandName::Step | CommandName::Check => 2,
+            CommandName::Run | CommandName::Gen => 1,
         }
     }
 
     /// The operand that is missing after so many others; none where they are enough.
     pub fn missing_after(self, count: u32) -> Option<&'static str> {
         match (self, count) {
-            (CommandName::Step, 0) => Some("SCRIPT"),
+            (CommandName::Step | CommandName::Run, 0) => Some("SCRIPT"),
             (CommandName::Step, 1) => Some("SCHEDULE"),
             (CommandName::Check, 0) => Some("POLICY"),
+            (CommandName::Gen, 0) => Some("N"),
             _ => None,
         }
     }
@@ -73,22 +86,29 @@ impl CommandName {
         match self {
             CommandName::Step => " is no option of step",
             CommandName::Check => " is no option of check",
+            CommandName::Run => " is no option of run",
+            CommandName::Gen => " is no option of gen",
         }
     }
 
     /// What is wrong with an option after an operand.
     pub fn option_too_late(self) -> &'static str {
         match self {
-            CommandName::Step => " stands after SCRIPT; options stand before it",
+            CommandName::Step | CommandName::Run => {
+                " stands after SCRIPT; options stand before it"
+            }
             CommandName::Check => " stands after POLICY; options stand before it",
+            CommandName::Gen => " stands after N; gen has no option",
         }
     }
 
-    /// What is wrong with a third operand.
+    /// What is wrong with an operand after the most that the command has.
     pub fn operand_too_many(self) -> &'static str {
         match self {
             CommandName::Step => " is an operand too many after SCRIPT and SCHEDULE",
             CommandName::Check => " is an operand too many after POLICY and SCRIPT",
+            CommandName::Run => " is an operand too many after SCRIPT",
+            CommandName::Gen => " is an operand too many after N",
         }
     }
 }

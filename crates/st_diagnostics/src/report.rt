@@ -1,9 +1,10 @@
+ghost use Rattle.std.specs.Prelude.{IfOk, IfSome};
 ghost use Rattle.st_command.specs.Reading.{IsWithinLimits};
 
 use crate::message::message;
 use crate::wrong_words::usage_message;
 use st_base::Text;
-use st_command::{Command, read_words};
+use st_command::{Command, StepWords, read_run_words, read_words};
 use st_grammar::PolicyRefusal;
 use st_law::Options;
 use st_outside::Files;
@@ -76,9 +77,26 @@ fn refused_file_message<F: Files>(
     }
 }
 
+// The command of words, for what is reported of it. A `run` is reported as the `step` with the same words: nothing that is reported of it is
+// about a schedule, so that the script stands where the schedule would.
+fn command_of(alloc: Global, words: &[Text]) -> Result<Option<Command<'_>>, AllocError>
+    ensures { IfOk result (λ command. IfSome command IsWithinLimits) }
+{
+    match read_run_words(alloc, words)? {
+        Some(run) => Ok(Some(Command::Step(StepWords {
+            policies: run.policies,
+            script: run.script,
+            schedule: run.script,
+            options: run.options,
+            print: run.print,
+        }))),
+        None => read_words(alloc, words),
+    }
+}
+
 /// The message about how a call with these words ended, over the files that it read, without its newline. If a file is refused, the first
 /// line says what was found there; if it names a byte, two more lines show it. If the words are no command, the first line says why, and
-/// two more how a command is written.
+/// the others how a command is written.
 pub fn line_of<F: Files>(
     alloc: Global,
     files: &mut F,
@@ -88,7 +106,7 @@ pub fn line_of<F: Files>(
     if matches!(status, Status::Usage) {
         return usage_message(alloc, words);
     }
-    let command = read_words(alloc, words)?;
+    let command = command_of(alloc, words)?;
     if let Some(command) = &command
         && let Some(line) = refused_file_message(alloc, files, command, status)?
     {

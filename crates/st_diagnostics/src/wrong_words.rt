@@ -1,11 +1,11 @@
 //! What is wrong with words that are no command: the first of them, from the left, with which no command can go on, or what is missing
 //! after the last.
 
-use crate::message::USAGE;
-use crate::options::{CommandName, MOST_OPERANDS, is_mode, value_of};
+use crate::options::{CommandName, is_mode, value_of};
+use crate::usage::append_usage;
 use st_base::{Sequence, Text};
-use st_command::read_words;
 use st_command::reading::MOST_POLICIES;
+use st_command::{read_gen_words, read_words};
 use st_policy_diagnostics::shown::append_shown;
 use std::alloc::{AllocError, Global};
 
@@ -79,6 +79,24 @@ fn append_wrong_value(
     append_wrong(line, word, "")
 }
 
+// Whether a word is a number of rounds: it is read where it is given to `gen`.
+fn is_rounds(alloc: Global, word: &[u8]) -> Result<bool, AllocError> {
+    let mut words = Vec::new(alloc);
+    for word in [b"gen".as_slice(), word] {
+        words.push(Text::of(alloc, word)?)?;
+    }
+    Ok(read_gen_words(words.as_slice()).is_some())
+}
+
+// Appends what `gen` takes instead of this word, and says whether that is wrong.
+fn append_wrong_rounds(alloc: Global, line: &mut Text, word: &[u8]) -> Result<bool, AllocError> {
+    if is_rounds(alloc, word)? {
+        return Ok(false);
+    }
+    line.append(b"N is 1 to 512, not ")?;
+    append_wrong(line, word, "")
+}
+
 // Each of these appends what is wrong, and says whether anything is.
 impl<'a> Reader<'a> {
     fn read_all(
@@ -102,7 +120,7 @@ impl<'a> Reader<'a> {
         } else if word.starts_with(b"-") {
             self.read_option(line, word)
         } else {
-            self.read_operand(line, word)
+            self.read_operand(alloc, line, word)
         }
     }
 
@@ -156,12 +174,20 @@ impl<'a> Reader<'a> {
         append_misused(line, option, " is given twice")
     }
 
-    fn read_operand(&mut self, line: &mut Text, word: &[u8]) -> Result<bool, AllocError> {
-        if self.operands >= MOST_OPERANDS {
+    fn read_operand(
+        &mut self,
+        alloc: Global,
+        line: &mut Text,
+        word: &[u8],
+    ) -> Result<bool, AllocError> {
+        if self.operands >= self.command.most_operands() {
             return append_wrong(line, word, self.command.operand_too_many());
         }
         self.operands = self.operands.saturating_add(1);
-        Ok(false)
+        match self.command {
+            CommandName::Gen => append_wrong_rounds(alloc, line, word),
+            _ => Ok(false),
+        }
     }
 
     // The option that was given of those that exclude each other.
@@ -245,17 +271,18 @@ fn append_wrong_words(alloc: Global, line: &mut Text, words: &[Text]) -> Result<
 /// The lines for words that are no command, without the last newline: what is wrong with them, and how a command is written.
 pub fn usage_message(alloc: Global, words: &[Text]) -> Result<Text, AllocError> {
     let mut line = Text::of(alloc, b"systrace: ")?;
-    if !append_wrong_words(alloc, &mut line, words)? {
-        return Text::of(alloc, USAGE.as_bytes());
+    if append_wrong_words(alloc, &mut line, words)? {
+        line.push(b'\n')?;
+    } else {
+        line.truncate(0);
     }
-    line.push(b'\n')?;
-    line.append(USAGE.as_bytes())?;
+    append_usage(alloc, &mut line)?;
     Ok(line)
 }
 
 /// The lines for words of which one is no UTF-8 text, without the last newline.
 pub fn no_text_message(alloc: Global) -> Result<Text, AllocError> {
     let mut line = Text::of(alloc, b"systrace: a word is no UTF-8 text\n")?;
-    line.append(USAGE.as_bytes())?;
+    append_usage(alloc, &mut line)?;
     Ok(line)
 }

@@ -1,5 +1,5 @@
-//! The program `systrace`, which runs the top call on the words of the command line. It writes the text to standard output and the reason
-//! of a refusal to standard error, and ends with the status's number.
+//! The program `systrace`, which runs a top call on the words of the command line: that of `run` if they begin with it. It writes the text to
+//! standard output and the reason of a refusal to standard error, and ends with the status's number.
 #![tactic(auto)]
 
 ghost use Rattle.std.specs.Prelude.{◌≡◌};
@@ -10,12 +10,16 @@ mod kept;
 
 use crate::kept::{Kept, KeptFiles};
 use st_base::Text;
-use st_diagnostics::{OUT_OF_MEMORY, answer_of, line_of, no_text_message, unread_message};
+use st_diagnostics::{
+    Answer, OUT_OF_MEMORY, answer_of, answer_text, line_of, no_text_message, unread_message,
+};
 use st_outside::{StdFiles, StdSink, Unread};
-use st_top::{Status, systrace_plain};
+use st_top::{OpenGate, Status, systrace_plain, systrace_run};
 use std::alloc::{AllocError, Global};
 use std::process::ExitCode;
 use std::rt::{Env, Files};
+use std::sync::Wait;
+use std::thread::Threads;
 use std::{env, io};
 
 // The words after the program's name.
@@ -46,15 +50,27 @@ fn message_of(
     line_of(alloc, &mut kept.files, words, status)
 }
 
-// Serves words that the top call is for. Gives the status, and the message about it.
-fn serve<R: Files + Print + AllocGlobal>(
+// Whether words begin with the command that moves the machine by threads.
+fn is_run(words: &[Text]) -> bool {
+    match words.first() {
+        Some(word) => word.bytes() == b"run".as_slice(),
+        None => false,
+    }
+}
+
+// Serves words that a top call is for. Gives the status, and the message about it.
+fn serve<R: Files + Print + AllocGlobal + Threads + Wait + Sync>(
     rt: &R,
     words: &[Text],
 ) -> (Status, Result<Text, AllocError>) {
     let alloc = rt.alloc();
     let mut files = KeptFiles::new(alloc, StdFiles::new(rt));
     let mut out = StdSink::new(rt);
-    let status = systrace_plain(alloc, words, &mut files, &mut out);
+    let status = if is_run(words) {
+        systrace_run(rt, alloc, words, &mut files, &mut out, &OpenGate).status
+    } else {
+        systrace_plain(alloc, words, &mut files, &mut out)
+    };
     let reason = files.files().reason();
     let mut kept = files.into_kept();
     let message = message_of(alloc, status, words, &mut kept, reason);
@@ -65,19 +81,22 @@ fn serve<R: Files + Print + AllocGlobal>(
 fn print<R: Print + AllocGlobal>(
     rt: &R,
     words: &[Text],
-    answer: &str,
+    answer: Answer,
 ) -> (Status, Result<Text, AllocError>) {
     let alloc = rt.alloc();
-    let status = match rt.print(answer) {
-        Ok(()) => Status::Done,
-        Err(_) => Status::WriteFault,
+    let status = match answer_text(alloc, answer) {
+        Ok(text) => match rt.write_all(text.bytes()) {
+            Ok(()) => Status::Done,
+            Err(_) => Status::WriteFault,
+        },
+        Err(_) => Status::NoMemory,
     };
     let message = message_of(alloc, status, words, &mut Kept::new(alloc), Unread::Other);
     (status, message)
 }
 
 // Runs the program on these words. Gives the status, and the message about it.
-fn run<R: Files + Print + AllocGlobal>(
+fn run<R: Files + Print + AllocGlobal + Threads + Wait + Sync>(
     rt: &R,
     words: &[Text],
 ) -> (Status, Result<Text, AllocError>) {
