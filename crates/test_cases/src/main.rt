@@ -3,6 +3,7 @@
 
 mod call;
 mod lines;
+mod options;
 mod statuses;
 mod table;
 

@@ -15,15 +15,17 @@
 //! | `:` | words that end with the status of the number, if no file can be read |
 //! | `u` | a name, after a blank: a file that can't be read, for the reason of the number |
 //! | `a` | words: whether they are answered, as `--help` and `--version` are |
+//! | `o` | words: whether they are an option of `step` and of `run`, and whether `--help` shows it |
 //!
 //! What is written of a call, after its line: for `$` its output, the number that it ends with, and its message; for `&` its output, and
 //! its status; for `?` its message, for `!` the first line of the message, and for `^` the other lines.
 
 use crate::call::{Ended, call, tell_status};
 use crate::lines::{count_of, first_line, other_lines, words_of};
+use crate::options::{is_read, is_shown};
 use crate::statuses::{reason_of, status_of};
 use st_base::Text;
-use st_diagnostics::{answer_of, unread_message};
+use st_diagnostics::{answer_of, answer_text, unread_message};
 use st_outside::MemoryFiles;
 use std::alloc::{AllocError, Global};
 
@@ -158,6 +160,7 @@ impl Table {
         let words = words_of(self.alloc, line)?;
         match mark {
             b'a' => self.answer(words.as_slice()),
+            b'o' => self.tell_option(words.as_slice()),
             b':' => self.report(words.as_slice()),
             b'u' => self.tell_unread(words.as_slice()),
             b'$' | b'&' | b'?' | b'!' | b'^' => self.call(mark, words.as_slice()),
@@ -167,9 +170,29 @@ impl Table {
 
     fn answer(&mut self, words: &[Text]) -> Result<(), AllocError> {
         match answer_of(words) {
-            Some(answer) => self.written.append(answer.as_bytes()),
+            Some(answer) => {
+                let text = answer_text(self.alloc, answer)?;
+                self.written.append(text.bytes())
+            }
             None => self.write_line(b"no answer"),
         }
+    }
+
+    // Writes whether words are an option, and whether it is shown.
+    fn tell_option(&mut self, words: &[Text]) -> Result<(), AllocError> {
+        let Some(option) = words.first() else {
+            return self.write_line(b"no option");
+        };
+        self.written.append(if is_read(self.alloc, words)? {
+            b"read, ".as_slice()
+        } else {
+            b"not read, ".as_slice()
+        })?;
+        self.write_line(if is_shown(self.alloc, option.bytes())? {
+            b"shown".as_slice()
+        } else {
+            b"not shown".as_slice()
+        })
     }
 
     // Writes the message for words that end with the status of the number, if no file can be read.

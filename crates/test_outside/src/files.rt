@@ -5,11 +5,11 @@ use std::process::{self, Abort};
 use std::test::Fail;
 use std::{fs, rt};
 
-// A name, and the result of its fetch, as a length.
-type Fetch<'a> = (&'a [u8], Result<usize, FetchFault>);
+/// A name, and the result of its fetch, as a length.
+pub type Fetch<'a> = (&'a [u8], Result<usize, FetchFault>);
 
-// Bytes that are all one letter.
-fn repeated(alloc: Global, len: usize) -> Result<Vec<u8>, Fail> {
+/// Bytes that are all one letter.
+pub fn repeated(alloc: Global, len: usize) -> Result<Vec<u8>, Fail> {
     Ok(vec![in alloc; b'x'; len]?)
 }
 
@@ -26,8 +26,8 @@ fn fetched_len<F: Files>(
     })
 }
 
-// Makes a fetch, and compares its result.
-fn fetch_one(
+/// Makes a fetch, and compares its result.
+pub fn fetch_one(
     rt: &(impl Abort + AllocGlobal),
     files: &mut impl Files,
     name: &[u8],

@@ -2,7 +2,11 @@
 #![tactic(auto)]
 
 #[cfg(test)]
+mod failing_host;
+#[cfg(test)]
 mod files;
+#[cfg(test)]
+mod folder;
 #[cfg(test)]
 mod pages;
 #[cfg(test)]

@@ -3,10 +3,11 @@
 use crate::is_shareable;
 use st_lookaside::{Head, Next, Slot, Slots};
 use st_messages::message::Message;
-use st_messages::{Delivered, Messages, MsgState};
+use st_messages::{Delivered, Messages, MsgState, Poster, Taker, Ticket};
 use st_report::{NoRecorder, Repeat, TraceRecorder};
 use st_threads::{CallingThread, NewIds, PendingCall, RenewalPlan, Thread};
 use st_workers::{Task, Turn, Workers};
+use std::sync::Mutex;
 
 /// Messages, slots and workers.
 pub fn messages_are_shareable() {
@@ -21,6 +22,13 @@ pub fn messages_are_shareable() {
     is_shareable::<Workers>();
     is_shareable::<Task>();
     is_shareable::<Turn>();
+}
+
+/// Tickets, and what posts and takes them, in turns.
+pub fn tickets_are_shareable() {
+    is_shareable::<Ticket>();
+    is_shareable::<Mutex<Poster>>();
+    is_shareable::<Mutex<Taker>>();
 }
 
 /// Threads, and what records their steps.

@@ -1,6 +1,6 @@
 use denote.Param.Send.{sendable}
 use Rattle.std.proofs.Crossing.{crosses}
-use Rattle.test_sharing.proofs.Crossing.{kernel_send, kernel_sync, machine_send, machine_sync, view_send, view_sync}
+use Rattle.st_monitor.proofs.Crossing.{kernel_send, kernel_sync, machine_send, machine_sync, view_send, view_sync}
 use Rattle.test_sharing.proofs.kernels.kernels_are_shareable.Goals as goal
 
 pub is_shareable-requires-send-T : goal.is_shareable-requires-send-T

@@ -1,5 +1,5 @@
 use denote.Param.Send.{sendable}
-use Rattle.test_sharing.proofs.Crossing.{answer_fault_send, answer_fault_sync}
+use Rattle.st_monitor.proofs.Crossing.{answer_fault_send, answer_fault_sync}
 use Rattle.test_sharing.proofs.kernels.works_are_shareable.Goals as goal
 
 pub is_shareable-requires-2-send-T : goal.is_shareable-requires-2-send-T

@@ -1,6 +1,6 @@
 use denote.Param.Send.{sendable}
 use Rattle.st_base.proofs.sequence.Sequence.TheSendSync as sequence
-use Rattle.test_sharing.proofs.Crossing.{binary_policy_send, binary_policy_sync, compiled_send, compiled_sync, expr_send, expr_sync, filter_send, filter_sync, input_send, input_sync, judged_send, judged_sync, policies_send, policies_sync, reply_send, reply_sync}
+use Rattle.st_monitor.proofs.Crossing.{binary_policy_send, binary_policy_sync, compiled_send, compiled_sync, expr_send, expr_sync, filter_send, filter_sync, input_send, input_sync, judged_send, judged_sync, policies_send, policies_sync, reply_send, reply_sync}
 use Rattle.test_sharing.proofs.policies.policies_are_shareable.Goals as goal
 
 pub is_shareable-requires-send-T : goal.is_shareable-requires-send-T

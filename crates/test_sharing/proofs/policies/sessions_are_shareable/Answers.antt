@@ -1,5 +1,5 @@
 use denote.Param.Send.{sendable}
-use Rattle.test_sharing.proofs.Crossing.{added_filter_send, added_filter_sync, answers_send, answers_sync, kept_filter_send, kept_filter_sync, operator_send, operator_sync, session_send, session_sync}
+use Rattle.st_monitor.proofs.Crossing.{added_filter_send, added_filter_sync, answers_send, answers_sync, kept_filter_send, kept_filter_sync, operator_send, operator_sync, session_send, session_sync}
 use Rattle.test_sharing.proofs.policies.sessions_are_shareable.Goals as goal
 
 pub is_shareable-requires-send-T : goal.is_shareable-requires-send-T
