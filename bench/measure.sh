@@ -1,10 +1,9 @@
 # What the scripts that measure commands of `systrace` share; they source it from the folder above this one.
 
-# Goes into a folder of its own, which is taken away at the end, with the programs `proved` and `unverified` in it.
-make_programs() {
+# Goes into a folder of its own, which is taken away at the end, with the program `proved` in it.
+make_proved() {
     out=$(mktemp -d)
     trap 'rm -rf "$out"' EXIT
-    rustc --edition 2024 -O -o "$out/unverified" bench/baseline/step/main.rs
     if [ -n "${SYSTRACE:-}" ]; then
         cp "$SYSTRACE" "$out/proved"
     else
@@ -12,6 +11,13 @@ make_programs() {
         cp crates/systrace/out/systrace "$out/proved"
     fi
     cd "$out"
+}
+
+# The same, with `unverified` too.
+make_programs() {
+    local sources=$PWD/bench/baseline/step
+    make_proved
+    rustc --edition 2024 -O -o unverified "$sources/main.rs"
 }
 
 # Sets `spent` to the processor time of all programs so far, user and system, in milliseconds. They are taken together, since the host only splits
@@ -29,20 +35,24 @@ note_spent() {
     done
 }
 
-# The processor time of one run of each program, in milliseconds: the mean of a hundred runs. The programs take turns at each run, since the host
-# is not equally fast all the time.
+# What one run of each program takes, in milliseconds: the processor time of the one and the other, and the time that passes. Each is the mean of
+# `runs` runs, a hundred without it. The programs take turns at each run, since the host is not equally fast all the time.
 milliseconds() {
-    local proved=0 unverified=0 program before spent
-    for _ in {1..100}; do
+    local proved=0 unverified=0 passed_proved=0 passed_unverified=0 program run before begun passed spent
+    for ((run = 0; run < ${runs:=100}; run++)); do
         for program in proved unverified; do
             note_spent
             before=$spent
+            begun=${EPOCHREALTIME/[.,]/}
             "./$program" "$@" > /dev/null
+            passed=$((${EPOCHREALTIME/[.,]/} - begun))
             note_spent
             printf -v "$program" %d $((${!program} + spent - before))
+            printf -v "passed_$program" %d $((passed_$program + passed))
         done
     done
-    awk -v a="$proved" -v b="$unverified" 'BEGIN { printf "%.2f %.2f", a / 100, b / 100 }'
+    awk -v n="$runs" -v a="$proved" -v b="$unverified" -v c="$passed_proved" -v d="$passed_unverified" \
+        'BEGIN { printf "%.2f %.2f %.2f %.2f", a / n, b / n, c / n / 1000, d / n / 1000 }'
 }
 
 # Millions of instructions, or nothing without valgrind.
@@ -65,7 +75,8 @@ quotient() {
     awk -v a="$1" -v b="$2" 'BEGIN { if (b > 0) printf "%.2f", a / b; else printf "-" }'
 }
 
-# Has each program write its text of these words, after the kind that they are of. Both have to end with 0 and to write the same.
+# Has each program write its text of these words, after the kind that they are of. Both have to end with 0 and to write the same, with `any_order`
+# the same lines.
 write_texts() {
     local program status
     for program in proved unverified; do
@@ -74,6 +85,7 @@ write_texts() {
             echo "$1: the $program program ends with $status" >&2
             exit "$status"
         }
+        if [ -n "${any_order:-}" ]; then sort -o "$program.text" "$program.text"; fi
     done
     if ! cmp -s proved.text unverified.text; then
         echo "$1: the programs write different texts" >&2
@@ -81,11 +93,11 @@ write_texts() {
     fi
 }
 
-# The head of a table whose first columns have these names.
+# The head of a table whose first columns have these names. With `time_passed` the table has that time too.
 print_head() {
     local row='|' line='|' column
-    for column in "$@" 'ms, proved' unverified quotient 'million instructions, proved' unverified quotient \
-        'MiB, proved' unverified quotient; do
+    for column in "$@" ${time_passed:+'ms passed, proved' unverified quotient} 'ms, proved' unverified quotient \
+        'million instructions, proved' unverified quotient 'MiB, proved' unverified quotient; do
         row="$row $column |"
         line="$line---|"
     done
@@ -94,9 +106,10 @@ print_head() {
 
 # A row of the table: its first columns, and then what these words cost each program.
 print_row() {
-    local row=$1 unit a b
+    local row=$1 unit a b c d
     shift
-    read -r a b <<< "$(milliseconds "$@")"
+    read -r a b c d <<< "$(milliseconds "$@")"
+    if [ -n "${time_passed:-}" ]; then row="$row $c | $d | $(quotient "$c" "$d") |"; fi
     row="$row $a | $b | $(quotient "$a" "$b") |"
     for unit in instructions memory; do
         a=$("$unit" ./proved "$@")
@@ -104,4 +117,23 @@ print_row() {
         row="$row $a | $b | $(quotient "$a" "$b") |"
     done
     echo "$row"
+}
+
+# Writes the files policy, script and schedule of a run of as many threads as may be, each of which holds call after call.
+threads() {
+    {
+        echo 'Policy: /bin/cat, Emulation: native'
+        echo 'native-fsread: filename eq "/srv/f" then permit'
+    } > policy
+    {
+        printf 'dir "/srv" 0 0 755\nfile "/srv/f" 0 0 644 "x"\n'
+        for p in $(seq 8); do echo "process p$p traced \"/bin/cat\" 1000 1000 \"/\""; done
+        for t in $(seq 64); do
+            echo "thread t$t in p$((t % 8 + 1))"
+            echo 'put 0 "/srv/f"'
+            for _ in $(seq 60); do echo 'call access 0 4'; done
+            echo end
+        done
+    } > script
+    echo rest > schedule
 }

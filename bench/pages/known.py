@@ -7,9 +7,9 @@ from . import markdown, tree
 from .names import Names
 
 # Words of Rust, of the kit and of contracts that no source of this repository has to declare.
-FOREIGN = set("Ok Err Some None Option Result Vec VecDeque AllocError ensures requires old rt ci".split())
-# Commands that docs/DECISIONS.md names as not built.
-NOT_BUILT = {"gen", "replay"}
+FOREIGN = set("push_as Ok Err Some None Option Result Vec VecDeque AllocError ensures requires old rt ci".split())
+# A command that docs/DECISIONS.md names as not built.
+NOT_BUILT = {"replay"}
 WORD = re.compile(r"[A-Za-z_$][\w-]*")
 LITERAL = re.compile(r'b?"((?:[^"\\]|\\.)*)"', re.S)
 MAN_WORDS = re.compile(r"\.(?:Ql|Fl|Cm|Er|It|Ic|Ar|Pa)\b(.*)")

@@ -8,7 +8,7 @@ use crate::script::{Instr, Script};
 use crate::system::{Change, System};
 use crate::tree;
 use std::collections::BTreeSet;
-use std::rc::Rc;
+use std::sync::Arc;
 
 pub struct Options {
     pub mode: Mode,
@@ -39,17 +39,18 @@ struct Pending {
 /// What a message keeps of its call.
 #[derive(Clone)]
 struct Head {
+    tid: usize,
     pid: usize,
     ids: Ids,
     cwd: Vec<u8>,
-    policy: Rc<Policy>,
+    policy: Arc<Policy>,
     rule: Rule,
     call: Call,
     regs: Regs,
 }
 
 struct Message {
-    head: Rc<Head>,
+    head: Arc<Head>,
     /// What it was answered with. A question has none until the operator has answered it.
     answer: Option<Answer>,
 }
@@ -70,7 +71,7 @@ impl Messages {
 
     fn post(&mut self, head: Head) -> u64 {
         let seq = self.next_seq();
-        self.all.push(Some(Message { head: Rc::new(head), answer: None }));
+        self.all.push(Some(Message { head: Arc::new(head), answer: None }));
         self.waiting.insert(seq);
         seq
     }
@@ -94,14 +95,38 @@ impl Messages {
 
 enum Answer {
     Fault(Errno),
-    Verdict(Verdict, Rc<[Arg]>),
+    Verdict(Verdict, Arc<[Arg]>),
 }
 
 /// What a worker has at hand.
 struct Turn {
     seq: u64,
-    head: Rc<Head>,
+    head: Arc<Head>,
     gathering: Gathering,
+}
+
+/// A call whose arguments are there, to be judged.
+pub struct Judging {
+    seq: u64,
+    head: Arc<Head>,
+    args: Arc<[Arg]>,
+}
+
+impl Judging {
+    pub fn judge(&self) -> Verdict {
+        self.head.policy.decide(self.head.rule, &self.args, self.head.ids)
+    }
+}
+
+/// What the runner of a thread does next.
+pub enum Next {
+    Move,
+    /// Its call waits, and this worker is idle.
+    Claim(usize),
+    /// The operator is asked about its call.
+    Ask,
+    Wait,
+    End,
 }
 
 pub struct Kernel {
@@ -112,6 +137,9 @@ pub struct Kernel {
     operator: Operator,
     aliasing: bool,
     printer: Printer,
+    /// The thread that the last step started, and those that it let go on.
+    started: Option<usize>,
+    released: Vec<usize>,
 }
 
 impl Kernel {
@@ -139,6 +167,8 @@ impl Kernel {
             operator,
             aliasing: options.aliasing,
             printer,
+            started: None,
+            released: Vec::new(),
         }
     }
 
@@ -176,6 +206,8 @@ impl Kernel {
         if !self.is_enabled(choice) {
             return false;
         }
+        self.started = None;
+        self.released.clear();
         match choice {
             Choice::Thread(tid) => self.thread_step(tid),
             Choice::Worker(worker) => self.worker_step(worker),
@@ -195,6 +227,68 @@ impl Kernel {
             self.advance(choice);
         }
     }
+
+    // What those need who run the machine by threads.
+
+    pub fn threads(&self) -> usize {
+        self.threads.len()
+    }
+
+    pub fn has_started(&self, tid: usize) -> bool {
+        self.threads[tid].pid.is_some()
+    }
+
+    pub fn next(&self, tid: usize) -> Next {
+        let thread = &self.threads[tid];
+        if thread.ended {
+            return Next::End;
+        }
+        if self.can_move(thread) {
+            return Next::Move;
+        }
+        let Some(Pending { way: Way::Held(seq), .. }) = thread.pending else { return Next::Wait };
+        if self.messages.waiting.contains(&seq) {
+            return self.workers.iter().position(Option::is_none).map_or(Next::Wait, Next::Claim);
+        }
+        if self.operator.is_asked_about(seq) { Next::Ask } else { Next::Wait }
+    }
+
+    /// The threads whose calls wait, if a worker is idle.
+    pub fn claimable(&self) -> impl Iterator<Item = usize> {
+        let most = if self.workers.iter().any(Option::is_none) { usize::MAX } else { 0 };
+        self.messages.waiting.iter().take(most).filter_map(|&seq| Some(self.messages.get(seq)?.head.tid))
+    }
+
+    /// The message that a worker is at.
+    pub fn working_on(&self, worker: usize) -> Option<u64> {
+        self.workers[worker].as_ref().map(|turn| turn.seq)
+    }
+
+    pub fn take_started(&mut self) -> Option<usize> {
+        self.started.take()
+    }
+
+    pub fn take_released(&mut self) -> Vec<usize> {
+        std::mem::take(&mut self.released)
+    }
+
+    /// What a worker is to judge, if it is ready. It is the one who is given this that answers for the worker.
+    pub fn ready(&mut self, worker: usize) -> Option<Judging> {
+        let turn = self.workers[worker].as_mut()?;
+        if !matches!(turn.gathering.need(), Need::Ready) {
+            return None;
+        }
+        let args = std::mem::take(&mut turn.gathering.args).into();
+        Some(Judging { seq: turn.seq, head: Arc::clone(&turn.head), args })
+    }
+
+    /// Makes the step of a worker that answers what it had to judge.
+    pub fn answer(&mut self, worker: usize, judging: Judging, verdict: Verdict) {
+        self.give_answer(worker, judging, verdict);
+        self.printer.choice(Choice::Worker(worker));
+    }
+
+    // Threads.
 
     fn thread_step(&mut self, tid: usize) {
         let thread = &mut self.threads[tid];
@@ -236,8 +330,8 @@ impl Kernel {
             _ => Way::Held(self.messages.next_seq()),
         };
         if matches!(way, Way::Held(_)) {
-            let (cwd, policy) = (process.cwd.clone(), Rc::clone(&process.policy));
-            self.messages.post(Head { pid, ids: process.ids, cwd, policy, rule, call, regs });
+            let (cwd, policy) = (process.cwd.clone(), Arc::clone(&process.policy));
+            self.messages.post(Head { tid, pid, ids: process.ids, cwd, policy, rule, call, regs });
         }
         self.threads[tid].pending = Some(Pending { call, regs, child, way });
         self.printer.entry(Entry::Entered { tid, call, regs: &regs, way });
@@ -273,26 +367,31 @@ impl Kernel {
                 self.printer.entry(Entry::Looked { seq, part, name: &name, seen: &seen });
             }
             Need::Fault(errno) => {
+                self.released.push(turn.head.tid);
                 self.workers[worker] = None;
                 self.messages.answer(seq, Answer::Fault(errno));
                 self.printer.entry(Entry::Faulted { seq, errno });
             }
-            Need::Ready => self.answer(worker),
+            Need::Ready => {
+                if let Some(judging) = self.ready(worker) {
+                    let verdict = judging.judge();
+                    self.give_answer(worker, judging, verdict);
+                }
+            }
         }
     }
 
     fn claim(&mut self, worker: usize) {
         let Some(seq) = self.messages.waiting.pop_first() else { return };
-        let Some(head) = self.messages.get(seq).map(|message| Rc::clone(&message.head)) else { return };
+        let Some(head) = self.messages.get(seq).map(|message| Arc::clone(&message.head)) else { return };
         let gathering = Gathering::new(head.call, head.regs, head.cwd.clone());
         self.workers[worker] = Some(Turn { seq, head, gathering });
         self.printer.entry(Entry::Claimed { worker, seq });
     }
 
-    fn answer(&mut self, worker: usize) {
-        let Some(Turn { seq, head, gathering }) = self.workers[worker].take() else { return };
-        let args: Rc<[Arg]> = gathering.args.into();
-        let verdict = head.policy.decide(head.rule, &args, head.ids);
+    fn give_answer(&mut self, worker: usize, judging: Judging, verdict: Verdict) {
+        let Judging { seq, head, args } = judging;
+        self.workers[worker] = None;
         let judged = Judged {
             pid: head.pid,
             ids: head.ids,
@@ -307,6 +406,7 @@ impl Kernel {
         if !applied {
             return;
         }
+        self.released.push(head.tid);
         let verdict = match verdict {
             Verdict::Unmatched => self.operator.decide(seq, &head.policy, head.rule, &args, head.ids),
             _ => Some(verdict),
@@ -320,6 +420,7 @@ impl Kernel {
 
     fn operator_step(&mut self) {
         for (seq, verdict, args) in self.operator.answer(&mut self.printer) {
+            self.released.extend(self.messages.get(seq).map(|message| message.head.tid));
             self.messages.answer(seq, Answer::Verdict(verdict, args));
         }
     }
@@ -330,7 +431,7 @@ impl Kernel {
         match pending.way {
             Way::Fast | Way::Untraced => self.use_at_once(tid, pid, pending),
             Way::Barred(errno) => {
-                let policy = Rc::clone(&self.system.processes[pid].policy);
+                let policy = Arc::clone(&self.system.processes[pid].policy);
                 let rule = Rule::of_call(pending.call, &pending.regs, self.aliasing);
                 self.printer.entry(Entry::Denied { tid, seq: None, errno, cause: Cause::Filter(1) });
                 let (policy, how, result) = (&policy.binary, How::Barred, Err(errno));
@@ -344,7 +445,7 @@ impl Kernel {
     fn use_at_once(&mut self, tid: usize, pid: usize, pending: Pending) {
         let Pending { call, regs, child, way } = pending;
         let process = &self.system.processes[pid];
-        let (ids, policy) = (process.ids, Rc::clone(&process.policy));
+        let (ids, policy) = (process.ids, Arc::clone(&process.policy));
         let gathered = self.gather(pid, call, regs, process.cwd.clone());
         let (args, outcome) = match gathered {
             Err(errno) => (Vec::new(), Err(errno)),
@@ -455,6 +556,7 @@ impl Kernel {
         if let Some(thread) = child.map(|tid| &mut self.threads[tid]).filter(|thread| thread.pid.is_none()) {
             thread.pid = Some(pid);
             self.system.processes[pid].threads = 1;
+            self.started = child;
         }
     }
 
@@ -463,6 +565,7 @@ impl Kernel {
             let thread = &mut self.threads[tid];
             if thread.pid == Some(pid) && !thread.ended && Some(tid) != but {
                 thread.dying = true;
+                self.released.push(tid);
                 if let Some(Pending { way: Way::Held(seq), .. }) = thread.pending.take() {
                     self.close(seq);
                 }

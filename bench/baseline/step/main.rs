@@ -1,12 +1,13 @@
-//! `systrace step` and `systrace check` in plain Rust, of which nothing is proved: what the proved program is measured
-//! against.
+//! `systrace` in plain Rust, of which nothing is proved: what the proved program is measured against.
 mod args;
 mod calls;
+mod generator;
 mod glob;
 mod kernel;
 mod operator;
 mod policy;
 mod print;
+mod run;
 mod script;
 mod system;
 mod tokens;
@@ -41,13 +42,14 @@ struct Command {
     options: Options,
     kind: PrintKind,
     script: String,
-    schedule: String,
+    /// Of `step`.
+    schedule: Option<String>,
 }
 
 fn main() -> ExitCode {
     // A word that is no text is no word of a command.
     let words: Result<Vec<String>, _> = std::env::args_os().skip(1).map(OsString::into_string).collect();
-    let text = words.map_err(|_| Status::Usage).and_then(|words| run(&words));
+    let text = words.map_err(|_| Status::Usage).and_then(|words| text_of(&words));
     match text.and_then(|text| io::stdout().lock().write_all(text.as_bytes()).map_err(|_| Status::WriteFault)) {
         Ok(()) => ExitCode::SUCCESS,
         Err(status) => {
@@ -57,35 +59,69 @@ fn main() -> ExitCode {
     }
 }
 
-fn run(words: &[String]) -> Result<String, Status> {
-    match words.split_first() {
-        Some((name, rest)) if name == "step" => step(rest),
-        Some((name, rest)) if name == "check" => check(rest),
+fn text_of(words: &[String]) -> Result<String, Status> {
+    let (name, rest) = words.split_first().ok_or(Status::Usage)?;
+    match name.as_str() {
+        "step" => play(&parse(rest, true).ok_or(Status::Usage)?),
+        "run" => play(&parse(rest, false).ok_or(Status::Usage)?),
+        "check" => check(rest),
+        "gen" => generate(rest),
         _ => Err(Status::Usage),
     }
 }
 
-/// The canonical text of the policies of one file, which is read without a script and without ids.
+/// The canonical text of the policies of one file. The script, where there is one, is read first.
 fn check(words: &[String]) -> Result<String, Status> {
-    let [file] = words else { return Err(Status::Usage) };
-    if file.starts_with('-') {
+    let (ids, operands) = match words {
+        [option, ids, rest @ ..] if option == "-c" => (Some(both_ids(ids).ok_or(Status::Usage)?), rest),
+        _ => (None, words),
+    };
+    let (file, script) = match operands {
+        [file] => (file, None),
+        [file, script] => (file, Some(script)),
+        _ => return Err(Status::Usage),
+    };
+    if operands.iter().any(|word| word.starts_with('-')) {
         return Err(Status::Usage);
     }
+    let options = Options { mode: Mode::Enforce, inherit: false, aliasing: true, ids, workers: 1 };
+    let env = match script {
+        Some(name) => script::read_script(&fetch(name)?, &options).map_err(|_| Status::Script)?.env,
+        None => Env { elevate: ids.is_some(), ..Env::default() },
+    };
     let mut printer = Printer::new(PrintKind::Policy);
-    Policies::default().read(&fetch(file)?, &Env::default(), &mut printer).map_err(|_| Status::Policy)?;
+    Policies::default().read(&fetch(file)?, &env, &mut printer).map_err(|_| Status::Policy)?;
     Ok(printer.finish())
 }
 
-fn step(words: &[String]) -> Result<String, Status> {
-    let command = parse(words).ok_or(Status::Usage)?;
+/// What is counted in the run of a script that is generated.
+fn generate(words: &[String]) -> Result<String, Status> {
+    let [number] = words else { return Err(Status::Usage) };
+    let number = decimal(number).filter(|n| (1..=512).contains(n)).ok_or(Status::Usage)?;
+    let options = Options { mode: Mode::Enforce, inherit: false, aliasing: true, ids: None, workers: 1 };
+    let script = script::read_script(generator::script(number).as_bytes(), &options).map_err(|_| Status::Script)?;
+    let mut printer = Printer::new(PrintKind::Summary);
+    let mut policies = Policies::default();
+    policies.read(generator::POLICY.as_bytes(), &script.env, &mut printer).map_err(|_| Status::Policy)?;
+    let mut kernel = Kernel::start(script, policies, &options, printer);
+    kernel.rest();
+    Ok(kernel.finish())
+}
+
+/// The text of the run that a schedule gives, or that threads make where there is none.
+fn play(command: &Command) -> Result<String, Status> {
     let script = script::read_script(&fetch(&command.script)?, &command.options).map_err(|_| Status::Script)?;
     let mut printer = Printer::new(command.kind);
     let mut policies = Policies::default();
     for name in &command.policies {
         policies.read(&fetch(name)?, &script.env, &mut printer).map_err(|_| Status::Policy)?;
     }
-    let schedule = script::read_schedule(&fetch(&command.schedule)?).map_err(|_| Status::Schedule)?;
+    let schedule = match &command.schedule {
+        Some(name) => Some(script::read_schedule(&fetch(name)?).map_err(|_| Status::Schedule)?),
+        None => None,
+    };
     let mut kernel = Kernel::start(script, policies, &command.options, printer);
+    let Some(schedule) = schedule else { return Ok(run::run(kernel).finish()) };
     for line in schedule {
         match line {
             SchedLine::Rest => kernel.rest(),
@@ -111,8 +147,8 @@ fn fetch(name: &str) -> Result<Vec<u8>, Status> {
     if text.len() as u64 > MOST_BYTES { Err(Status::TooLong) } else { Ok(text) }
 }
 
-/// What `step` is asked to do by the words after it, or none where they are none that is served.
-fn parse(words: &[String]) -> Option<Command> {
+/// What `step` or `run` is asked to do by the words after it, or none where they are none that is served.
+fn parse(words: &[String], has_schedule: bool) -> Option<Command> {
     let mut words = words.iter().map(String::as_str);
     let mut policies = Vec::new();
     let (mut inherit, mut whole_names) = (false, false);
@@ -129,10 +165,7 @@ fn parse(words: &[String]) -> Option<Command> {
             "-t" => mode.replace(Mode::Ask).is_some(),
             "-i" => std::mem::replace(&mut inherit, true),
             "-u" => std::mem::replace(&mut whole_names, true),
-            "-c" => {
-                let (uid, gid) = words.next()?.split_once(':')?;
-                ids.replace((decimal(uid)?, decimal(gid)?)).is_some()
-            }
+            "-c" => ids.replace(both_ids(words.next()?)?).is_some(),
             "-w" => workers.replace(decimal(words.next()?).filter(|n| (1..=8).contains(n))?).is_some(),
             "--print" => {
                 let named = match words.next()? {
@@ -150,14 +183,20 @@ fn parse(words: &[String]) -> Option<Command> {
             return None;
         }
     };
-    let schedule = words.next()?;
-    if words.next().is_some() || script.starts_with('-') || schedule.starts_with('-') {
+    let schedule = if has_schedule { Some(words.next()?) } else { None };
+    if words.next().is_some() || script.starts_with('-') || schedule.is_some_and(|word| word.starts_with('-')) {
         return None;
     }
     let mode = mode.unwrap_or(Mode::Enforce);
     let options = Options { mode, inherit, aliasing: !whole_names, ids, workers: workers.unwrap_or(1) as usize };
     let kind = kind.unwrap_or(PrintKind::Audit);
-    Some(Command { policies, options, kind, script: script.to_string(), schedule: schedule.to_string() })
+    Some(Command { policies, options, kind, script: script.to_string(), schedule: schedule.map(String::from) })
+}
+
+/// A user and a group, with a colon between them.
+fn both_ids(word: &str) -> Option<(u32, u32)> {
+    let (uid, gid) = word.split_once(':')?;
+    Some((decimal(uid)?, decimal(gid)?))
 }
 
 /// A decimal without a sign and without zeros in front.

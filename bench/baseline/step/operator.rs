@@ -3,8 +3,8 @@ use crate::calls::{Arg, Ids, Rule};
 use crate::policy::{self, Filter, Policies, Policy, Reply, Verdict};
 use crate::print::{Entry, Printer};
 use std::collections::{BTreeMap, HashMap, VecDeque};
-use std::rc::Rc;
 use std::slice;
+use std::sync::Arc;
 
 /// What becomes of a call that no filter decides.
 #[derive(Clone, Copy, PartialEq, Eq)]
@@ -26,16 +26,16 @@ struct Session {
     /// The filters that are kept, in order.
     filters: Vec<Filter>,
     /// Which of them was learnt from a call with these arguments.
-    learnt: HashMap<Rc<[Arg]>, usize>,
+    learnt: HashMap<Arc<[Arg]>, usize>,
     /// The replies that are left, with their numbers.
     replies: VecDeque<(usize, Filter)>,
 }
 
 /// A held call about which the operator is asked.
 struct Question {
-    policy: Rc<Policy>,
+    policy: Arc<Policy>,
     rule: Rule,
-    args: Rc<[Arg]>,
+    args: Arc<[Arg]>,
     ids: Ids,
 }
 
@@ -77,7 +77,14 @@ impl Operator {
 
     /// What the kept filters decide on a held call that those which were read leave open. There is no verdict where it is
     /// a question now.
-    pub fn decide(&mut self, seq: u64, policy: &Rc<Policy>, rule: Rule, args: &Rc<[Arg]>, ids: Ids) -> Option<Verdict> {
+    pub fn decide(
+        &mut self,
+        seq: u64,
+        policy: &Arc<Policy>,
+        rule: Rule,
+        args: &Arc<[Arg]>,
+        ids: Ids,
+    ) -> Option<Verdict> {
         if self.mode == Mode::Enforce {
             return Some(Verdict::Unmatched);
         }
@@ -93,7 +100,7 @@ impl Operator {
         if !is_asked || !matches!(verdict, Verdict::Unmatched) {
             return Some(verdict);
         }
-        let (policy, args) = (Rc::clone(policy), Rc::clone(args));
+        let (policy, args) = (Arc::clone(policy), Arc::clone(args));
         self.questions.insert(seq, Question { policy, rule, args, ids });
         None
     }
@@ -102,15 +109,19 @@ impl Operator {
         !self.questions.is_empty()
     }
 
+    pub fn is_asked_about(&self, seq: u64) -> bool {
+        self.questions.contains_key(&seq)
+    }
+
     /// The message of this number lives no more.
     pub fn withdraw(&mut self, seq: u64) {
         self.questions.remove(&seq);
     }
 
     /// Answers the least question, and gives those that are none any more.
-    pub fn answer(&mut self, printer: &mut Printer) -> Vec<(u64, Verdict, Rc<[Arg]>)> {
+    pub fn answer(&mut self, printer: &mut Printer) -> Vec<(u64, Verdict, Arc<[Arg]>)> {
         let Some((&seq, question)) = self.questions.first_key_value() else { return Vec::new() };
-        let (policy, rule) = (Rc::clone(&question.policy), question.rule);
+        let (policy, rule) = (Arc::clone(&question.policy), question.rule);
         let topic = (policy.number, rule);
         let session = self.sessions.entry(topic).or_default();
         let number = policy.filters(rule).len() + session.filters.len() + 1;
@@ -121,7 +132,7 @@ impl Operator {
             }
             // In the mode that asks there is a reply left for each question.
             None => {
-                session.learnt.insert(Rc::clone(&question.args), session.filters.len());
+                session.learnt.insert(Arc::clone(&question.args), session.filters.len());
                 printer.entry(Entry::Learned { seq, number });
                 Filter::learnt(&question.args)
             }
@@ -138,7 +149,7 @@ impl Operator {
             let verdict = policy::decide(slice::from_ref(&filter), number, &other.args, other.ids);
             let goes_on = matches!(verdict, Verdict::Unmatched) && !is_last;
             if !goes_on {
-                ended.push((seq, verdict, Rc::clone(&other.args)));
+                ended.push((seq, verdict, Arc::clone(&other.args)));
             }
             goes_on
         });

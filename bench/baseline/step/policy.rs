@@ -6,7 +6,7 @@ use crate::tokens::{self, Dollars, Kind, Quoted, Token};
 use std::borrow::Cow;
 use std::collections::HashMap;
 use std::fmt::{self, Display, Formatter};
-use std::rc::Rc;
+use std::sync::Arc;
 
 const MOST_FILTERS: usize = 4096;
 const MOST_OPERATORS: usize = 64;
@@ -211,22 +211,22 @@ impl Predicate {
 
 #[derive(Default)]
 pub struct Policies {
-    by_binary: HashMap<Vec<u8>, Rc<Policy>>,
+    by_binary: HashMap<Vec<u8>, Arc<Policy>>,
     filters: usize,
 }
 
 impl Policies {
     /// The policy of a binary, which is empty where none was read.
-    pub fn get(&mut self, binary: &[u8]) -> Rc<Policy> {
+    pub fn get(&mut self, binary: &[u8]) -> Arc<Policy> {
         match self.by_binary.get(binary) {
-            Some(policy) => Rc::clone(policy),
+            Some(policy) => Arc::clone(policy),
             None => self.add(binary.to_vec(), HashMap::new()),
         }
     }
 
-    fn add(&mut self, binary: Vec<u8>, rules: HashMap<Rule, Vec<Filter>>) -> Rc<Policy> {
-        let policy = Rc::new(Policy { number: self.by_binary.len(), binary, rules });
-        self.by_binary.insert(policy.binary.clone(), Rc::clone(&policy));
+    fn add(&mut self, binary: Vec<u8>, rules: HashMap<Rule, Vec<Filter>>) -> Arc<Policy> {
+        let policy = Arc::new(Policy { number: self.by_binary.len(), binary, rules });
+        self.by_binary.insert(policy.binary.clone(), Arc::clone(&policy));
         policy
     }
 

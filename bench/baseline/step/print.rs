@@ -15,6 +15,7 @@ pub enum PrintKind {
     Trace,
     Schedule,
     Policy,
+    Summary,
 }
 
 #[derive(Clone, Copy, PartialEq, Eq)]
@@ -94,9 +95,42 @@ pub enum How<'a> {
     Denied(Cause<'a>),
 }
 
+/// How many entries there are, of the kinds that are counted.
+#[derive(Default)]
+struct Counts {
+    entries: u64,
+    calls: u64,
+    used: u64,
+    failed: u64,
+    denied: u64,
+}
+
+impl Counts {
+    fn count(&mut self, entry: &Entry) {
+        self.entries += 1;
+        match entry {
+            Entry::Entered { .. } => self.calls += 1,
+            Entry::Denied { .. } => self.denied += 1,
+            Entry::Used { used, .. } => {
+                self.used += 1;
+                self.failed += u64::from(used.result.is_err());
+            }
+            _ => {}
+        }
+    }
+}
+
+impl Display for Counts {
+    fn fmt(&self, f: &mut Formatter) -> fmt::Result {
+        let Counts { entries, calls, used, failed, denied } = self;
+        write!(f, "calls {calls} used {used} failed {failed} denied {denied} entries {entries}")
+    }
+}
+
 pub struct Printer {
     kind: PrintKind,
     text: String,
+    counts: Counts,
     /// The last choices, which were the same.
     run: Option<(Choice, u32)>,
     /// The texts of policies, and where that of each number stands among them.
@@ -106,7 +140,14 @@ pub struct Printer {
 
 impl Printer {
     pub fn new(kind: PrintKind) -> Printer {
-        Printer { kind, text: String::new(), run: None, policies: Vec::new(), places: HashMap::new() }
+        Printer {
+            kind,
+            text: String::new(),
+            counts: Counts::default(),
+            run: None,
+            policies: Vec::new(),
+            places: HashMap::new(),
+        }
     }
 
     fn line(&mut self, line: impl Display) {
@@ -115,8 +156,10 @@ impl Printer {
     }
 
     pub fn entry(&mut self, entry: Entry) {
-        if self.kind == PrintKind::Trace {
-            self.line(entry);
+        match self.kind {
+            PrintKind::Trace => self.line(entry),
+            PrintKind::Summary => self.counts.count(&entry),
+            _ => {}
         }
     }
 
@@ -167,6 +210,10 @@ impl Printer {
 
     pub fn finish(mut self) -> String {
         self.end_run();
+        if self.kind == PrintKind::Summary {
+            let counts = std::mem::take(&mut self.counts);
+            self.line(counts);
+        }
         self.text.extend(self.policies);
         self.text
     }

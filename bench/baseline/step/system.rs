@@ -3,7 +3,7 @@ use crate::calls::{Arg, Call, Errno, Ids, O_APPEND, O_CREAT, O_EXCL, O_TRUNC, Re
 use crate::policy::{Policies, Policy};
 use crate::tree::{self, Kind, MOST_BYTES, Object, Tree, Want};
 use std::collections::{BTreeMap, HashSet};
-use std::rc::Rc;
+use std::sync::Arc;
 
 const MEMORY: usize = 65_536;
 const MOST_DESCRIPTORS: usize = 64;
@@ -27,7 +27,7 @@ struct OpenFile {
 
 pub struct Process {
     pub traced: bool,
-    pub policy: Rc<Policy>,
+    pub policy: Arc<Policy>,
     pub ids: Ids,
     pub cwd: Vec<u8>,
     pub alive: bool,
@@ -599,7 +599,7 @@ impl System {
         let parent = &self.processes[pid];
         let child = Process {
             traced: parent.traced,
-            policy: Rc::clone(&parent.policy),
+            policy: Arc::clone(&parent.policy),
             ids: parent.ids,
             cwd: parent.cwd.clone(),
             alive: true,
