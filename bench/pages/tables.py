@@ -79,7 +79,7 @@ def short_costs(crates, _):
 # By page, the parts that it has to have.
 PARTS = {
     "README.md": {"crates": crate_list, "costs": short_costs},
-    "bench/README.md": {"sizes": sizes, "gate times": gate_times} | {name: measured(name) for name in ("run", "run_step", "run_check")},
+    "bench/README.md": {"sizes": sizes, "gate times": gate_times} | {name: measured(name) for name in ("run", "run_step", "run_check", "run_run")},
     "docs/ARCHITECTURE.md": {"crates": crate_tables},
 }
 
