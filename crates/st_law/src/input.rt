@@ -3,13 +3,25 @@ use st_filter::{PolicySet, Reply};
 use st_trace::{Choice, Start};
 
 /// The input of a run: the policies that were read, the script's start, the operator's replies, and the options.
-#[derive(Debug, Drop)]
+#[derive(Debug)]
 pub struct Input {
     pub policies: PolicySet,
     pub start: Start,
     /// The script's replies to questions, counted from 1.
     pub replies: Sequence<Reply>,
     pub options: Options,
+}
+
+// Written out, so that another crate that drops one calls this, and doesn't drop its parts one by one.
+impl Drop for Input {
+    fn drop(self) {
+        let Self {
+            policies: _,
+            start: _,
+            replies: _,
+            options: _,
+        } = self;
+    }
 }
 
 /// What happens to a call that no filter decides, by the options of systrace(1).
