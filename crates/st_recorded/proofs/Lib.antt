@@ -1,0 +1,2 @@
+mod Posted
+mod Recording

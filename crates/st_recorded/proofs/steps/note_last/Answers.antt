@@ -1,0 +1,10 @@
+use Rattle.std.proofs.Common.{◌∙◌}
+use Rattle.std.proofs.lemmas.Result.{on_ok_weaker}
+use Rattle.st_kernel.proofs.Plays.{noted_on}
+use Rattle.st_recorded.proofs.steps.note_last.Goals as goal
+
+pub returns : goal.returns
+returns g c =
+    on_ok_weaker c.note.result
+    (λ noted old choice on adds. noted_on (g.R.Recorder.has_noted c.args.recorder.now) (g.R.Recorder.has_noted c.note.new.self) old choice c.in-Some.entry c.args.kernel.now c.input.result.now c.session.result.now.filters on c.input.ensures c.session.ensures (adds ∙ c.in-Some.is) noted)
+    c.note.ensures

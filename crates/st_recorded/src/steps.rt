@@ -1,0 +1,112 @@
+// Steps of a kernel whose entries are given to a recorder.
+ghost use Rattle.std.specs.Prelude.{◌≡◌, ◌≤◌, true, is_some, OnOk};
+ghost use Rattle.st_trace.specs.declared.entry.Choice.{Choice};
+ghost use Rattle.st_law.specs.Machine.{entry_of};
+ghost use Rattle.st_law.specs.Meaning.{IsWorker};
+ghost use Rattle.st_kernel.specs.Kernel.{state_in, trace_of, with_choice, RunSoFar};
+
+use st_base::Worker;
+use st_filter::Judged;
+use st_kernel::{Kernel, StepFault, Work};
+use st_report::Recorder;
+use st_trace::{Choice, Entry};
+use std::alloc::{AllocError, Global};
+
+// Gives the recorder the entry that the last choice added.
+fn note_last<R: Recorder>(
+    kernel: &Kernel<'_>,
+    recorder: &mut R,
+    alloc: Global,
+    added: &Option<Entry>,
+) -> Result<(), AllocError>
+    requires { is_some added.now ≡ true }
+    ensures { OnOk result ((old : RunSoFar) (choice : Choice) → kernel.now ≡ with_choice old choice → entry_of old.input (state_in old) choice ≡ added.now → R.has_noted recorder.old old.input (trace_of old) → R.has_noted recorder.new kernel.now.input (trace_of kernel.now)) }
+{
+    let Some(entry) = added else { unreachable!() };
+    recorder.note(
+        alloc,
+        kernel.input(),
+        kernel.compiled(),
+        kernel.session(),
+        entry,
+    )
+}
+
+/// Makes a choice, stores its entry in `added`, and gives it to the recorder. Returns whether the choice was enabled; one that isn't
+/// changes neither the run nor what is recorded.
+pub fn advance<R: Recorder>(
+    kernel: &mut Kernel<'_>,
+    recorder: &mut R,
+    alloc: Global,
+    choice: Choice,
+    added: &mut Option<Entry>,
+) -> Result<bool, AllocError>
+    ensures input { kernel.new.input ≡ kernel.old.input }
+    ensures posted { (state_in kernel.old).posted ≤ (state_in kernel.new).posted }
+    ensures noted { OnOk result (R.has_noted recorder.old kernel.old.input (trace_of kernel.old) → R.has_noted recorder.new kernel.new.input (trace_of kernel.new)) }
+{
+    match kernel.advance(alloc, choice, added) {
+        Ok(()) => {}
+        Err(StepFault::NotEnabled) => return Ok(false),
+        Err(StepFault::NoMemory) => return Err(AllocError),
+    }
+    note_last(kernel, recorder, alloc, added)?;
+    Ok(true)
+}
+
+// Whether there is a worker of this number.
+fn has_worker(kernel: &Kernel<'_>, worker: Worker) -> bool
+    ensures { result ≡ true → IsWorker kernel.now.input worker }
+{
+    0 < worker && worker <= kernel.input().options.workers
+}
+
+/// Moves a worker, unless it is ready: then its copies are returned, and nothing changes. The entry that a move adds is stored in `added`
+/// and given to the recorder. A worker that isn't there is idle.
+pub fn work<R: Recorder>(
+    kernel: &mut Kernel<'_>,
+    recorder: &mut R,
+    alloc: Global,
+    worker: Worker,
+    added: &mut Option<Entry>,
+) -> Result<Work, AllocError>
+    ensures input { kernel.new.input ≡ kernel.old.input }
+    ensures posted { (state_in kernel.old).posted ≤ (state_in kernel.new).posted }
+    ensures noted { OnOk result (R.has_noted recorder.old kernel.old.input (trace_of kernel.old) → R.has_noted recorder.new kernel.new.input (trace_of kernel.new)) }
+{
+    if !has_worker(kernel, worker) {
+        return Ok(Work::Idle);
+    }
+    match kernel.work(alloc, worker, added)? {
+        Work::Went => {}
+        Work::Judge(copies) => return Ok(Work::Judge(copies)),
+        Work::Idle => return Ok(Work::Idle),
+    }
+    note_last(kernel, recorder, alloc, added)?;
+    Ok(Work::Went)
+}
+
+/// Answers a call that was judged by the policies of the run, under the number of its worker, and gives the entry to the recorder. Returns
+/// whether the worker was ready with this call; if not, nothing changes.
+pub fn answer<'a, R: Recorder>(
+    kernel: &mut Kernel<'a>,
+    recorder: &mut R,
+    alloc: Global,
+    worker: Worker,
+    judged: Judged<'a>,
+) -> Result<bool, AllocError>
+    requires { judged.policies ≡ kernel.old.input.policies }
+    ensures input { kernel.new.input ≡ kernel.old.input }
+    ensures posted { (state_in kernel.old).posted ≤ (state_in kernel.new).posted }
+    ensures noted { OnOk result (R.has_noted recorder.old kernel.old.input (trace_of kernel.old) → R.has_noted recorder.new kernel.new.input (trace_of kernel.new)) }
+{
+    if !has_worker(kernel, worker) {
+        return Ok(false);
+    }
+    let mut added = None;
+    if kernel.answer(worker, judged, &mut added).ok().is_none() {
+        return Ok(false);
+    }
+    note_last(kernel, recorder, alloc, &added)?;
+    Ok(true)
+}
