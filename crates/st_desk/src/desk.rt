@@ -3,23 +3,26 @@ ghost use Rattle.std.specs.Prelude.{◌≡◌, IfOk};
 ghost use Rattle.st_law.specs.Machine.{IsSettled};
 ghost use Rattle.st_kernel.specs.Kernel.{state_in, trace_of};
 
-use crate::recorded::{InputName, RecordedRun};
 use crate::runners::{OPERATOR, Runners, Sleepers};
 use st_base::{Seq, Tid, Worker};
 use st_calls::{Snapshot, Verdict};
 use st_filter::Judged;
 use st_kernel::{Kernel, Work};
+use st_messages::Ticket;
+use st_recorded::{InputName, News, RecordedRun, TicketUse};
 use st_report::Recorder;
-use st_trace::{Change, Choice, Entry};
+use st_trace::Choice;
 use std::alloc::{AllocError, Global};
+use std::sync::Wait;
 
 /// A run that runners take in turns.
 ///
 /// A runner sleeps only if it can't go on, and a body only if some runner serves a call, so that somebody is awake as long as anybody sleeps.
-/// A body whose thread can't move, and a runner that has served a call, claim the next call before they sleep. If another one waits then, and
-/// a worker is idle, a runner is woken that can claim it: so too when a call is waiting again, and when a body returns. A body is woken when
-/// its thread can move: when its call is answered or blocked by a fault, when the operator has answered, and when its process runs another
-/// binary or dies. When nobody serves a call and none is waiting, all bodies are woken. The operator is woken when there is a question.
+/// A body whose thread can't move claims a call that no worker has claimed before it sleeps; the runner of a worker claims by tickets. If
+/// another call waits then, and a worker is idle, a runner is woken that can claim it: so too when a call is waiting again, when a body
+/// returns, and when the runner of a worker finds no ticket. A body is woken when its thread can move: when its call is answered or blocked
+/// by a fault, when the operator has answered, and when its process runs another binary or dies. When nobody serves a call and none is
+/// waiting, all bodies are woken. The operator is woken when there is a question.
 #[derive(Drop)]
 pub struct Desk<'a, N: InputName, R: Recorder + Drop> {
     run: RecordedRun<'a, N, R>,
@@ -45,7 +48,20 @@ pub enum BodyTurn {
     Over,
 }
 
-/// What a worker's runner did with its turn.
+/// What the runner of a worker did with its turn and its ticket.
+#[derive(Clone, Copy)]
+pub enum ClaimTurn {
+    /// It serves the call that its worker has claimed, and its ticket is spent.
+    Serves,
+    /// Its ticket is skipped or spent, and it takes the next one.
+    Went,
+    /// It sleeps. If it has a ticket, it keeps it.
+    Sleeps,
+    /// It returns: every body has ended, or the run is stopped.
+    Over,
+}
+
+/// What the runner that serves a worker did with its turn.
 #[derive(Drop)]
 pub enum WorkerTurn {
     /// The worker is still at its call.
@@ -54,34 +70,6 @@ pub enum WorkerTurn {
     Judge(st_base::Shared<Snapshot>),
     /// The worker is idle, or the run is stopped.
     Over,
-}
-
-// What the changes of a call mean for other runners.
-#[derive(Clone, Copy)]
-struct News {
-    // The thread that they start, if there is one.
-    started: Option<Tid>,
-    // Whether they may let other threads move: their process runs another binary, or dies.
-    may_end_threads: bool,
-    // Whether a call is waiting again.
-    renews: bool,
-}
-
-fn news_of(changes: &[Change]) -> News {
-    let mut news = News {
-        started: None,
-        may_end_threads: false,
-        renews: false,
-    };
-    for change in changes {
-        match change {
-            Change::Forked { tid, .. } => news.started = Some(*tid),
-            Change::Execed { .. } | Change::Dying(_) => news.may_end_threads = true,
-            Change::Renewed { .. } => news.renews = true,
-            _ => {}
-        }
-    }
-    news
 }
 
 impl<'a, N: InputName, R: Recorder + Drop> Desk<'a, N, R> {
@@ -191,38 +179,42 @@ impl<'a, N: InputName, R: Recorder + Drop> Desk<'a, N, R> {
 
     /// Moves a thread. If it can't move, claims a call under the number of an idle worker, or answers a question. If there is neither, its
     /// runner sleeps until it is woken.
-    pub fn body_turn(&mut self, alloc: Global, tid: Tid) -> BodyTurn {
+    pub fn body_turn<T: Wait>(&mut self, rt: &T, alloc: Global, tid: Tid) -> BodyTurn {
         if self.run.is_stopped() {
             return self.leave_body(tid);
         }
-        let mut added = None;
-        if self.run.advance(alloc, Choice::Thread(tid), &mut added) {
-            return match &added {
-                Some(entry) => self.after_body(tid, entry),
-                None => BodyTurn::Went,
-            };
+        match self.move_body(rt, alloc, tid) {
+            Some(turn) => turn,
+            None => self.find_work(rt, alloc, tid),
         }
-        if let Some(worker) = self.claim_any(alloc) {
+    }
+
+    // Makes the next step of a thread, if it can move.
+    fn move_body<T: Wait>(&mut self, rt: &T, alloc: Global, tid: Tid) -> Option<BodyTurn> {
+        if !self.run.advance(rt, alloc, Choice::Thread(tid)) {
+            return None;
+        }
+        let news = self.run.news();
+        if news.ended {
+            return Some(self.leave_body(tid));
+        }
+        Some(self.after_step(tid, news))
+    }
+
+    // What a body does whose thread can't move.
+    fn find_work<T: Wait>(&mut self, rt: &T, alloc: Global, tid: Tid) -> BodyTurn {
+        if let Some(worker) = self.claim_any(rt, alloc) {
             return BodyTurn::Serves(worker);
         }
-        if self.ask(alloc) {
+        if self.ask(rt, alloc) {
             return BodyTurn::Went;
         }
         self.rest_body(tid)
     }
 
-    // What a body's step means for its runner, and for those that wait.
-    fn after_body(&mut self, tid: Tid, entry: &Entry) -> BodyTurn {
-        match entry {
-            Entry::Ended { .. } => self.leave_body(tid),
-            Entry::Used { changes, .. } => self.after_use(tid, changes.as_slice()),
-            _ => BodyTurn::Went,
-        }
-    }
-
-    // A body that starts another begins again, since its runner and that of the other may go on one after the other.
-    fn after_use(&mut self, tid: Tid, changes: &[Change]) -> BodyTurn {
-        let news = news_of(changes);
+    // What a body's step means for its runner, and for those that wait. A body that starts another begins again, since its runner and that of
+    // the other may go on one after the other.
+    fn after_step(&mut self, tid: Tid, news: News) -> BodyTurn {
         if news.may_end_threads {
             self.woken = Sleepers::Movable;
         }
@@ -255,31 +247,36 @@ impl<'a, N: InputName, R: Recorder + Drop> Desk<'a, N, R> {
     }
 
     // Lets the first idle worker claim a call. Returns it if it did.
-    fn claim_any(&mut self, alloc: Global) -> Option<Worker> {
+    fn claim_any<T: Wait>(&mut self, rt: &T, alloc: Global) -> Option<Worker> {
         let worker = self.runners.first_idle()?;
-        if self.claim(alloc, worker) {
+        if self.claim(rt, alloc, worker) {
             Some(worker)
         } else {
             None
         }
     }
 
-    // Lets an idle worker claim a call. Returns whether it did, and its runner has to serve it.
-    fn claim(&mut self, alloc: Global, worker: Worker) -> bool {
-        if self.run.is_stopped() || matches!(self.run.work(alloc, worker, &mut None), Work::Idle) {
+    // Lets an idle worker claim a call. Returns whether it did, and is to be served.
+    fn claim<T: Wait>(&mut self, rt: &T, alloc: Global, worker: Worker) -> bool {
+        if self.run.is_stopped() || !self.run.claim(rt, alloc, worker) {
             return false;
         }
-        self.runners.note_served(worker, true);
-        self.wake_server();
+        self.begin_service(worker);
         true
     }
 
+    // A runner serves a worker from now on.
+    fn begin_service(&mut self, worker: Worker) {
+        self.runners.note_served(worker, true);
+        self.wake_server();
+    }
+
     // Answers a question, if there is one.
-    fn ask(&mut self, alloc: Global) -> bool {
+    fn ask<T: Wait>(&mut self, rt: &T, alloc: Global) -> bool {
         if !self.may_ask || self.run.is_stopped() {
             return false;
         }
-        self.may_ask = self.run.advance(alloc, Choice::Operator, &mut None);
+        self.may_ask = self.run.advance(rt, alloc, Choice::Operator);
         if self.may_ask {
             self.woken = Sleepers::Movable;
             self.wake_operator();
@@ -292,37 +289,76 @@ impl<'a, N: InputName, R: Recorder + Drop> Desk<'a, N, R> {
         self.over || self.run.is_stopped()
     }
 
-    /// Lets a worker claim a call. Returns whether its runner has to serve it, or none if its runner has to return. If there is no call to
-    /// claim, its runner sleeps.
-    pub fn worker_claims(&mut self, alloc: Global, worker: Worker) -> Option<bool> {
+    /// Lets a worker claim a call by a ticket that its runner took. Without one the runner sleeps until it is woken, and so it does while
+    /// another one serves the worker.
+    pub fn worker_claims<T: Wait>(
+        &mut self,
+        rt: &T,
+        alloc: Global,
+        worker: Worker,
+        ticket: Option<Ticket>,
+    ) -> ClaimTurn {
         let runner = self.runners.of_worker(worker);
         if self.is_closed() {
             self.runners.end(runner);
-            return None;
+            return ClaimTurn::Over;
         }
-        let claims = !self.runners.is_served(worker) && self.claim(alloc, worker);
-        if !claims {
+        if self.runners.is_served(worker) {
             self.runners.sleep(runner);
+            return ClaimTurn::Sleeps;
         }
-        Some(claims)
+        match ticket {
+            Some(ticket) => self.claim_by_ticket(rt, alloc, worker, ticket),
+            None => self.rest_without_ticket(runner),
+        }
+    }
+
+    fn claim_by_ticket<T: Wait>(
+        &mut self,
+        rt: &T,
+        alloc: Global,
+        worker: Worker,
+        ticket: Ticket,
+    ) -> ClaimTurn {
+        match self.run.use_ticket(rt, alloc, worker, ticket) {
+            TicketUse::Claimed => {
+                self.begin_service(worker);
+                ClaimTurn::Serves
+            }
+            TicketUse::Skipped | TicketUse::Spent => ClaimTurn::Went,
+        }
+    }
+
+    // The runner of a worker sleeps. A call may be waiting all the same, if its ticket was used for one before it: then a body is woken, and
+    // claims it without a ticket.
+    fn rest_without_ticket(&mut self, runner: usize) -> ClaimTurn {
+        if self.claimant().is_some() {
+            self.runners.wake_body();
+        }
+        self.runners.sleep(runner);
+        ClaimTurn::Sleeps
     }
 
     /// Makes the next step of a worker that its runner serves.
-    pub fn work(&mut self, alloc: Global, worker: Worker) -> WorkerTurn {
+    pub fn work<T: Wait>(&mut self, rt: &T, alloc: Global, worker: Worker) -> WorkerTurn {
         if self.run.is_stopped() {
             return WorkerTurn::Over;
         }
-        let mut added = None;
-        match self.run.work(alloc, worker, &mut added) {
+        match self.run.work(rt, alloc, worker) {
             Work::Judge(copies) => WorkerTurn::Judge(copies),
-            Work::Went => match &added {
-                Some(Entry::Faulted { seq, .. }) => {
-                    self.release(*seq);
-                    self.rest_worker(worker)
-                }
-                _ => WorkerTurn::Went,
-            },
             Work::Idle => self.rest_worker(worker),
+            Work::Went => self.after_work(worker),
+        }
+    }
+
+    // What a worker's step means for its runner, and for those that wait.
+    fn after_work(&mut self, worker: Worker) -> WorkerTurn {
+        match self.run.news().faulted {
+            Some(seq) => {
+                self.release(seq);
+                self.rest_worker(worker)
+            }
+            None => WorkerTurn::Went,
         }
     }
 
@@ -343,7 +379,7 @@ impl<'a, N: InputName, R: Recorder + Drop> Desk<'a, N, R> {
     }
 
     /// Answers under the number of a worker that its runner serves.
-    pub fn answer(&mut self, alloc: Global, worker: Worker, judged: Judged<'a>)
+    pub fn answer<T: Wait>(&mut self, rt: &T, alloc: Global, worker: Worker, judged: Judged<'a>)
         requires { judged.policies ≡ N.input.policies }
     {
         if self.run.is_stopped() {
@@ -351,7 +387,7 @@ impl<'a, N: InputName, R: Recorder + Drop> Desk<'a, N, R> {
         }
         let seq = judged.snapshot().seq;
         let is_unmatched = matches!(judged.verdict(), Verdict::Unmatched);
-        self.run.answer(alloc, worker, judged);
+        self.run.answer(rt, alloc, worker, judged);
         if is_unmatched {
             self.may_ask = true;
             self.wake_operator();
@@ -361,12 +397,12 @@ impl<'a, N: InputName, R: Recorder + Drop> Desk<'a, N, R> {
     }
 
     /// Answers a question. If there is none, the operator's runner sleeps until it is woken. Returns whether it goes on.
-    pub fn operator_turn(&mut self, alloc: Global) -> bool {
+    pub fn operator_turn<T: Wait>(&mut self, rt: &T, alloc: Global) -> bool {
         if self.is_closed() {
             self.runners.end(OPERATOR);
             return false;
         }
-        if !self.ask(alloc) {
+        if !self.ask(rt, alloc) {
             self.runners.sleep(OPERATOR);
         }
         true

@@ -169,7 +169,15 @@ impl Runners {
         let runner = self.of_worker(worker);
         if self.state(runner) != RunnerState::Away {
             self.wake(runner);
-        } else if let Some(runner) = self.first(RunnerState::Asleep, 1, runner) {
+        } else {
+            self.wake_body();
+        }
+    }
+
+    /// Notes that the runner of some thread can go on, if one is asleep.
+    pub fn wake_body(&mut self) {
+        let after = self.threads.saturating_add(1);
+        if let Some(runner) = self.first(RunnerState::Asleep, 1, after) {
             self.wake(runner);
         }
     }

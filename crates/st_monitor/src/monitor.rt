@@ -1,7 +1,8 @@
 // What runners do at the lock, whatever lies under it.
 use crate::gate::Gate;
 use st_base::{Tid, Worker};
-use st_desk::BodyTurn;
+use st_desk::{BodyTurn, ClaimTurn};
+use st_messages::Ticket;
 use std::sync::Wait;
 
 /// What runners take in turns. Each call but `serve` takes the lock once, and lets go before it returns. Nothing is claimed of when a call
@@ -16,8 +17,11 @@ pub trait Monitor {
     /// Serves the call that a worker has claimed, until the worker is idle.
     fn serve<G: Gate, T: Wait>(&self, rt: &T, worker: Worker, gate: &G);
 
-    /// Lets a worker claim a call as soon as one waits. Returns whether it claimed one, or none if its runner has to return.
-    fn worker_claims<T: Wait>(&self, rt: &T, worker: Worker) -> Option<bool>;
+    /// Waits until the runner of a worker can take a turn.
+    fn await_turn<T: Wait>(&self, rt: &T, worker: Worker);
+
+    /// Lets a worker claim a call by a ticket, if its runner has one.
+    fn worker_claims<T: Wait>(&self, rt: &T, worker: Worker, ticket: Option<Ticket>) -> ClaimTurn;
 
     /// A turn of the operator, as soon as there is a question. Returns whether its runner goes on.
     fn operator_turn<T: Wait>(&self, rt: &T) -> bool;

@@ -9,34 +9,36 @@ use crate::gate::Gate;
 use crate::monitor::Monitor;
 use crate::servers::{run_operator, run_worker};
 use crate::shared::Shared;
-use st_desk::InputName;
 use st_kernel::Kernel;
+use st_messages::Taker;
+use st_recorded::InputName;
 use st_report::Recorder;
 use std::alloc::{AllocError, Global};
 use std::marker::Brand;
 use std::sync::Wait;
 use std::thread::{Threads, join};
 
-// Runs the operator, and the workers up to this number.
+// Runs the operator and the workers, each with one of these takers.
 fn run_servers<M: Monitor + Sync, G: Gate + Sync, T: Threads + Wait + Sync>(
     rt: &T,
     shared: &M,
     gate: &G,
-    workers: u32,
+    takers: Vec<Taker>,
 ) {
-    if workers == 0 {
+    let mut takers = takers;
+    let worker = u32::try_from(takers.len()).unwrap_or(u32::MAX);
+    let Some(taker) = takers.pop() else {
         run_operator(rt, shared);
         return;
-    }
-    let fewer = workers - 1;
+    };
     join(
         rt,
-        ||
+        move ||
             requires { IsSync T.row × IsSync G.row × IsSync M.row }
-        { run_servers(rt, shared, gate, fewer) },
-        ||
+        { run_servers(rt, shared, gate, takers) },
+        move ||
             requires { IsSync T.row × IsSync G.row × IsSync M.row }
-        { run_worker(rt, shared, workers, gate) },
+        { run_worker(rt, shared, worker, gate, taker) },
     );
 }
 
@@ -57,14 +59,14 @@ fn run_all_at<M: Monitor + Sync, G: Gate + Sync, T: Threads + Wait + Sync>(
     rt: &T,
     shared: &M,
     gate: &G,
-    workers: u32,
+    takers: Vec<Taker>,
     threads: u32,
 ) {
     join(
         rt,
-        ||
+        move ||
             requires { IsSync T.row × IsSync G.row × IsSync M.row }
-        { run_servers(rt, shared, gate, workers) },
+        { run_servers(rt, shared, gate, takers) },
         ||
             requires { IsSync T.row × IsSync G.row × IsSync M.row }
         { run_threads(rt, shared, gate, threads) },
@@ -91,11 +93,10 @@ fn run_named<
     ensures settled { IfOk result (λ both. IsSettled both.0.input (state_in both.0)) }
     ensures noted { IfOk result (λ both. ∥ R.has_noted both.1 both.0.input (trace_of both.0) ∥₁) }
 {
-    let workers = kernel.input().options.workers;
     let threads = u32::try_from(kernel.input().start.threads.len()).unwrap_or(u32::MAX);
-    let all: Shared<'a, N, R> = Shared::new(alloc, kernel, recorder)?;
-    run_all_at(rt, &all, gate, workers, threads);
-    all.finish()
+    let (shared, takers) = Shared::<'a, N, R>::new(rt, alloc, kernel, recorder)?;
+    run_all_at(rt, &shared, gate, takers, threads);
+    shared.finish()
 }
 
 /// Runs a kernel by threads until no choice is enabled, and returns it with what recorded its run. Bodies, workers and the operator are

@@ -2,15 +2,33 @@
 use crate::gate::Gate;
 use crate::monitor::Monitor;
 use st_base::Worker;
+use st_desk::ClaimTurn;
+use st_messages::Taker;
 use std::sync::Wait;
 
-/// Runs a worker until every body has ended: it serves call after call.
-pub fn run_worker<M: Monitor, G: Gate, T: Wait>(rt: &T, shared: &M, worker: Worker, gate: &G) {
+/// Runs a worker until every body has ended: it serves call after call. The taker takes its tickets without the lock.
+pub fn run_worker<M: Monitor, G: Gate, T: Wait>(
+    rt: &T,
+    shared: &M,
+    worker: Worker,
+    gate: &G,
+    taker: Taker,
+) {
+    let mut taker = taker;
+    let mut ticket = None;
+    shared.await_turn(rt, worker);
     for _ in rt.forever() {
-        match shared.worker_claims(rt, worker) {
-            Some(true) => shared.serve(rt, worker, gate),
-            Some(false) => {}
-            None => return,
+        if ticket.is_none() {
+            ticket = taker.take(rt);
+        }
+        match shared.worker_claims(rt, worker, ticket) {
+            ClaimTurn::Serves => {
+                ticket = None;
+                shared.serve(rt, worker, gate);
+            }
+            ClaimTurn::Went => ticket = None,
+            ClaimTurn::Sleeps => shared.await_turn(rt, worker),
+            ClaimTurn::Over => return,
         }
     }
 }

@@ -1,21 +1,22 @@
 // The lock, and the conditions that runners wait on.
-ghost use Rattle.std.specs.Prelude.{◌≡◌, IfOk};
+ghost use Rattle.std.specs.Prelude.{◌≡◌, ◌≤◌, [], IfOk};
 ghost use Rattle.std.specs.Coded.{codes};
 ghost use Rattle.st_filter.specs.FormulaCode.{formula_code};
 ghost use Rattle.st_law.specs.Machine.{IsSettled};
 ghost use Rattle.st_kernel.specs.Kernel.{state_in, trace_of};
+ghost use Rattle.st_reached.specs.Reached.{most_numbers};
 
 use crate::gate::Gate;
 use crate::monitor::Monitor;
 use st_base::{Tid, Worker};
 use st_calls::Snapshot;
 use st_compile::Compiled;
-use st_desk::{
-    BodyTurn, Desk, InputName, OPERATOR, RecordedRun, Runners, WorkerTurn, runner_of_worker,
-};
+use st_desk::{BodyTurn, ClaimTurn, Desk, OPERATOR, Runners, WorkerTurn, runner_of_worker};
 use st_filter::Judged;
 use st_kernel::Kernel;
 use st_law::Input;
+use st_messages::{Poster, Taker, Ticket};
+use st_recorded::{InputName, RecordedRun, tickets_for};
 use st_report::Recorder;
 use std::alloc::{AllocError, Global};
 use std::sync::{Condvar, Mutex, MutexGuard, Wait};
@@ -33,12 +34,14 @@ pub struct Shared<'a, N: InputName, R: Recorder + Drop> {
     ghost compiled_of: { compiled ≡ N.input.policies } by { Prim.hlevel (codes, formula_code) },
 }
 
-// What the runners of a run need beside it.
+// What a run needs beside its kernel and its recorder.
 #[derive(Drop)]
 struct Parts<'a> {
     runners: Runners,
     conditions: Vec<Condvar>,
     compiled: Compiled<'a>,
+    poster: Poster,
+    takers: Vec<Taker>,
 }
 
 // So many conditions.
@@ -50,44 +53,54 @@ fn new_conditions(alloc: Global, count: usize) -> Result<Vec<Condvar>, AllocErro
     Ok(conditions)
 }
 
-fn new_parts(alloc: Global, input: &Input) -> Result<Parts<'_>, AllocError>
-    ensures { IfOk result (λ parts. parts.compiled ≡ input.now.policies) }
+fn new_parts<'a>(alloc: Global, kernel: &Kernel<'a>) -> Result<Parts<'a>, AllocError>
+    ensures compiled { IfOk result (λ parts. parts.compiled ≡ kernel.now.input.policies) }
+    ensures room { IfOk result (λ parts. most_numbers kernel.now.input ≤ parts.poster.capacity) }
+    ensures none { IfOk result (λ parts. parts.poster.tickets ≡ []) }
 {
+    let input = kernel.input();
     let runners = Runners::new(alloc, input.start.threads.len(), input.options.workers)?;
     let conditions = new_conditions(alloc, runners.len())?;
     let compiled = Compiled::build(alloc, &input.policies)?;
+    let (poster, takers) = tickets_for(alloc, kernel)?;
     Ok(Parts {
         runners,
         conditions,
         compiled,
+        poster,
+        takers,
     })
 }
 
 impl<'a, N: InputName, R: Recorder + Drop> Shared<'a, N, R> {
-    /// A run that no runner has taken a turn of.
-    pub fn new(
+    /// A run that no runner has taken a turn of, and a taker of tickets for each worker.
+    pub fn new<T: Wait>(
+        rt: &T,
         alloc: Global,
         kernel: Kernel<'a>,
         recorder: R,
-    ) -> Result<Shared<'a, N, R>, AllocError>
+    ) -> Result<(Shared<'a, N, R>, Vec<Taker>), AllocError>
         requires input { kernel.input ≡ N.input }
         requires noted { R.has_noted recorder kernel.input (trace_of kernel) }
     {
-        let run = RecordedRun::new(kernel, recorder);
-        let input = run.input();
-        let parts = new_parts(alloc, input)?;
+        let input = kernel.input();
+        let parts = new_parts(alloc, &kernel)?;
         let Parts {
             runners,
             conditions,
             compiled,
+            poster,
+            takers,
         } = parts;
-        Ok(Shared {
+        let run = RecordedRun::new(rt, kernel, recorder, poster);
+        let shared = Shared {
             desk: Mutex::new(Desk::new(run, runners)),
             conditions,
             alloc,
             input,
             compiled,
-        })
+        };
+        Ok((shared, takers))
     }
 
     /// The kernel, settled, and what recorded its run.
@@ -130,7 +143,7 @@ impl<'a, N: InputName, R: Recorder + Drop> Shared<'a, N, R> {
     // A step of a worker that its runner serves.
     fn work<T: Wait>(&self, rt: &T, worker: Worker) -> WorkerTurn {
         let mut guard = self.desk.lock(rt);
-        let turn = guard.work(self.alloc, worker);
+        let turn = guard.work(rt, self.alloc, worker);
         self.end_turn(guard);
         turn
     }
@@ -148,7 +161,7 @@ impl<'a, N: InputName, R: Recorder + Drop> Shared<'a, N, R> {
         let verdict = self.compiled.decide(copies.get());
         let judged = Judged::with(&self.input.policies, copies, verdict);
         let mut guard = self.desk.lock(rt);
-        guard.answer(self.alloc, worker, judged);
+        guard.answer(rt, self.alloc, worker, judged);
         self.end_turn(guard);
         gate.done(rt, worker, seq);
     }
@@ -161,7 +174,7 @@ impl<'a, N: InputName, R: Recorder + Drop> Monitor for Shared<'a, N, R> {
 
     fn body_turn<T: Wait>(&self, rt: &T, tid: Tid) -> BodyTurn {
         let mut guard = self.begin_turn(rt, tid as usize);
-        let turn = guard.body_turn(self.alloc, tid);
+        let turn = guard.body_turn(rt, self.alloc, tid);
         self.end_turn(guard);
         turn
     }
@@ -179,16 +192,20 @@ impl<'a, N: InputName, R: Recorder + Drop> Monitor for Shared<'a, N, R> {
         }
     }
 
-    fn worker_claims<T: Wait>(&self, rt: &T, worker: Worker) -> Option<bool> {
-        let mut guard = self.begin_turn(rt, self.runner_of(worker));
-        let claims = guard.worker_claims(self.alloc, worker);
+    fn await_turn<T: Wait>(&self, rt: &T, worker: Worker) {
+        drop(self.begin_turn(rt, self.runner_of(worker)));
+    }
+
+    fn worker_claims<T: Wait>(&self, rt: &T, worker: Worker, ticket: Option<Ticket>) -> ClaimTurn {
+        let mut guard = self.desk.lock(rt);
+        let turn = guard.worker_claims(rt, self.alloc, worker, ticket);
         self.end_turn(guard);
-        claims
+        turn
     }
 
     fn operator_turn<T: Wait>(&self, rt: &T) -> bool {
         let mut guard = self.begin_turn(rt, OPERATOR);
-        let goes_on = guard.operator_turn(self.alloc);
+        let goes_on = guard.operator_turn(rt, self.alloc);
         self.end_turn(guard);
         goes_on
     }
