@@ -28,6 +28,7 @@ mod Lowering
 pub mod MemoryHistory
 pub mod MessageHistory
 pub mod Moves
+pub mod NumberRuns
 pub mod Numbering
 pub mod OneStepTaken
 pub mod OperatorRecorded

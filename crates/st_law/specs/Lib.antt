@@ -9,6 +9,7 @@ pub mod Links
 pub mod Machine
 pub mod Meaning
 pub mod Messages
+pub mod Numbers
 pub mod OneStep
 pub mod Processes
 pub mod Schedules

@@ -29,6 +29,7 @@ ghost use Rattle.st_law.specs.Lawful.{IsLawful, IsLawfulBack, Lawful};
 ghost use Rattle.st_law.specs.Laws.{HaveEqualArguments, AreHeldCalls, HasBegun, IsRested, IsStale, IsProcessLive, IsUsedAsAnswered};
 ghost use Rattle.st_law.specs.Links.{IsLinkFound, IsFirstLinkInWay};
 ghost use Rattle.st_law.specs.Machine.{entry_of, history, run, state_of_run, IsEnabled};
+ghost use Rattle.st_law.specs.Numbers.{drawings_at, drawn, drawn_entry, numbered_entry, numbered_in, numbers_at};
 ghost use Rattle.st_law.specs.OneStep.{AreTakenInOneStep};
 ghost use Rattle.st_law.specs.Schedules.{Choices, most_steps, played, rest_from, steps_for};
 ghost use Rattle.st_law.specs.Sessions.{SessionFilter, decision, learnt_filter};
@@ -54,6 +55,12 @@ pub fn the_law_is_the_machine()
 /// Every prefix of a lawful trace is lawful: a run that was cut short is a run.
 pub fn every_prefix_is_lawful()
     ensures { (input : Input) (front rest : List Entry) → Lawful input (front ++ rest) → Lawful input front }
+{}
+
+/// A trace is numbered entry by entry: one more entry changes no number before it. The way back goes entry by entry as well.
+pub fn numbers_are_given_entry_by_entry()
+    ensures numbered { (circle : ℕ) (input : Input) (trace : List Entry) (e : Entry) → numbered_in circle input (trace ++ e ∷ []) ≡ numbered_in circle input trace ++ numbered_entry (numbers_at circle input (e ∷ reverse trace)).number_of e ∷ [] }
+    ensures drawn { (trace : List Entry) (e : Entry) → drawn (trace ++ e ∷ []) ≡ drawn trace ++ drawn_entry (drawings_at (reverse trace)) e ∷ [] }
 {}
 
 /// An answer that isn't applied changes nothing except that its worker becomes idle.
