@@ -24,7 +24,7 @@ use Rattle.st_law.proofs.Renewals.{EachHeld, each_held, IsLow, is_renewable, hea
 
 -- ---- a number that isn't renewed stays its thread's
 
-renewed_stays : (q : ℕ) (c : Change) → is_renewed_by q true c ≡ true
+pub renewed_stays : (q : ℕ) (c : Change) → is_renewed_by q true c ≡ true
 renewed_stays q (Renewed old new) = or_right (old == q) true refl
 renewed_stays q _ = refl
 
@@ -115,7 +115,7 @@ module _ (i : Input) (st : State) (inv : Invariant i st) where
 
 -- ---- which held call a new number is for
 
-each_both : (P Q : HeldCall → Type 0) (helds : List HeldCall) → EachHeld P helds → EachHeld Q helds → EachHeld (λ held. P held × Q held) helds
+pub each_both : (P Q : HeldCall → Type 0) (helds : List HeldCall) → EachHeld P helds → EachHeld Q helds → EachHeld (λ held. P held × Q held) helds
 each_both P Q [] x y = tt
 each_both P Q (held ∷ more) x y = ((x.0, y.0), each_both P Q more x.1 y.1)
 

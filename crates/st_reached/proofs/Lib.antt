@@ -1,8 +1,12 @@
+pub mod Circle
 pub mod Drawn
+pub mod InUse
 pub mod Life
 pub mod LifeByEntry
 pub mod Made
+pub mod Matched
 pub mod Movers
+pub mod NumbersBack
 pub mod NumbersDrawn
 pub mod OwnIds
 pub mod Owning
@@ -14,3 +18,4 @@ pub mod Still
 pub mod StillKept
 pub mod StillWorkers
 pub mod Unlike
+pub mod UsedNumbers

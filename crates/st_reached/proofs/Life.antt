@@ -144,11 +144,11 @@ calm_mute : (changes : List Change) → Each IsNoRenewal changes → AreMute cha
 calm_mute [] calm = tt
 calm_mute (c ∷ changes) calm = (mute_of c calm.0, calm_mute changes calm.1)
 
-quiet_calm : (changes : List Change) → AreQuiet changes → Each IsNoRenewal changes
+pub quiet_calm : (changes : List Change) → AreQuiet changes → Each IsNoRenewal changes
 quiet_calm [] x = tt
 quiet_calm (c ∷ changes) x = (quiet_no_renewal c x.0, quiet_calm changes x.1)
 
-exec_calm : (binary : List ℕ) (space : ℕ) (inherit : Bool) → Each IsNoRenewal (Execed binary space ∷ policy_changes inherit binary)
+pub exec_calm : (binary : List ℕ) (space : ℕ) (inherit : Bool) → Each IsNoRenewal (Execed binary space ∷ policy_changes inherit binary)
 exec_calm binary space true = (tt, tt)
 exec_calm binary space false = (tt, (tt, tt))
 

@@ -1,5 +1,5 @@
 -- An answer of the operator for one policy and rule leaves the questions of others unchanged.
-use Rattle.std.proofs.Common.{◌≡◌, ℕ, Bool, true, false, cond, ◌&&◌, ◌||◌, ◌==◌, List, [], ◌∷◌, ◌++◌, map, length, Option, Some, None, refl, sym, ap, subst, ◌∙◌}
+use Rattle.std.proofs.Common.{◌≡◌, ℕ, Bool, true, false, cond, ◌&&◌, ◌||◌, ◌==◌, List, [], ◌∷◌, ◌++◌, map, length, Option, Some, None, refl, sym, ap, ◌∙◌}
 use Rattle.std.proofs.lemmas.Bool.{and_from, and_parts, eqb-true, true≢false}
 use Rattle.std.proofs.lemmas.List.{append-nil}
 use Rattle.std.proofs.lemmas.Slice.Eq.{bytes_eq-Decides}
@@ -20,7 +20,7 @@ use Rattle.st_law.specs.declared.input.Input.{Input}
 use Rattle.st_law.specs.declared.input.Mode.{Mode}
 use Rattle.st_law.specs.declared.input.Mode.TheVariants.{Enforce, Learn, AskText}
 use Rattle.st_law.specs.Messages.{Head}
-use Rattle.st_law.specs.Sessions.{SessionFilter, decision, is_kept_for, is_reply_for, kept_for, least_from, replied_by, session_filters}
+use Rattle.st_law.specs.Sessions.{SessionFilter, decision, is_kept_for, is_reply_for, kept_for, least_from, session_filters}
 use Rattle.st_law.specs.State.{State, operator_decides, is_open_question, is_reply_left, is_undecided, progress_in, read_at, snapshot_in, snapshot_of_progress}
 use Rattle.st_law.proofs.Growth.{session_append}
 use Rattle.st_reached.specs.Waiting.{are_alike}

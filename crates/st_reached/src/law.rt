@@ -1,13 +1,25 @@
-ghost use Rattle.std.specs.Prelude.{◌≡◌, ◌≢◌, ◌≤◌, ◌↔◌, ℕ, suc, ◌+◌, false, List, Some, None};
+ghost use Rattle.std.specs.List.{Contains, fold};
+ghost use Rattle.std.specs.Prelude.{◌≡◌, ◌≢◌, ◌≤◌, ◌<◌, ◌↔◌, ◌||◌, ℕ, suc, ◌+◌, Bool, true, false, List, ◌∷◌, ◌++◌, length, map, reverse, Option, Some, None};
+ghost use Rattle.st_base.specs.declared.ids.Ids.{Ids};
+ghost use Rattle.st_calls.specs.declared.argument.ArgText.{ArgText};
+ghost use Rattle.st_calls.specs.declared.call.SysCall.{SysCall};
+ghost use Rattle.st_trace.specs.declared.entry.CallResult.{CallResult};
+ghost use Rattle.st_trace.specs.declared.entry.Change.{Change};
+ghost use Rattle.st_trace.specs.declared.entry.Change.TheVariants.{Renewed};
 ghost use Rattle.st_trace.specs.declared.entry.Choice.{Choice};
 ghost use Rattle.st_trace.specs.declared.entry.Entry.{Entry};
+ghost use Rattle.st_trace.specs.declared.entry.Entry.TheVariants.{Used};
 ghost use Rattle.st_law.specs.declared.input.Input.{Input};
+ghost use Rattle.st_law.specs.History.{looking_back};
 ghost use Rattle.st_law.specs.Inputs.{IsStartable};
-ghost use Rattle.st_law.specs.Machine.{entry_of, state_after, state_of_run, thread_entry, worker_entry};
+ghost use Rattle.st_law.specs.Lawful.{IsLawfulBack, Lawful};
+ghost use Rattle.st_law.specs.Machine.{entry_of, run, state_after, state_of_run, thread_entry, worker_entry};
+ghost use Rattle.st_law.specs.Messages.{posted_at};
+ghost use Rattle.st_law.specs.Numbers.{IsLawfulByNumber, NamesDrawing, Numbers, drawn, in_use_now, is_in_use, is_kept, next_number, number_drawn, numbered, numbered_entry, numbered_in, numbers_after_change, numbers_at};
 ghost use Rattle.st_law.specs.Processes.{process_count};
 ghost use Rattle.st_law.specs.Schedules.{instruction_count};
-ghost use Rattle.st_law.specs.State.{is_live};
-ghost use Rattle.st_law.specs.Threads.{thread_of};
+ghost use Rattle.st_law.specs.State.{State, is_live, thread_count};
+ghost use Rattle.st_law.specs.Threads.{History, thread_of};
 ghost use Rattle.st_reached.specs.Grants.{RepliesUngranted, SetIdsUngranted};
 ghost use Rattle.st_reached.specs.Reached.{AllHeldLive, ForksStartNew, LiveNumbersAreOwn, SetsOwnIds, life_after, most_numbers};
 ghost use Rattle.st_reached.specs.Scripts.{StartOnce};
@@ -64,4 +76,46 @@ pub fn what_stays_still()
 /// In every state that a run reaches, a worker adds no entry exactly when no worker has its number, or it is idle and no number waits.
 pub fn workers_that_are_idle()
     ensures { (input : Input) → IsStartable input → (choices : List Choice) (w : ℕ) → (worker_entry input (state_of_run input choices) w ≡ None) ↔ IsStillWorker input (state_of_run input choices) w }
+{}
+
+/// At most 72 drawings are in use in a state, one for each thread and one for each worker; and no more are while a call renews one after the
+/// other, the one that is renewed among them. Each of them was made, and each drawing that an entry names is in use before it. A drawing that
+/// isn't in use any more is never in use again. What is in use is live, or a worker is ready with it.
+pub fn few_drawings_are_in_use()
+    ensures few { (input : Input) → IsStartable input → (h : History) → IsLawfulBack input h → (drawings : List ℕ) × (length drawings ≤ 72) × ((q : ℕ) → is_in_use input (looking_back input h) q ≡ true → Contains drawings q) }
+    ensures renewals { (input : Input) → IsStartable input → (circle : ℕ) (h : History) (t : ℕ) (seq : Option ℕ) (call : SysCall) (regs : List ℕ) (args : List ArgText) (ids : Ids) (result : CallResult) (before : List Change) (old new : ℕ) (later : List Change)
+        → IsLawfulBack input (Used t seq call regs args ids result (before ++ Renewed old new ∷ later) ∷ h)
+        → (drawings : List ℕ) × (length drawings ≤ 72) × ((q : ℕ) → (fold (numbers_after_change circle (is_kept input (looking_back input h))) (in_use_now input (looking_back input h) (numbers_at circle input h)) before).in_use q ≡ true → Contains drawings q) }
+    ensures made { (input : Input) → IsStartable input → (h : History) → IsLawfulBack input h → (q : ℕ) → is_in_use input (looking_back input h) q ≡ true → (1 ≤ q) × (q ≤ posted_at h) }
+    ensures named { (input : Input) → IsStartable input → (h : History) (e : Entry) → IsLawfulBack input (e ∷ h) → (q : ℕ) → NamesDrawing q e → is_in_use input (looking_back input h) q ≡ true }
+    ensures ends { (input : Input) → IsStartable input → (h : History) (e : Entry) → IsLawfulBack input (e ∷ h) → (q : ℕ) → q ≤ posted_at h → is_in_use input (looking_back input (e ∷ h)) q ≡ true → is_in_use input (looking_back input h) q ≡ true }
+    ensures kept { (input : Input) (st : State) (q : ℕ) → is_in_use input st q ≡ (is_live st q || is_kept input st q) }
+{}
+
+/// The number that a drawing gets is the first one of the circle, after the number of the drawing before it, that no drawing in use has:
+/// whatever tells which numbers are in use gives the same.
+pub fn a_number_is_drawn_past_those_in_use()
+    ensures { (circle : ℕ) (numbers : Numbers) (taken : ℕ → Bool) → ((q : ℕ) → numbers.in_use q ≡ true → (1 ≤ q) × (q ≤ numbers.last)) → ((n : ℕ) → (taken n ≡ true) ↔ ((q : ℕ) × (numbers.in_use q ≡ true) × (numbers.number_of q ≡ n)))
+        → number_drawn circle numbers ≡ next_number circle taken (numbers.number_of numbers.last) }
+{}
+
+/// In a circle that has more numbers than there are threads and workers, each drawing in use has a number of the circle, no two of them have
+/// the same, and a drawing keeps its number: it has the same in all entries of a trace. So the drawings of a lawful trace come back from its
+/// numbers; those of a startable input come back from numbers up to 65,535.
+pub fn a_number_means_one_drawing()
+    ensures range { (circle : ℕ) (input : Input) → IsStartable input → thread_count input + input.options.workers < circle → (h : History) → IsLawfulBack input h → (q : ℕ) → is_in_use input (looking_back input h) q ≡ true
+        → (1 ≤ (numbers_at circle input h).number_of q) × ((numbers_at circle input h).number_of q ≤ circle) }
+    ensures one { (circle : ℕ) (input : Input) → IsStartable input → thread_count input + input.options.workers < circle → (h : History) → IsLawfulBack input h → (p q : ℕ) → is_in_use input (looking_back input h) p ≡ true → is_in_use input (looking_back input h) q ≡ true
+        → (numbers_at circle input h).number_of p ≡ (numbers_at circle input h).number_of q → p ≡ q }
+    ensures keeps { (circle : ℕ) (input : Input) → IsStartable input → thread_count input + input.options.workers < circle → (q : ℕ) (later earlier : History) → IsLawfulBack input (later ++ earlier) → q ≤ posted_at earlier
+        → (numbers_at circle input (later ++ earlier)).number_of q ≡ (numbers_at circle input earlier).number_of q }
+    ensures whole { (circle : ℕ) (input : Input) → IsStartable input → thread_count input + input.options.workers < circle → (trace : List Entry) → Lawful input trace
+        → numbered_in circle input trace ≡ map (numbered_entry (numbers_at circle input (reverse trace)).number_of) trace }
+    ensures circle { (circle : ℕ) (input : Input) → IsStartable input → thread_count input + input.options.workers < circle → (trace : List Entry) → Lawful input trace → drawn (numbered_in circle input trace) ≡ trace }
+    ensures back { (input : Input) → IsStartable input → (trace : List Entry) → Lawful input trace → drawn (numbered input trace) ≡ trace }
+{}
+
+/// A trace of numbers is lawful exactly when its numbers are those of a run.
+pub fn lawful_numbers_are_those_of_a_run()
+    ensures { (input : Input) → IsStartable input → (trace : List Entry) → IsLawfulByNumber input trace ↔ ((choices : List Choice) × (numbered input (run input choices) ≡ trace)) }
 {}
