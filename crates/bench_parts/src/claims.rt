@@ -1,15 +1,14 @@
-ghost use Rattle.std.specs.Prelude.{◌≡◌, ◌<◌, IfOk};
+ghost use Rattle.std.specs.Prelude.{◌≡◌, ◌≤◌, IfOk};
 
 use st_messages::Messages;
 use std::alloc::{AllocError, Global};
 
 // This many waiting messages, each of its own thread.
-#[tactic(auto, using(crate::proofs::Posted::posted))]
 fn waiting(alloc: Global, count: u32) -> Result<Messages, AllocError>
-    requires { count < 100 }
+    requires { count ≤ 72 }
     ensures { IfOk result (λ messages. messages.workers ≡ 1) }
 {
-    let mut messages = Messages::new(alloc, 1);
+    let mut messages = Messages::new(alloc, 1)?;
     for tid in 0..count {
         messages.post(tid)?;
     }

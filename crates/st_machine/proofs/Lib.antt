@@ -7,6 +7,7 @@ mod Entered
 mod Made
 mod MadeSteps
 mod Moving
+mod OwnCall
 mod RenewedSteps
 mod Room
 mod Running

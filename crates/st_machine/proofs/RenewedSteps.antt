@@ -1,11 +1,11 @@
 -- The step that makes a call that sets ids.
 use native.Mathlib.Omega.{arith}
 use Rattle.std.proofs.Common.{◌≡◌, ◌≢◌, ◌≤◌, ◌<◌, ◌+◌, ◌-◌, ◌^◌, ◌∙◌, ℕ, zero, suc, ◌==◌, Bool, true, false, cond, replicate, set, List, [], ◌∷◌, length, Option, Some, None, refl, ap, sym, subst}
-use Rattle.std.proofs.lemmas.Bool.{eq-eqb, ne_eqb}
+use Rattle.std.proofs.lemmas.Bool.{eq-eqb, ne_eqb, true≢false}
 use Rattle.std.proofs.lemmas.List.{length-set}
 use Rattle.std.proofs.lemmas.Option.{none-some}
 use Rattle.std.specs.List.{fold}
-use Rattle.std.specs.Prelude.{slice_index_or}
+use Rattle.std.specs.Prelude.{slice_index_or, IfSome}
 use Rattle.st_base.specs.Numbered.{item_at_number}
 use Rattle.st_base.specs.declared.ids.Ids.{Ids}
 use Rattle.st_calls.specs.Call.{sets_ids}
@@ -19,9 +19,11 @@ use Rattle.st_law.specs.Machine.{entry_of, state_after, thread_after}
 use Rattle.st_law.specs.Messages.{Head, head_after_change}
 use Rattle.st_law.specs.Schedules as schedules
 use Rattle.st_law.specs.State.{Message, State, ThreadState, held_from, is_live, request_of, system_of, thread_count}
+use Rattle.st_messages.specs.Messages as calls
 use Rattle.st_model.specs.Identity.{ids_after_set, set_refused}
 use Rattle.st_model.specs.Process.{Process}
 use Rattle.st_model.specs.Processes.{IsPid, next_pid, process_at, owner_of}
+use Rattle.st_model.specs.Tree.{is_number}
 use Rattle.st_reached.specs.Reached.{life_after_changes, most_numbers}
 use Rattle.st_reached.proofs.LifeByEntry.{life_is}
 use Rattle.st_reached.proofs.NumbersDrawn.{few_drawn}
@@ -37,17 +39,19 @@ use Rattle.st_trace.specs.declared.entry.Entry.TheVariants.{Used}
 use Rattle.st_workers.specs.Refinement.{RepresentsMachineMessages, RepresentsMessages}
 use Rattle.st_workers.specs.UnderWay.{UnderWay}
 use Rattle.st_workers.proofs.Closing.{closing_is_not_kept}
+use Rattle.st_workers.proofs.Ended.{lives_as}
 use Rattle.st_threads.specs.Ending.{EndsCall, life_without_number}
 use Rattle.st_decide.specs.Machine.{Refines, IsStep, Running}
 use Rattle.st_decide.specs.Making.{request_with}
 use Rattle.st_decide.specs.NextSteps.{CanStep}
-use Rattle.st_threads.specs.Renewing.{CanRenew, HaveRenewed, AreLiveAndDistinct, RenewsAll, numbers_from, renewals_from, rows_renewed}
+use Rattle.st_threads.specs.Renewing.{CanRenew, HaveRenewed, AreLiveAndDistinct, AreOthers, RenewsAll, numbers_from, renewals_from, rows_renewed}
 use Rattle.st_threads.specs.Thread.{ThreadRow, IsRow}
 use Rattle.st_decide.specs.declared.step.Step.TheVariants as steps
 use Rattle.st_decide.specs.declared.step.ReadyCall.{ReadyCall}
 use Rattle.st_machine.proofs.After.{AreRows, following, rows_changed, with_parts}
 use Rattle.st_machine.proofs.Made.{owner_by}
-use Rattle.st_machine.proofs.MadeSteps.{are_closed, has_child, now, request_is, used}
+use Rattle.st_machine.proofs.MadeSteps.{are_closed, drawing_lives, has_child, now, request_is, used}
+use Rattle.st_machine.proofs.OwnCall.{ends_after, lives_on, more_live, none_of_live}
 use Rattle.st_decide.proofs.NextSteps.{owner_is, row_of}
 use Rattle.st_decide.proofs.Reached.{reached_of}
 use Rattle.st_threads.proofs.RenewedLaw.{AreTagged, HaveHeads, SameBut, count_renewed, kept_all, law_renewals, live_apart, message_is, messages_after, renewals_leave, rows_at, rows_from, rows_then, same_numbers, set_numbers, tags_from}
@@ -161,30 +165,41 @@ module _ (m : Running) (st : State) (is : Refines m st) (t : ℕ) (ready : Ready
     abbrev owner : ℕ → ℕ
     owner q = tid_of (st.messages q).head
 
-    module _ (between : UnderWay) (closes : EndsCall ready.drawing m.workers between) where
-      kept_between : RepresentsMessages input st alive between
-      kept_between = closes input st (is_live st) is.workers
+    -- what is live without the caller's own call is live with it
+    still : (q : ℕ) → alive q ≡ true → is_live st q ≡ true
+    still q = by (is_number q ready.drawing) where
+      by : (b : Bool) → cond b false (is_live st q) ≡ true → is_live st q ≡ true
+      by true e = absurd (true≢false (sym e))
+      by false e = e
 
+    module _ where
       tags : AreTagged owner alive (suc st.posted) 1 closed
       tags = tags_from owner alive (suc st.posted) closed (λ u other q at held.
           let x = (are_closed m st is t ready can row row_is).lives u other q at held in
-          let low = (kept_between.agrees.given q x.lives).1 in
+          let low = (is.workers.agrees.given q (still q x.lives)).1 in
           record { live = x.lives; tid = ap tid_of x.posted ∙ x.tid_is; below = omega (arith, low) })
 
       live_then : AreLiveAndDistinct alive (numbers_from parts.processes ready.pid t 1 closed)
       live_then = live_apart parts.processes ready.pid t owner alive (suc st.posted) closed 1 tags
 
       -- the numbers can be renewed
-      pub can_renew : CanRenew between (numbers_from parts.processes ready.pid t 1 closed)
-      can_renew = record { input = input; state = st; alive = alive; kept = kept_between; live = live_then }
+      pub can_renew : CanRenew m.workers (numbers_from parts.processes ready.pid t 1 closed)
+      can_renew = record { input = input; state = st; alive = is_live st; kept = is.workers; live = more_live alive (is_live st) still (numbers_from parts.processes ready.pid t 1 closed) live_then }
 
       have_heads : (numbers : List ℕ) → AreLiveAndDistinct alive numbers → HaveHeads (λ p. (st.messages p).head) st.posted st.messages numbers
       have_heads [] x = tt
-      have_heads (q ∷ numbers) x = (refl, (kept_between.agrees.given q x.0).1, have_heads numbers x.2)
+      have_heads (q ∷ numbers) x = (refl, (is.workers.agrees.given q (still q x.0)).1, have_heads numbers x.2)
+
+      -- the caller's own number was given before
+      own_low : IfSome ready.drawing (λ q. q < suc st.posted)
+      own_low = by ready.drawing (drawing_lives m st is t ready can row row_is) where
+        by : (drawing : Option ℕ) → IfSome drawing (λ q. is_live st q ≡ true) → IfSome drawing (λ q. q < suc st.posted)
+        by None x = tt
+        by (Some q) x = let low = (is.workers.agrees.given q x).1 in omega (arith, low)
 
       -- ---- after the numbers are renewed
 
-      module _ (new : List ThreadRow) (left : UnderWay) (have : HaveRenewed parts.processes ready.pid t closed between new left) where
+      module _ (new : List ThreadRow) (between : UnderWay) (have : HaveRenewed parts.processes ready.pid t closed m.workers new between) where
         abbrev heads : ℕ → Option Head
         heads p = (st.messages p).head
 
@@ -197,42 +212,65 @@ module _ (m : Running) (st : State) (is : Refines m st) (t : ℕ) (ready : Ready
         row_is_then : process_after st.processes (st.threads t).owner (st.threads t).owner known ≡ row_then
         row_is_then = system_then.processes (st.threads t).owner ∙ ap (process_at parts.processes) own_pid
 
-        renewed : RenewsAll row_then ns between left
-        renewed = subst (λ (numbers : List ℕ). RenewsAll row_then numbers between left) numbers_stay have.all
+        renewed : RenewsAll row_then ns m.workers between
+        renewed = subst (λ (numbers : List ℕ). RenewsAll row_then numbers m.workers between) numbers_stay have.all
 
-        kept_then : RepresentsMachineMessages input (messages_after row_then ns st.posted st.messages) st.turns (life_after_changes st (st.threads t).owner alive known) then.posted left
-        kept_then = kept_all input st.turns row_then st (st.threads t).owner ns st.messages alive st.posted between left kept_between renewed
+        -- the state after the renewals, in which the caller's call is still held
+        abbrev renewed_state : State
+        renewed_state = record st { messages = messages_after row_then ns st.posted st.messages; posted = then.posted }
 
-        messages_then : (q : ℕ) → then.messages q ≡ record (messages_after row_then ns st.posted st.messages q) { closed = (then.messages q).closed }
-        messages_then q =
-            (λ k. record (then.messages q) { head = fold (head_after_change heads (row_is_then k) q) (heads q) (renewals_from (suc st.posted) ns) })
-            ∙ ap (λ (message : Message). record message { closed = (then.messages q).closed }) (sym (message_is heads row_then st.posted ns st.posted st.messages (omega arith) (subst (HaveHeads heads st.posted st.messages) numbers_stay (have_heads (numbers_from parts.processes ready.pid t 1 closed) live_then)) q))
+        abbrev renewed_life : ℕ → Bool
+        renewed_life = life_after_changes st (st.threads t).owner (is_live st) known
 
-        is_kept : RepresentsMessages input then (is_live then) left
-        is_kept = closing_is_not_kept input (messages_after row_then ns st.posted st.messages) then.messages st.turns (is_live then) then.posted left
-            (subst (λ (life : ℕ → Bool). RepresentsMachineMessages input (messages_after row_then ns st.posted st.messages) st.turns life then.posted left) (sym (lives outcome parts done_is known known_is)) kept_then) messages_then
+        kept_renewed : RepresentsMessages input renewed_state renewed_life between
+        kept_renewed = kept_all input st.turns row_then st (st.threads t).owner ns st.messages (is_live st) st.posted m.workers between is.workers renewed
 
-        next_is : between.calls.next ≡ suc st.posted
-        next_is = kept_between.agrees.next
+        -- the caller's own call can end
+        pub own_there : IfSome ready.drawing (λ q. calls.is_live_number between.calls q ≡ true)
+        own_there = by ready.drawing refl (drawing_lives m st is t ready can row row_is) where
+          by : (drawing : Option ℕ) → ready.drawing ≡ drawing → IfSome drawing (λ q. is_live st q ≡ true) → IfSome drawing (λ q. calls.is_live_number between.calls q ≡ true)
+          by None own x = tt
+          by (Some q) own x =
+              let dead : alive q ≡ false = ap (λ (o : Option ℕ). life_without_number (is_live st) o q) own ∙ ap (λ (b : Bool). cond b false (is_live st q)) (eq-eqb q q refl) in
+              let others : AreOthers q ns = subst (AreOthers q) numbers_stay (none_of_live alive q dead (numbers_from parts.processes ready.pid t 1 closed) live_then) in
+              let low = (is.workers.agrees.given q x).1 in
+              lives_as input renewed_state renewed_life between q kept_renewed ∙ lives_on st (st.threads t).owner q ns (suc st.posted) (is_live st) (omega (arith, low)) others ∙ x
 
-        same : (u : ℕ) → u ≢ 0 → SameBut (λ q. seq_after q known) (closed_threads u) (thread_after st entry_set u)
-        same u there = record {
-          left = refl;
-          pending = refl;
-          number_is = refl;
-          dying = renewals_leave (dying_after_change u (st.threads u).owner t (st.threads t).owner) (λ before old fresh. refl) (st.threads u).dying (suc st.posted) ns;
-          ended = refl;
-        }
+        module _ (left : UnderWay) (closes : EndsCall ready.drawing between left) where
+          kept_then : RepresentsMachineMessages input (messages_after row_then ns st.posted st.messages) st.turns (life_after_changes st (st.threads t).owner alive known) then.posted left
+          kept_then = subst (λ (life : ℕ → Bool). RepresentsMachineMessages input (messages_after row_then ns st.posted st.messages) st.turns life then.posted left)
+              (ends_after st (st.threads t).owner ready.drawing ns (suc st.posted) (is_live st) own_low) (closes input renewed_state renewed_life kept_renewed)
 
-        rows_are : AreRows new (thread_after st entry_set)
-        rows_are = subst (λ (rows : List ThreadRow). AreRows rows (thread_after st entry_set)) (sym have.rows_are)
-            (rows_at (thread_after st entry_set) (rows_renewed parts.processes ready.pid t between.calls.next 1 closed)
-            (rows_then parts.processes ready.pid t owner alive (suc st.posted) (λ q. seq_after q known) closed_threads (thread_after st entry_set) same closed 1 between.calls.next (λ none. omega (arith, none)) (let e = next_is in omega (arith, e)) tags
-            (λ q over k. seq_after q (renewals_from (sym next_is k) (sym numbers_stay k))) (rows_from closed_threads closed closed_rows)))
+          messages_then : (q : ℕ) → then.messages q ≡ record (messages_after row_then ns st.posted st.messages q) { closed = (then.messages q).closed }
+          messages_then q =
+              (λ k. record (then.messages q) { head = fold (head_after_change heads (row_is_then k) q) (heads q) (renewals_from (suc st.posted) ns) })
+              ∙ ap (λ (message : Message). record message { closed = (then.messages q).closed }) (sym (message_is heads row_then st.posted ns st.posted st.messages (omega arith) (subst (HaveHeads heads st.posted st.messages) numbers_stay (have_heads (numbers_from parts.processes ready.pid t 1 closed) live_then)) q))
 
-        pub set_here : Refines (with_parts m parts left new) (state_after m.input st entry_set)
-        set_here = following m st is (choice.Thread t) entry_set (entry_is outcome parts done_is known known_is) refl refl parts left new system_then is_kept rows_are
-            (ap length have.rows_are ∙ count_renewed parts.processes ready.pid t closed 1 between.calls.next ∙ length-set m.threads (t - 1) _)
+          is_kept : RepresentsMessages input then (is_live then) left
+          is_kept = closing_is_not_kept input (messages_after row_then ns st.posted st.messages) then.messages st.turns (is_live then) then.posted left
+              (subst (λ (life : ℕ → Bool). RepresentsMachineMessages input (messages_after row_then ns st.posted st.messages) st.turns life then.posted left) (sym (lives outcome parts done_is known known_is)) kept_then) messages_then
+
+          next_is : m.workers.calls.next ≡ suc st.posted
+          next_is = is.workers.agrees.next
+
+          same : (u : ℕ) → u ≢ 0 → SameBut (λ q. seq_after q known) (closed_threads u) (thread_after st entry_set u)
+          same u there = record {
+            left = refl;
+            pending = refl;
+            number_is = refl;
+            dying = renewals_leave (dying_after_change u (st.threads u).owner t (st.threads t).owner) (λ before old fresh. refl) (st.threads u).dying (suc st.posted) ns;
+            ended = refl;
+          }
+
+          rows_are : AreRows new (thread_after st entry_set)
+          rows_are = subst (λ (rows : List ThreadRow). AreRows rows (thread_after st entry_set)) (sym have.rows_are)
+              (rows_at (thread_after st entry_set) (rows_renewed parts.processes ready.pid t m.workers.calls.next 1 closed)
+              (rows_then parts.processes ready.pid t owner alive (suc st.posted) (λ q. seq_after q known) closed_threads (thread_after st entry_set) same closed 1 m.workers.calls.next (λ none. omega (arith, none)) (let e = next_is in omega (arith, e)) tags
+              (λ q over k. seq_after q (renewals_from (sym next_is k) (sym numbers_stay k))) (rows_from closed_threads closed closed_rows)))
+
+          pub set_here : Refines (with_parts m parts left new) (state_after m.input st entry_set)
+          set_here = following m st is (choice.Thread t) entry_set (entry_is outcome parts done_is known known_is) refl refl parts left new system_then is_kept rows_are
+              (ap length have.rows_are ∙ count_renewed parts.processes ready.pid t closed 1 m.workers.calls.next ∙ length-set m.threads (t - 1) _)
 
     pub entry_here : entry_of m.input st (choice.Thread t) ≡ Some entry_set
     entry_here = entry_is outcome parts done_is known known_is
@@ -265,7 +303,7 @@ room_for_all m st is =
     omega (arith, drawn, fewer, few, threads, next, count)
 
 module _ (m : Running) (t : ℕ) (ready : ReadyCall) (can : CanStep m t (steps.Make ready)) (row : ThreadRow) (row_is : item_at_number m.threads t ≡ Some row) (sets : sets_ids ready.call ≡ true)
-    (outcome : Outcome) (parts : Parts) (done_is : IsCallMade ready.call (request_with m t ready) outcome m.system parts) (between : UnderWay) (closes : EndsCall ready.drawing m.workers between) where
+    (outcome : Outcome) (parts : Parts) (done_is : IsCallMade ready.call (request_with m t ready) outcome m.system parts) where
   abbrev shut : List ThreadRow
   shut = set m.threads (t - 1) (record row { pending = None })
 
@@ -274,8 +312,8 @@ module _ (m : Running) (t : ℕ) (ready : ReadyCall) (can : CanStep m t (steps.M
     effect_given st = changes_set ready.call sets (system_of m.input st) (request_of m.input st t ready.regs ready.args ready.ids) well ∙ ap (λ (ids : Ids). SetIds ids ∷ renewals (st.threads t).owner t (suc st.posted) (held_from st 1 (thread_count m.input))) given_is
 
     -- the other held calls of its process can be renewed, with as many copies of its directory
-    pub can_set : (st : State) → Refines m st → CanRenew between (numbers_from parts.processes ready.pid t 1 shut)
-    can_set st is = can_renew m st is t ready can row row_is outcome parts done_is given (effect_given st) between closes
+    pub can_set : (st : State) → Refines m st → CanRenew m.workers (numbers_from parts.processes ready.pid t 1 shut)
+    can_set st is = can_renew m st is t ready can row row_is outcome parts done_is given (effect_given st)
 
     pub copies_set : (st : State) → Refines m st → replicate (length (numbers_from m.system.processes ready.pid t 1 m.threads)) (process_at m.system.processes ready.pid).cwd ≡ replicate (length (numbers_from parts.processes ready.pid t 1 shut)) (process_at parts.processes ready.pid).cwd
     copies_set st is = copies_stay m st is t ready can row row_is outcome parts done_is given (effect_given st)
@@ -286,21 +324,23 @@ module _ (m : Running) (t : ℕ) (ready : ReadyCall) (can : CanStep m t (steps.M
     pub there_set : (st : State) → Refines m st → IsPid parts.processes ready.pid
     there_set st is = there_stays m st is t ready can row row_is outcome parts done_is given (effect_given st)
 
-    pub room_set : (st : State) → Refines m st → between.calls.next + length shut < 2 ^ 64
+    pub room_set : (st : State) → Refines m st → m.workers.calls.next + length shut < 2 ^ 64
     room_set st is =
         let room = room_for_all m st is in
-        let old : m.workers.calls.next ≡ suc st.posted = is.workers.agrees.next in
-        let new : between.calls.next ≡ suc st.posted = (closes m.input st (is_live st) is.workers).agrees.next in
         let same = length-set m.threads (t - 1) (record row { pending = None }) in
-        omega (arith, room, old, new, same)
+        omega (arith, room, same)
+
+    -- the caller's own call can end after the renewals
+    pub own_set : (between : UnderWay) (rows : List ThreadRow) → HaveRenewed parts.processes ready.pid t shut m.workers rows between → (st : State) → Refines m st → IfSome ready.drawing (λ q. calls.is_live_number between.calls q ≡ true)
+    own_set between rows have st is = own_there m st is t ready can row row_is outcome parts done_is given (effect_given st) rows between have
 
     -- a call that sets ids is made, and the other held calls of its process are renewed
-    pub setting : (left : UnderWay) (rows : List ThreadRow) → HaveRenewed parts.processes ready.pid t shut between rows left
+    pub setting : (between left : UnderWay) (rows : List ThreadRow) → HaveRenewed parts.processes ready.pid t shut m.workers rows between → EndsCall ready.drawing between left
         → IsStep m (choice.Thread t) (Some (Used t ready.drawing ready.call ready.regs ready.args ready.ids outcome.result (SetIds given ∷ renewals_from m.workers.calls.next (numbers_from m.system.processes ready.pid t 1 m.threads)))) (with_parts m parts left rows)
-    setting left rows have = λ st is.
+    setting between left rows have closes = λ st is.
         let given_here = effect_given st in
         let entry_by : ℕ → Entry = λ n. Used t ready.drawing ready.call ready.regs ready.args ready.ids outcome.result (SetIds given ∷ renewals_from n (numbers_from m.system.processes ready.pid t 1 m.threads)) in
         subst (λ (n : ℕ). (entry_of m.input st (choice.Thread t) ≡ Some (entry_by n)) × Refines (with_parts m parts left rows) (state_after m.input st (entry_by n))) (sym is.workers.agrees.next) (
           entry_here m st is t ready can row row_is outcome parts done_is given given_here,
-          set_here m st is t ready can row row_is outcome parts done_is given given_here between closes rows left have,
+          set_here m st is t ready can row row_is outcome parts done_is given given_here rows between have left closes,
         )

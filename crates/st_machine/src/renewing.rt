@@ -15,8 +15,8 @@ use st_threads::{CallingThread, NewIds, end_call, plan_renewals, renew_all};
 use std::alloc::{AllocError, Global};
 
 impl<'a> Machine<'a> {
-    // Makes a thread's call that sets these ids, and gives the other held calls of its process new numbers. If memory runs out, the
-    // abstract state is unchanged.
+    // Makes a thread's call that sets these ids, and gives the other held calls of its process new numbers. The number of its own call is
+    // in use until then. If memory runs out, the abstract state is unchanged.
     pub(crate) fn set_ids(
         &mut self,
         alloc: Global,
@@ -46,7 +46,6 @@ impl<'a> Machine<'a> {
         let request = self.view().request_with(tid, ready);
         let outcome = self.system.execute(alloc, ready.call, &request)?;
         self.threads[tid as usize - 1].close();
-        end_call(&mut self.workers, ready.drawing);
         renew_all(
             &mut self.threads,
             &mut self.workers,
@@ -54,6 +53,7 @@ impl<'a> Machine<'a> {
             caller,
             plan.cwds,
         );
+        end_call(&mut self.workers, ready.drawing);
         Ok(Outcome {
             result: outcome.result,
             changes: plan.changes,

@@ -1,7 +1,13 @@
+mod Ahead
+mod CircleSearch
+pub mod Counts
 mod Elements
 pub mod Lookups
-mod Ordered
+mod MessageRows
+pub mod Ordered
+mod OwnValues
 mod Runs
+pub mod Seqs
 mod TakenOnce
 mod Takings
 mod TicketSteps

@@ -1,24 +1,25 @@
 -- Which message is found under a number, after one gets another state, is removed or is appended.
-use Rattle.std.proofs.Common.{zero, suc, ◌≡◌, ◌≢◌, ℕ, ◌<◌, ◌≤◌, Bool, true, false, cond, ◌==◌, List, [], ◌∷◌, ◌++◌, length, get_or, set, Option, Some, None, inl, inr, refl, ap, sym, ◌∙◌, subst, arith}
+use Rattle.std.proofs.Common.{zero, suc, ◌≡◌, ◌≢◌, ℕ, ◌<◌, ◌≤◌, Bool, true, false, cond, not, ◌==◌, List, [], ◌∷◌, ◌++◌, length, get_or, set, Option, Some, None, inl, inr, refl, ap, sym, ◌∙◌, subst, arith}
 use Rattle.std.proofs.lemmas.Bool.{cases_eq, cases_lt, eq-eqb, ne_eqb, eqb-true, le-ltb, lt-ltb, ltb-false, ltb-true, true≢false}
 use Rattle.std.proofs.lemmas.List.Folds.{find-append, find_at}
 use Rattle.std.proofs.lemmas.List.Quantifiers.{position-Some}
 use Rattle.std.proofs.lemmas.List.Sums.{position_or_len_is}
 use Rattle.std.proofs.lemmas.Option.{none-some, slice_get-get_or, slice_get_past}
-use Rattle.std.specs.List.{find, position, position_or_len, remove}
+use Rattle.std.specs.List.{filter, find, position, position_or_len, remove}
 use Rattle.std.specs.List.Sorted.{IsPartitionedBy, IsPartitionPoint}
 use Rattle.std.specs.Option.{option_map, option_or}
 use Rattle.std.specs.Prelude.{nat_lt, slice_get}
+use Rattle.st_messages.specs.declared.kept.KeptNumber.{KeptNumber}
 use Rattle.st_messages.specs.declared.message.MsgState.{MsgState}
 use Rattle.st_messages.specs.declared.message.Message.{Message}
 use Rattle.st_messages.proofs.Ordered.{numbers_go_up}
-use Rattle.st_messages.specs.Messages.{AreBetween, is_message_of, message_in, waiting_message, with_state_in, without_number}
+use Rattle.st_messages.specs.Messages.{AreBetween, is_message_of, kept_in, message_in, waiting_message, with_state_in, without_kept, without_number}
 
-cond_none : (b : Bool) → cond {A = Option Message} b None None ≡ None
+cond_none : {X : Type 0} (b : Bool) → cond {A = Option X} b None None ≡ None
 cond_none true = refl
 cond_none false = refl
 
-option_or_none : (o : Option Message) → option_or o None ≡ o
+pub option_or_none : {X : Type 0} (o : Option X) → option_or o None ≡ o
 option_or_none None = refl
 option_or_none (Some m) = refl
 
@@ -125,7 +126,7 @@ module _ (live : List Message) (from to drawing : ℕ) (are : AreBetween from li
 
     -- all numbers are smaller
     pub position_past : length live ≤ i → position (is_message_of drawing) live ≡ None
-    position_past end = position_nowhere (waiting_message 0 0) (λ k inside. less k (waiting_message 0 0) (omega (arith, end, inside)))
+    position_past end = position_nowhere (waiting_message 0 0 0) (λ k inside. less k (waiting_message 0 0 0) (omega (arith, end, inside)))
 
     -- the numbers are smaller or greater
     pub position_between : (d : Message) → i < length live → (get_or live i d).drawing ≢ drawing → position (is_message_of drawing) live ≡ None
@@ -153,36 +154,45 @@ removed-at (m ∷ live) from to drawing (suc i) d are inside is =
     let less = numbers_go_up (m ∷ live) from to (suc i) 0 d are inside (omega arith) in
     rw (ne_eqb m.drawing drawing (λ e. omega (arith, e, is, less))) (ap (λ (ms : List Message). m ∷ ms) (removed-at live (suc m.drawing) to drawing i d are.1 (omega (arith, inside)) is))
 
-found_without-by : (m : Message) (live : List Message) (drawing other : ℕ) (a b : Bool) → (m.drawing == drawing) ≡ a → (m.drawing == other) ≡ b
-    → message_in (without_number live drawing) other ≡ cond (other == drawing) None (message_in live other)
-    → message_in (without_number (m ∷ live) drawing) other ≡ cond (other == drawing) None (message_in (m ∷ live) other)
-found_without-by m live drawing other true true is_drawing is_other more =
-    let same : (other == drawing) ≡ true = eq-eqb other drawing (sym (eqb-true m.drawing other is_other) ∙ eqb-true m.drawing drawing is_drawing) in
-    let none : message_in (without_number live drawing) other ≡ None = more ∙ rw same refl in
-    rw (is_drawing, same) none
-found_without-by m live drawing other true false is_drawing is_other more = rw (is_drawing, is_other) more
-found_without-by m live drawing other false true is_drawing is_other more =
-    let apart : (other == drawing) ≡ false = ne_eqb other drawing (λ e. true≢false (sym (eq-eqb m.drawing drawing (eqb-true m.drawing other is_other ∙ e)) ∙ is_drawing)) in
-    rw (is_drawing, apart, is_other) refl
-found_without-by m live drawing other false false is_drawing is_other more = rw (is_drawing, is_other) more
+found_without-by : {X : Type 0} (key : X → ℕ) (x : X) (xs : List X) (q other : ℕ) (a b : Bool) → (key x == q) ≡ a → (key x == other) ≡ b
+    → find (λ y. key y == other) (filter (λ y. not (key y == q)) xs) ≡ cond (other == q) None (find (λ y. key y == other) xs)
+    → find (λ y. key y == other) (filter (λ y. not (key y == q)) (x ∷ xs)) ≡ cond (other == q) None (find (λ y. key y == other) (x ∷ xs))
+found_without-by key x xs q other true true is_q is_other more =
+    let same : (other == q) ≡ true = eq-eqb other q (sym (eqb-true (key x) other is_other) ∙ eqb-true (key x) q is_q) in
+    let none : find (λ y. key y == other) (filter (λ y. not (key y == q)) xs) ≡ None = more ∙ rw same refl in
+    rw (is_q, same) none
+found_without-by key x xs q other true false is_q is_other more = rw (is_q, is_other) more
+found_without-by key x xs q other false true is_q is_other more =
+    let apart : (other == q) ≡ false = ne_eqb other q (λ e. true≢false (sym (eq-eqb (key x) q (eqb-true (key x) other is_other ∙ e)) ∙ is_q)) in
+    rw (is_q, apart, is_other) refl
+found_without-by key x xs q other false false is_q is_other more = rw (is_q, is_other) more
 
--- no message is found under that number, and each other is unchanged
+-- of a list without what has one key, nothing is found under that key, and what is found under each other is unchanged
+pub found_without_key : {X : Type 0} (key : X → ℕ) (xs : List X) (q other : ℕ)
+    → find (λ y. key y == other) (filter (λ y. not (key y == q)) xs) ≡ cond (other == q) None (find (λ y. key y == other) xs)
+found_without_key key [] q other = sym (cond_none (other == q))
+found_without_key key (x ∷ xs) q other = found_without-by key x xs q other (key x == q) (key x == other) refl refl (found_without_key key xs q other)
+
+-- no message is found under that drawing, and each other is unchanged
 pub found_without : (live : List Message) (drawing other : ℕ) → message_in (without_number live drawing) other ≡ cond (other == drawing) None (message_in live other)
-found_without [] drawing other = sym (cond_none (other == drawing))
-found_without (m ∷ live) drawing other = found_without-by m live drawing other (m.drawing == drawing) (m.drawing == other) refl refl (found_without live drawing other)
+found_without live drawing other = found_without_key (λ (message : Message). message.drawing) live drawing other
+
+-- the same of kept numbers
+pub kept_without : (kept : List KeptNumber) (drawing other : ℕ) → kept_in (without_kept kept drawing) other ≡ cond (other == drawing) None (kept_in kept other)
+kept_without kept drawing other = found_without_key (λ (number : KeptNumber). number.drawing) kept drawing other
 
 -- ---- a message is appended
 
 -- each other number is unchanged
-pub found_other : (live : List Message) (drawing tid other : ℕ) → other ≢ drawing → message_in (live ++ waiting_message drawing tid ∷ []) other ≡ message_in live other
-found_other live drawing tid other apart =
-    find-append (is_message_of other) live (waiting_message drawing tid ∷ []) ∙ rw (ne_eqb drawing other (λ e. apart (sym e))) (option_or_none (message_in live other))
+pub found_other : (live : List Message) (drawing seq tid other : ℕ) → other ≢ drawing → message_in (live ++ waiting_message drawing seq tid ∷ []) other ≡ message_in live other
+found_other live drawing seq tid other apart =
+    find-append (is_message_of other) live (waiting_message drawing seq tid ∷ []) ∙ rw (ne_eqb drawing other (λ e. apart (sym e))) (option_or_none (message_in live other))
 
 -- the message is found under its number, and each other is unchanged
-pub found_posted : (live : List Message) (drawing tid other : ℕ) → message_in live drawing ≡ None → message_in (live ++ waiting_message drawing tid ∷ []) other ≡ cond (other == drawing) (Some (waiting_message drawing tid)) (message_in live other)
-found_posted live drawing tid other none = elim (cases_eq other drawing) [
+pub found_posted : (live : List Message) (drawing seq tid other : ℕ) → message_in live drawing ≡ None → message_in (live ++ waiting_message drawing seq tid ∷ []) other ≡ cond (other == drawing) (Some (waiting_message drawing seq tid)) (message_in live other)
+found_posted live drawing seq tid other none = elim (cases_eq other drawing) [
   | inl e ↦
       let none_there : message_in live other ≡ None = ap (message_in live) e ∙ none in
-      find-append (is_message_of other) live (waiting_message drawing tid ∷ []) ∙ rw (none_there, eq-eqb drawing other (sym e), eq-eqb other drawing e) refl
-  | inr ne ↦ found_other live drawing tid other ne ∙ rw (ne_eqb other drawing ne) refl
+      find-append (is_message_of other) live (waiting_message drawing seq tid ∷ []) ∙ rw (none_there, eq-eqb drawing other (sym e), eq-eqb other drawing e) refl
+  | inr ne ↦ found_other live drawing seq tid other ne ∙ rw (ne_eqb other drawing ne) refl
 ]

@@ -1,6 +1,6 @@
 -- Messages in the order of their numbers: between which numbers they are, and which waiting message is first.
 use Rattle.std.proofs.Common.{zero, suc, get_or, length, ◌≡◌, ◌≢◌, ℕ, ◌<◌, ◌≤◌, Bool, true, false, ◌==◌, List, [], ◌∷◌, ◌++◌, Option, Some, None, inl, inr, refl, ap, sym, ◌∙◌, subst, arith}
-use Rattle.std.proofs.lemmas.Bool.{cases_eq, eq-eqb, ne_eqb, true≢false}
+use Rattle.std.proofs.lemmas.Bool.{cases_Bool, cases_eq, eq-eqb, ne_eqb, true≢false}
 use Rattle.std.proofs.lemmas.Option.{none-some, same_Some}
 use Rattle.std.specs.List.{find}
 use Rattle.std.specs.Option.{option_map}
@@ -29,9 +29,9 @@ between-without (m ∷ live) drawing from to are = elim (cases_eq m.drawing draw
   | inr ne ↦ rw (ne_eqb m.drawing drawing ne) (are.0, between-without live drawing (suc m.drawing) to are.1)
 ]
 
-pub between-posted : (live : List Message) (tid from to : ℕ) → AreBetween from live to → AreBetween from (live ++ waiting_message to tid ∷ []) (suc to)
-between-posted [] tid from to are = (are, omega arith)
-between-posted (m ∷ live) tid from to are = (are.0, between-posted live tid (suc m.drawing) to are.1)
+pub between-posted : (live : List Message) (seq tid from to : ℕ) → AreBetween from live to → AreBetween from (live ++ waiting_message to seq tid ∷ []) (suc to)
+between-posted [] seq tid from to are = (are, omega arith)
+between-posted (m ∷ live) seq tid from to are = (are.0, between-posted live seq tid (suc m.drawing) to are.1)
 
 -- ---- which numbers are found
 
@@ -57,6 +57,20 @@ found_below [] from to drawing m are is = absurd (none-some m is)
 found_below (x ∷ live) from to drawing m are is = elim (cases_eq x.drawing drawing) [
   | inl e ↦ omega (arith, e, upper live (suc x.drawing) to are.1)
   | inr ne ↦ found_below live (suc x.drawing) to drawing m are.1 (rw (ne_eqb x.drawing drawing ne) at is)
+]
+
+-- a message that is found by a test is found under its drawing
+pub found_itself : (test : Message → Bool) (live : List Message) (from to : ℕ) (m : Message) → AreBetween from live to → find test live ≡ Some m → (from ≤ m.drawing) × (test m ≡ true) × (message_in live m.drawing ≡ Some m)
+found_itself test [] from to m are is = absurd (none-some m is)
+found_itself test (x ∷ live) from to m are is = elim (cases_Bool (test x)) [
+  | inl passes ↦ (
+      let same : x ≡ m = same_Some x m (rw passes at is) in
+      subst (λ (y : Message). (from ≤ y.drawing) × (test y ≡ true) × (message_in (x ∷ live) y.drawing ≡ Some y)) same (are.0, passes, rw (eq-eqb x.drawing x.drawing refl) refl)
+      )
+  | inr fails ↦ (
+      let more = found_itself test live (suc x.drawing) to m are.1 (rw fails at is) in
+      (omega (arith, are.0, more.0), more.1, rw (ne_eqb x.drawing m.drawing (λ e. omega (arith, e, more.0))) more.2)
+      )
 ]
 
 -- ---- the index of a number

@@ -1,3 +1,4 @@
+pub mod Circle
 pub mod Laws
 pub mod Messages
 pub mod Tickets

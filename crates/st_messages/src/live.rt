@@ -1,9 +1,12 @@
 ghost use Rattle.std.specs.Prelude.{◌≡◌, ◌<◌, ℕ, IfSome, Some, true, is_some, find, length};
 ghost use Rattle.std.specs.List.{position};
 ghost use Rattle.std.specs.VecDeque.{deque_capacity};
-ghost use Rattle.st_messages.specs.Messages.{is_message_of, is_unclaimed, message_in, without_number, AreBetween};
+ghost use Rattle.st_messages.specs.Circle.{nearest};
+ghost use Rattle.st_messages.specs.declared.message.Message.{Message};
+ghost use Rattle.st_messages.specs.Messages.{has_seq, is_message_of, is_unclaimed, message_in, without_number, AreBetween};
 
-use crate::message::{Message, MsgState};
+use crate::circle;
+use crate::message::{Message, MsgState, Number};
 use st_base::Drawing;
 use std::collections::VecDeque;
 
@@ -80,6 +83,24 @@ pub fn message_of(live: &VecDeque<Message>, drawing: Drawing) -> Option<Message>
 {
     let place = place_of(live, drawing)?;
     Some(live[place])
+}
+
+/// The message of this number, if it is live.
+pub fn message_with(live: &VecDeque<Message>, seq: Number) -> Option<Message>
+    ensures { result ≡ find (has_seq seq) live.now.items }
+{
+    live.iter().copied().find(|message| message.seq == seq)
+}
+
+/// How many steps of the circle it is from a number to the nearest of a live message; once round if there is none.
+pub fn nearest(live: &VecDeque<Message>, last: Number) -> Number
+    ensures { result ≡ nearest (λ (message : Message). message.seq) 65535 last live.now.items }
+{
+    let mut nearest = Number::MAX;
+    for i in 0..live.len() {
+        nearest = nearest.min(circle::steps_to(last, live[i].seq));
+    }
+    nearest
 }
 
 // Whether no worker has claimed a message.

@@ -1,25 +1,30 @@
-ghost use Rattle.std.specs.Prelude.{◌≡◌, ◌≢◌, ℕ, ◌-◌, ◌^◌, ◌<◌, ◌↔◌, [], Some, None, true, length, get_or, IsNone, IfSome, IfOk, OnOk, OnErr};
+ghost use Rattle.std.specs.Prelude.{◌≡◌, ◌≢◌, ℕ, ◌-◌, ◌^◌, ◌<◌, ◌≤◌, ◌↔◌, [], Some, None, true, false, length, get_or, IsNone, IfSome, IfOk, OnOk, OnErr};
 ghost use Rattle.st_messages.specs.declared.message.Delivered.TheVariants.{Applied, Stale};
 ghost use Rattle.st_messages.specs.declared.message.Message.{Message};
 ghost use Rattle.st_messages.specs.declared.message.MsgState.TheVariants.{Waiting, Claimed, Answered, Faulted};
-ghost use Rattle.st_messages.specs.Messages.{first_waiting, is_claimed, is_live_number, message_state, thread_of_number, with_state, calls_after_post, calls_after_cancel, calls_after_renew, ChangesState, HasNoNumber, IsLeastWaiting, HasWorker, RenewsState};
+ghost use Rattle.st_messages.specs.Messages.{count_in_use, drawing_of, first_waiting, is_claimed, is_in_use, is_kept, is_live_number, message_state, most_in_use, next_seq, seq_left, seq_of, thread_of_number, with_state, calls_after_post, calls_after_cancel, calls_after_let_go, calls_after_renew, AreValidCalls, ChangesKept, ChangesSeq, ChangesState, HasNoNumber, IsInCircle, IsLeastWaiting, HasWorker, RenewsSeq, RenewsState};
 
-use crate::live;
-use crate::message::{Delivered, Message, MsgState};
+use crate::kept::{KeptNumber, KeptNumbers};
+use crate::message::{Delivered, Message, MsgState, Number};
+use crate::{circle, live};
 use st_base::{Drawing, Errno, Tid, Worker};
 use st_calls::Verdict;
 use std::alloc::{AllocError, Global};
 use std::collections::VecDeque;
 use std::marker::Model;
 
-/// The messages of held calls. Each has a drawing, from 1 in the order of posting, that is used once. The least waiting drawing is claimed
-/// first.
+/// The messages of held calls. Each has a drawing, from 1 in the order of posting, that is used once, and a number, which comes again when
+/// it is no longer in use. The least waiting drawing is claimed first.
 #[derive(Debug, Drop)]
 pub struct Messages {
     workers: u32,
     next: Drawing,
+    last: Number,
+    // So many numbers after the last one are known to be free.
+    ahead: Number,
     // In the order of their drawings. A thread has at most one, so there are few, however long the run is.
     live: VecDeque<Message>,
+    kept: KeptNumbers,
 }
 
 impl Model for Messages {
@@ -27,25 +32,34 @@ impl Model for Messages {
 
     ghost Value = { HeldCalls };
 
-    ghost view = { λ m. record { workers = m.workers; next = m.next; live = m.live.items } };
+    ghost view = { λ m. record { workers = m.workers; next = m.next; greatest = 65535; last = m.last; live = m.live.items; kept = m.kept } };
 
-    ghost use Rattle.st_messages.specs.Messages.{AreValidCalls};
+    ghost use Rattle.st_messages.specs.Circle.{AreFreeAhead};
+    ghost use Rattle.st_messages.specs.Messages.{seqs_in, AreValidCalls};
 
-    ghost invariant = { λ m. AreValidCalls (record { workers = m.workers; next = m.next; live = m.live.items }) };
+    ghost invariant = { λ m. AreValidCalls (record { workers = m.workers; next = m.next; greatest = 65535; last = m.last; live = m.live.items; kept = m.kept }) × AreFreeAhead 65535 (seqs_in m.live.items m.kept) m.last m.ahead };
 }
 
 impl Messages {
-    /// No messages, for so many workers. It takes no memory.
-    pub fn new(alloc: Global, workers: u32) -> Self
-        ensures workers { result.workers ≡ workers }
-        ensures next { result.next ≡ 1 }
-        ensures live { result.live ≡ [] }
+    /// No messages, for so many workers.
+    pub fn new(alloc: Global, workers: u32) -> Result<Self, AllocError>
+        ensures workers { IfOk result (λ calls. calls.workers ≡ workers) }
+        ensures next { IfOk result (λ calls. calls.next ≡ 1) }
+        ensures greatest { IfOk result (λ calls. calls.greatest ≡ 65535) }
+        ensures last { IfOk result (λ calls. calls.last ≡ 0) }
+        ensures live { IfOk result (λ calls. calls.live ≡ []) }
+        ensures kept { IfOk result (λ calls. calls.kept ≡ []) }
+        ensures valid { IfOk result (λ calls. AreValidCalls calls) }
     {
-        Messages {
+        let kept = KeptNumbers::new(alloc)?;
+        Ok(Messages {
             workers,
             next: 1,
+            last: 0,
+            ahead: Number::MAX - 1,
             live: VecDeque::new(alloc),
-        }
+            kept,
+        })
     }
 
     /// How many workers there are; their numbers begin at 1.
@@ -57,9 +71,46 @@ impl Messages {
 
     /// The drawing that the next call of `post` or `renew` returns.
     pub fn next_drawing(&self) -> Drawing
-        ensures { result ≡ self.now.next }
+        ensures drawing { result ≡ self.now.next }
+        ensures valid { AreValidCalls self.now }
     {
         self.next
+    }
+
+    /// The number that the next call of `post` or `renew` draws.
+    pub fn next_seq(&self) -> Number
+        requires { count_in_use self.now ≤ most_in_use }
+        ensures seq { result ≡ next_seq self.now }
+        ensures circle { IsInCircle self.now result }
+        ensures free { is_in_use self.now result ≡ false }
+    {
+        circle::draw(&self.live, &self.kept, self.last, self.ahead).seq
+    }
+
+    /// Whether a number is in use: that of a live drawing, or one that a ready worker keeps.
+    pub fn in_use(&self, seq: Number) -> bool
+        ensures value { result ≡ is_in_use self.now seq }
+        ensures exact { (result ≡ true) ↔ ((drawing : ℕ) × (seq_of self.now drawing ≡ Some seq)) }
+    {
+        circle::is_in_use(&self.live, &self.kept, seq)
+    }
+
+    /// The number of a drawing in use; none if the drawing isn't in use.
+    pub fn seq(&self, drawing: Drawing) -> Option<Number>
+        ensures { result ≡ seq_of self.now drawing }
+    {
+        match live::message_of(&self.live, drawing) {
+            Some(message) => Some(message.seq),
+            None => Some(self.kept.of(drawing)?.seq),
+        }
+    }
+
+    /// The drawing in use that has this number; none iff the number isn't in use.
+    pub fn drawing(&self, seq: Number) -> Option<Drawing>
+        ensures value { result ≡ drawing_of self.now seq }
+        ensures exact { (drawing : ℕ) → (result ≡ Some drawing) ↔ (seq_of self.now drawing ≡ Some seq) }
+    {
+        circle::drawing_with(&self.live, &self.kept, seq)
     }
 
     /// How far a message has come; none iff the drawing isn't live.
@@ -109,20 +160,26 @@ impl Messages {
     pub fn post(&mut self, tid: Tid) -> Result<Drawing, AllocError>
         requires thread { HasNoNumber self.old tid }
         requires room { self.old.next < 2 ^ 64 - 1 }
+        requires few { count_in_use self.old ≤ most_in_use }
         ensures drawing { IfOk result (λ drawing. drawing ≡ self.old.next) }
         ensures fresh { message_state self.old self.old.next ≡ None }
         ensures ok { OnOk result (self.new ≡ calls_after_post self.old tid) }
         ensures thread { OnOk result (thread_of_number self.new self.old.next ≡ Some tid) }
         ensures states { OnOk result (ChangesState self.old self.old.next (Some Waiting) self.new) }
+        ensures seqs { OnOk result (ChangesSeq self.old self.old.next (Some (next_seq self.old)) self.new) }
         ensures err { OnErr result (self.new ≡ self.old) }
     {
+        let drawn = circle::draw(&self.live, &self.kept, self.last, self.ahead);
         let drawing = self.next;
         self.live.push_back(Message {
             drawing,
+            seq: drawn.seq,
             tid,
             state: MsgState::Waiting,
         })?;
         self.next = drawing + 1;
+        self.last = drawn.seq;
+        self.ahead = drawn.ahead;
         Ok(drawing)
     }
 
@@ -174,33 +231,68 @@ impl Messages {
         Delivered::Applied
     }
 
-    /// Ends a live drawing, and posts its call again under the next drawing, which it returns. It takes no memory.
-    pub fn renew(&mut self, drawing: Drawing) -> Drawing
+    /// Ends a live drawing, and posts its call again under the next drawing, which it returns. If a ready worker keeps the number of the old
+    /// drawing, it stays in use. It takes no memory.
+    pub fn renew(&mut self, drawing: Drawing, kept: bool) -> Drawing
         requires live { is_live_number self.old drawing ≡ true }
         requires room { self.old.next < 2 ^ 64 - 1 }
+        requires few { count_in_use self.old ≤ most_in_use }
         ensures drawing { result ≡ self.old.next }
-        ensures calls { self.new ≡ calls_after_renew self.old drawing }
+        ensures calls { self.new ≡ calls_after_renew self.old drawing kept }
         ensures thread { thread_of_number self.new result ≡ thread_of_number self.old drawing }
         ensures fresh { message_state self.old self.old.next ≡ None }
         ensures states { RenewsState self.old drawing self.old.next self.new }
+        ensures seqs { RenewsSeq self.old drawing kept self.new }
+        ensures kept { ChangesKept self.old drawing kept self.new }
     {
+        let drawn = circle::draw(&self.live, &self.kept, self.last, self.ahead);
         let message = live::take(&mut self.live, drawing);
+        self.kept.add_if(
+            kept,
+            KeptNumber {
+                drawing: message.drawing,
+                seq: message.seq,
+            },
+        );
         let fresh = self.next;
         self.next = fresh + 1;
+        self.last = drawn.seq;
+        self.ahead = drawn.ahead;
         self.live.push_back_reserved(Message {
             drawing: fresh,
+            seq: drawn.seq,
             tid: message.tid,
             state: MsgState::Waiting,
         });
         fresh
     }
 
-    /// Ends a live drawing, because its call is made or denied, or its thread is dying. It takes no memory.
-    pub fn cancel(&mut self, drawing: Drawing)
+    /// Ends a live drawing, because its call is made or denied, or its thread is dying. If a ready worker keeps its number, that stays in
+    /// use. It takes no memory.
+    pub fn cancel(&mut self, drawing: Drawing, kept: bool)
         requires { is_live_number self.old drawing ≡ true }
-        ensures calls { self.new ≡ calls_after_cancel self.old drawing }
+        ensures calls { self.new ≡ calls_after_cancel self.old drawing kept }
         ensures states { ChangesState self.old drawing None self.new }
+        ensures seqs { ChangesSeq self.old drawing (seq_left self.old drawing kept) self.new }
+        ensures kept { ChangesKept self.old drawing kept self.new }
     {
-        let _ = live::take(&mut self.live, drawing);
+        let message = live::take(&mut self.live, drawing);
+        self.kept.add_if(
+            kept,
+            KeptNumber {
+                drawing: message.drawing,
+                seq: message.seq,
+            },
+        );
+    }
+
+    /// Ends the use of a number that a worker kept of an ended drawing. It takes no memory.
+    pub fn let_go(&mut self, drawing: Drawing)
+        requires { is_kept self.old drawing ≡ true }
+        ensures calls { self.new ≡ calls_after_let_go self.old drawing }
+        ensures seqs { ChangesSeq self.old drawing None self.new }
+        ensures kept { ChangesKept self.old drawing false self.new }
+    {
+        self.kept.remove(drawing);
     }
 }

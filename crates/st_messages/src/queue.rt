@@ -11,12 +11,22 @@ use std::marker::Model;
 use std::sync::Wait;
 
 /// Posts tickets, each with the next place, into the queue of which it is the only poster. Contracts see what it posted.
-#[derive(Drop)]
 pub struct Poster {
     queue: Shared<TicketQueue>,
     pass: Pass<Ticket, TicketList>,
     capacity: u32,
     posted: u64,
+}
+
+impl Drop for Poster {
+    fn drop(self) {
+        let Self {
+            queue: _,
+            pass: _,
+            capacity: _,
+            posted: _,
+        } = self;
+    }
 }
 
 impl Model for Poster {
@@ -60,10 +70,15 @@ impl Poster {
 }
 
 /// Takes tickets out of the queue, which it shares with the poster and the other takers. Contracts see what it took.
-#[derive(Drop)]
 pub struct Taker {
     queue: Shared<TicketQueue>,
     pass: Pass<Ticket, TicketList>,
+}
+
+impl Drop for Taker {
+    fn drop(self) {
+        let Self { queue: _, pass: _ } = self;
+    }
 }
 
 impl Model for Taker {

@@ -1,6 +1,6 @@
 -- Held calls get new numbers one after the other.
 use native.Mathlib.Omega.{arith}
-use Rattle.std.proofs.Common.{◌≡◌, ◌≢◌, ◌≤◌, ◌<◌, ◌+◌, ◌-◌, ◌^◌, ◌∙◌, ℕ, zero, suc, ◌==◌, Bool, true, false, cond, set, get_or, take, drop, replicate, List, [], ◌∷◌, ◌++◌, length, Option, Some, None, refl, ap, sym, subst, length-append}
+use Rattle.std.proofs.Common.{◌≡◌, ◌≢◌, ◌↔◌, ◌≤◌, ◌<◌, ◌+◌, ◌-◌, ◌^◌, ◌∙◌, ℕ, zero, suc, ◌==◌, Bool, true, false, cond, set, get_or, take, drop, replicate, List, [], ◌∷◌, ◌++◌, length, Option, Some, None, refl, ap, sym, subst, length-append}
 use Rattle.std.proofs.lemmas.Bool.{ne_eqb}
 use Rattle.std.proofs.lemmas.List.{append_assoc, append-nil, drop-set-lt, get_or-replicate, length-replicate, take_more_set}
 use Rattle.std.proofs.Math.ListN.{drop_of_length-le}
@@ -10,10 +10,11 @@ use Rattle.st_model.specs.Process.{Process}
 use Rattle.st_model.specs.Processes.{Processes, process_at}
 use Rattle.st_names.specs.Name.{Components}
 use Rattle.st_law.specs.State.{State}
+use Rattle.st_workers.specs.Numbers.{AreFew, AreReady, CarriesNumbers, IsReadyWith}
 use Rattle.st_workers.specs.Refinement.{RepresentsMessages, messages_renewed}
 use Rattle.st_workers.specs.UnderWay.{UnderWay}
 use Rattle.st_workers.proofs.Ended.{lives_as}
-use Rattle.st_threads.specs.Renewing.{AreOthers, CanRenew, HaveRenewed, AreLiveAndDistinct, RenewsAll, RenewsIf, RenewsOne, next_after, number_renewed, numbers_from, row_renewed, rows_renewed, with_number}
+use Rattle.st_threads.specs.Renewing.{AreOthers, CanRenew, HaveRenewed, AreLiveAndDistinct, RenewsAll, RenewsIf, RenewsOne, next_after, number_renewed, numbers_after_renewals, numbers_from, renewals_from, row_renewed, rows_renewed, with_number}
 use Rattle.st_threads.specs.Thread.{ThreadRow}
 
 -- ---- lists of one item
@@ -105,6 +106,12 @@ next_most : (next : ℕ) (drawing : Option ℕ) → next_after next drawing ≤ 
 next_most next None = omega arith
 next_most next (Some q) = omega arith
 
+-- the numbers after one renewal, or none, and after the others
+carried : (drawing : Option ℕ) (rest : List ℕ) (ready : ℕ → Bool) (old between new : calls.HeldCalls) → CarriesNumbers (numbers_after_renewals ready (renewals_from old.next (with_number drawing []))) old between
+    → CarriesNumbers (numbers_after_renewals ready (renewals_from (next_after old.next drawing) rest)) between new → CarriesNumbers (numbers_after_renewals ready (renewals_from old.next (with_number drawing rest))) old new
+carried None rest ready old between new first later numbers has = later numbers (first numbers has)
+carried (Some q) rest ready old between new first later numbers has = later _ (first numbers has)
+
 -- ---- the threads of the script up to a number
 
 module _ (processes : Processes) (pid caller : ℕ) where
@@ -124,10 +131,23 @@ module _ (processes : Processes) (pid caller : ℕ) where
     pub can : CanRenew between (numbers (suc n) (drop n now))
     pub copies : cwds ≡ replicate (length (numbers (suc n) (drop n now))) process.cwd
     pub room : between.calls.next + length (drop n now) < 2 ^ 64
+    pub few : AreFew between.calls
+    pub ready : (q : ℕ) → IsReadyWith between q ↔ IsReadyWith workers q
+    pub carries : (ready : ℕ → Bool) → AreReady ready workers → (left : UnderWay) → CarriesNumbers (numbers_after_renewals ready (renewals_from between.calls.next (numbers (suc n) (drop n now)))) between.calls left.calls
+        → CarriesNumbers (numbers_after_renewals ready (renewals_from workers.calls.next (numbers 1 before))) workers.calls left.calls
 
   -- at first no call has got a new number
-  pub none_so_far : (before : List ThreadRow) (workers : UnderWay) (cwds : List Components) → CanRenew workers (numbers 1 before) → workers.calls.next + length before < 2 ^ 64 → cwds ≡ replicate (length (numbers 1 before)) process.cwd → RenewedSoFar before workers 0 before workers cwds
-  none_so_far before workers cwds can room copies = record { rows = refl; all = λ left all. all; can = can; copies = copies; room = room }
+  pub none_so_far : (before : List ThreadRow) (workers : UnderWay) (cwds : List Components) → CanRenew workers (numbers 1 before) → workers.calls.next + length before < 2 ^ 64 → AreFew workers.calls → cwds ≡ replicate (length (numbers 1 before)) process.cwd → RenewedSoFar before workers 0 before workers cwds
+  none_so_far before workers cwds can room few copies = record {
+    rows = refl;
+    all = λ left all. all;
+    can = can;
+    copies = copies;
+    room = room;
+    few = few;
+    ready = λ q. (λ is. is, λ is. is);
+    carries = λ ready are left carries. carries;
+  }
 
   module _ (before : List ThreadRow) (workers : UnderWay) (n : ℕ) (now : List ThreadRow) (between : UnderWay) (cwds : List Components) (so_far : RenewedSoFar before workers n now between cwds) where
     -- at last all calls have got their new numbers
@@ -137,6 +157,8 @@ module _ (processes : Processes) (pid caller : ℕ) where
         record {
           rows_are = sym (take_whole now n end) ∙ sym (append-nil (take n now)) ∙ ap (λ (l : List ThreadRow). take n now ++ renewed between.calls.next (suc n) l) (sym none) ∙ so_far.rows;
           all = so_far.all between (subst (λ (l : List ThreadRow). RenewsAll process (numbers (suc n) l) between between) (sym none) refl);
+          numbers = λ ready are. so_far.carries ready are between (subst (λ (l : List ThreadRow). CarriesNumbers (numbers_after_renewals ready (renewals_from between.calls.next (numbers (suc n) l))) between.calls between.calls) (sym none) (λ _ has. has));
+          ready = so_far.ready;
         } where
           take_whole : (l : List ThreadRow) (k : ℕ) → length l ≤ k → take k l ≡ l
           take_whole [] zero e = refl
@@ -187,7 +209,9 @@ module _ (processes : Processes) (pid caller : ℕ) where
       pub next_same : cwds ≡ replicate (length cwds) process.cwd
       next_same = copies ∙ ap (λ (k : ℕ). replicate k process.cwd) (sym count)
 
-      module _ (left : UnderWay) (kept : RenewsIf process drawing between left) (fewer : List Components) (one : length cwds ≡ length (with_number drawing []) + length fewer) (same : fewer ≡ replicate (length fewer) process.cwd) where
+      module _ (left : UnderWay) (kept : RenewsIf process drawing between left) (fewer : List Components) (one : length cwds ≡ length (with_number drawing []) + length fewer) (same : fewer ≡ replicate (length fewer) process.cwd)
+          (few_left : AreFew left.calls) (ready_left : (q : ℕ) → IsReadyWith left q ↔ IsReadyWith between q)
+          (carries_one : (ready : ℕ → Bool) → AreReady ready between → CarriesNumbers (numbers_after_renewals ready (renewals_from between.calls.next (with_number drawing []))) between.calls left.calls) where
         abbrev rows_next : List ThreadRow
         rows_next = set now n (row_renewed between.calls.next drawing row)
 
@@ -206,8 +230,12 @@ module _ (processes : Processes) (pid caller : ℕ) where
             ∙ ap (λ (s : Option ℕ). take n now ++ (row_renewed between.calls.next s row ∷ renewed (next_after between.calls.next s) (suc (suc n)) (drop (n + 1) now))) drawing_here
             ∙ ap (λ (l : List ThreadRow). take n now ++ renewed between.calls.next (suc n) l) (sym here)
 
-        few : length fewer ≡ length rest
-        few = let a = one in let b = count in let d = one_length drawing rest in omega (arith, a, b, d)
+        -- the same workers are ready before and after
+        ready_between : (ready : ℕ → Bool) → AreReady ready workers → AreReady ready between
+        ready_between ready are q = (λ e. (so_far.ready q).1 ((are q).0 e), λ is. (are q).1 ((so_far.ready q).0 is))
+
+        fewer_copies : length fewer ≡ length rest
+        fewer_copies = let a = one in let b = count in let d = one_length drawing rest in omega (arith, a, b, d)
 
         -- the next thread's call has got one, too, if it is renewed
         pub next_renewed : RenewedSoFar before workers (n + 1) rows_next left fewer
@@ -215,6 +243,16 @@ module _ (processes : Processes) (pid caller : ℕ) where
           rows = rows_then ∙ so_far.rows;
           all = λ new all. so_far.all new (subst (λ (l : List ℕ). RenewsAll process l between new) (sym numbers_are) (all_if process drawing rest between left new kept (subst (λ (l : List ℕ). RenewsAll process l left new) numbers_then all)));
           can = subst (CanRenew left) (sym numbers_then) (can_if process drawing rest between left can kept);
-          copies = same ∙ ap (λ (k : ℕ). replicate k process.cwd) (few ∙ ap length (sym numbers_then));
+          copies = same ∙ ap (λ (k : ℕ). replicate k process.cwd) (fewer_copies ∙ ap length (sym numbers_then));
+          few = few_left;
+          ready = λ q. (λ is. (so_far.ready q).0 ((ready_left q).0 is), λ is. (ready_left q).1 ((so_far.ready q).1 is));
+          carries = λ ready are new carries. so_far.carries ready are new (
+              subst (λ (l : List ℕ). CarriesNumbers (numbers_after_renewals ready (renewals_from between.calls.next l)) between.calls new.calls) (sym numbers_are) (
+              carried drawing rest ready between.calls left.calls new.calls (carries_one ready (ready_between ready are)) (
+              subst (λ (n : ℕ). CarriesNumbers (numbers_after_renewals ready (renewals_from n rest)) left.calls new.calls) next_is
+              (subst (λ (l : List ℕ). CarriesNumbers (numbers_after_renewals ready (renewals_from left.calls.next l)) left.calls new.calls) numbers_then carries)
+              )
+              )
+              );
           room = let most = next_most between.calls.next drawing in let is = next_is in let before = room in let tail = ap length left_over in omega (arith, most, is, before, tail);
         }

@@ -1,11 +1,14 @@
 -- How the held calls of a process get new numbers after a call that sets ids.
-use Rattle.std.specs.Prelude.{◌≡◌, ◌≢◌, ℕ, suc, Bool, true, not, ◌&&◌, ◌==◌, if◌then◌else◌, List, [], ◌∷◌, Option, Some, None}
+use Rattle.std.specs.List.{fold}
+use Rattle.std.specs.Prelude.{◌≡◌, ◌≢◌, ◌↔◌, ℕ, suc, Bool, true, not, ◌&&◌, ◌==◌, if◌then◌else◌, List, [], ◌∷◌, Option, Some, None}
 use Rattle.st_model.specs.Process.{Process}
 use Rattle.st_model.specs.Processes.{Processes, process_at, owner_of}
 use Rattle.st_trace.specs.declared.entry.Change.{Change}
 use Rattle.st_trace.specs.declared.entry.Change.TheVariants.{Renewed}
 use Rattle.st_law.specs.declared.input.Input.{Input}
+use Rattle.st_law.specs.Numbers.{Numbers, largest_number, numbers_after_change}
 use Rattle.st_law.specs.State.{Message, State}
+use Rattle.st_workers.specs.Numbers.{AreReady, CarriesNumbers, IsReadyWith}
 use Rattle.st_workers.specs.Refinement.{messages_renewed, RepresentsMachineMessages, RepresentsMessages, RenewsLife}
 use Rattle.st_workers.specs.UnderWay.{UnderWay}
 use Rattle.st_threads.specs.Thread.{ThreadRow, number_held}
@@ -32,6 +35,10 @@ numbers_from processes pid caller t (row ∷ rows) = with_number (number_renewed
 abbrev pub renewals_from : ℕ → List ℕ → List Change
 renewals_from next [] = []
 renewals_from next (q ∷ numbers) = Renewed q next ∷ renewals_from (suc next) numbers
+
+-- the numbers of the law after renewals, if some worker is ready with these drawings
+abbrev pub numbers_after_renewals : (ℕ → Bool) → List Change → Numbers → Numbers
+numbers_after_renewals ready changes numbers = fold (numbers_after_change largest_number ready) numbers changes
 
 -- the next number after one was given or not
 abbrev pub next_after : ℕ → Option ℕ → ℕ
@@ -88,3 +95,5 @@ pub record CanRenew (workers : UnderWay) (numbers : List ℕ) : Type 0 where
 pub record HaveRenewed (processes : Processes) (pid caller : ℕ) (rows : List ThreadRow) (workers : UnderWay) (new : List ThreadRow) (left : UnderWay) : Type 0 where
   pub rows_are : new ≡ rows_renewed processes pid caller workers.calls.next 1 rows
   pub all : RenewsAll (process_at processes pid) (numbers_from processes pid caller 1 rows) workers left
+  pub numbers : (ready : ℕ → Bool) → AreReady ready workers → CarriesNumbers (numbers_after_renewals ready (renewals_from workers.calls.next (numbers_from processes pid caller 1 rows))) workers.calls left.calls
+  pub ready : (q : ℕ) → IsReadyWith left q ↔ IsReadyWith workers q

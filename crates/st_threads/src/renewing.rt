@@ -1,12 +1,13 @@
 // Gives held calls new drawings after a call that sets ids of their process.
-ghost use Rattle.std.specs.Prelude.{◌≡◌, ◌≢◌, ◌<◌, ◌+◌, ◌-◌, ◌^◌, true, [], ◌∷◌, ◌++◌, All, length, replicate, IfSome, IfOk, OnOk};
+ghost use Rattle.std.specs.Prelude.{◌≡◌, ◌≢◌, ◌↔◌, ◌<◌, ◌+◌, ◌-◌, ◌^◌, ℕ, Bool, true, [], ◌∷◌, ◌++◌, All, length, replicate, IfSome, IfOk, OnOk};
 ghost use Rattle.st_lookaside.specs.Need.{IsShort};
-ghost use Rattle.st_threads.specs.Renewing.{next_after, number_renewed, numbers_from, renewals_from, row_renewed, with_number, CanRenew, HaveRenewed, RenewsIf};
+ghost use Rattle.st_threads.specs.Renewing.{next_after, number_renewed, numbers_after_renewals, numbers_from, renewals_from, row_renewed, with_number, CanRenew, HaveRenewed, RenewsIf};
 ghost use Rattle.st_messages.specs.Messages.{is_live_number};
 ghost use Rattle.st_model.specs.Process.{Process};
 ghost use Rattle.st_model.specs.Processes.{process_at, IsPid};
 ghost use Rattle.st_names.specs.Name.{Components};
 ghost use Rattle.st_trace.specs.declared.entry.Change.TheVariants.{SetIds};
+ghost use Rattle.st_workers.specs.Numbers.{AreFew, AreReady, CarriesNumbers, IsReadyWith};
 
 use crate::caller::{CallingThread, NewIds};
 use crate::thread::Thread;
@@ -119,10 +120,14 @@ fn renew_call(
 )
     requires live { IfSome drawing (λ q. is_live_number workers.old.calls q ≡ true) }
     requires room { IfSome drawing (λ q. workers.old.calls.next < 2 ^ 64 - 1) }
+    requires few { AreFew workers.old.calls }
     requires cwds { IfSome drawing (λ q. cwds.old.items ≢ []) }
     requires short { All IsShort cwds.old.items }
     ensures thread { thread.new ≡ row_renewed workers.old.calls.next drawing thread.old }
     ensures kept { (process : Process) → process.ids ≡ ids → cwds.old.items ≡ replicate (length cwds.old.items) process.cwd → RenewsIf process drawing workers.old workers.new }
+    ensures few { AreFew workers.new.calls }
+    ensures numbers { (ready : ℕ → Bool) → AreReady ready workers.old → CarriesNumbers (numbers_after_renewals ready (renewals_from workers.old.calls.next (with_number drawing []))) workers.old.calls workers.new.calls }
+    ensures ready { (q : ℕ) → IsReadyWith workers.new q ↔ IsReadyWith workers.old q }
     ensures count { length cwds.old.items ≡ length (with_number drawing []) + length cwds.new.items }
     ensures same { (cwd : Components) → cwds.old.items ≡ replicate (length cwds.old.items) cwd → cwds.new.items ≡ replicate (length cwds.new.items) cwd }
 {
@@ -147,6 +152,7 @@ pub fn renew_all(
     requires few { length threads.old < 2 ^ 31 }
     requires calls { CanRenew workers.old (numbers_from system.now.processes caller.pid caller.tid 1 threads.old) }
     requires room { workers.old.calls.next + length threads.old < 2 ^ 64 }
+    requires in_use { AreFew workers.old.calls }
     requires cwds { cwds.items ≡ replicate (length (numbers_from system.now.processes caller.pid caller.tid 1 threads.old)) (process_at system.now.processes caller.pid).cwd }
     requires short { IsShort (process_at system.now.processes caller.pid).cwd }
     ensures { HaveRenewed system.now.processes caller.pid caller.tid threads.old workers.old threads.new workers.new }

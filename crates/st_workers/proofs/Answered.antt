@@ -1,28 +1,35 @@
 -- The messages and workers agree with the law's machine after a worker has answered, in time or too late.
-use Rattle.std.proofs.Common.{◌≡◌, ◌≢◌, ◌↔◌, ◌≤◌, ◌-◌, ℕ, ◌==◌, ◌&&◌, ◌||◌, Bool, true, false, cond, List, set, Option, Some, None, inl, inr, refl, ap, sym, ◌∙◌}
-use Rattle.std.proofs.lemmas.Bool.{cases_lt, eq-eqb, ne_eqb, true≢false}
+use Rattle.std.proofs.Common.{◌≡◌, ◌≢◌, ◌↔◌, ◌≤◌, ◌-◌, ℕ, ◌==◌, ◌&&◌, ◌||◌, Bool, true, false, cond, List, set, Option, Some, None, inl, inr, refl, ap, sym, ◌∙◌, subst}
+use Rattle.std.proofs.lemmas.Bool.{cases_eq, cases_lt, eq-eqb, ne_eqb, true≢false}
 use Rattle.std.proofs.lemmas.Option.{none-some, same_Some}
+use Rattle.std.specs.Prelude.{is_some}
 use Rattle.st_calls.specs.declared.judged.Snapshot.{Snapshot}
 use Rattle.st_calls.specs.declared.judged.Verdict.{Verdict}
 use Rattle.st_filter.specs.Judging as judging
 use Rattle.st_lookaside.specs.Slot.{Slot}
 use Rattle.st_lookaside.specs.Slots.{slot_at}
+use Rattle.st_messages.specs.declared.kept.KeptNumber.{KeptNumber}
 use Rattle.st_messages.specs.declared.message.Delivered.{Delivered}
 use Rattle.st_messages.specs.declared.message.Delivered.TheVariants.{Applied, Stale}
 use Rattle.st_messages.specs.declared.message.MsgState.{MsgState}
 use Rattle.st_messages.specs.declared.message.MsgState.TheVariants.{Answered, Claimed}
-use Rattle.st_messages.specs.Messages.{is_claimed, is_claimed_state, is_live_number, message_state, thread_of_number, with_state, HeldCalls}
-use Rattle.st_messages.proofs.Whole.{states_moved, threads_moved}
+use Rattle.st_messages.specs.Messages.{calls_after_let_go, is_claimed, is_claimed_state, is_kept, is_live_number, kept_in, message_state, thread_of_number, with_state, AreValidCalls, HasWorker, HeldCalls}
+use Rattle.st_messages.proofs.Lookups.{kept_without}
+use Rattle.st_messages.proofs.Whole.{states_moved, threads_moved, whole-let_go, whole-moved}
 use Rattle.st_trace.specs.declared.entry.Entry.TheVariants as entry
 use Rattle.st_law.specs.declared.input.Input.{Input}
 use Rattle.st_filter.specs.Policies.{read_filters}
 use Rattle.st_effects.specs.Progress.{Progress, Word, Look, Stuck, Ready as Whole}
 use Rattle.st_law.specs.Messages.{Head}
+use Rattle.st_law.specs.Numbers.{without_replaced}
 use Rattle.st_law.specs.State.{progress_of_message, snapshot_of_message, snapshot_of_progress, Message, State}
+use Rattle.st_workers.specs.Numbers.{AreNumbered, CarriesNumbers, HasNumbers, IsReadyWith}
 use Rattle.st_workers.specs.Refinement.{at_work, AgreesWithMachine, HasMessageFlags, IsDead, RepresentsMessages, RepresentsMessagesAfter, IsLive, IsTurn, AreValidWorkers}
 use Rattle.st_workers.specs.UnderWay.{found_in, turn_of_worker, UnderWay}
 use Rattle.st_workers.specs.declared.turn.Turn.TheVariants.{Idle, Ready}
-use Rattle.st_workers.proofs.Ended.{dead_not_live, state_live, turned_claimed}
+use Rattle.st_workers.proofs.Carried.{numbers_let_go, numbers_moved, numbers_still}
+use Rattle.st_workers.proofs.Ended.{dead_not_live, none_live, state_live, turned_claimed}
+use Rattle.st_workers.proofs.Numbered.{idle_no_drawing, numbered_by, ready_before, ready_still, same_life, same_ready, turn_other, turn_same, worked}
 use Rattle.st_workers.proofs.Steps.{all_turned, all_worked, count_kept, message_worked, stepped, verdicts_kept, IsStep}
 use Rattle.st_workers.proofs.Tasks.{sealed_ready}
 use Rattle.st_workers.proofs.Turns.{number_within}
@@ -31,7 +38,7 @@ use Rattle.st_workers.proofs.Turns.{number_within}
 pub record IsDelivered (old new : HeldCalls) (q : ℕ) (v : Verdict) (delivered : Delivered) : Type 0 where
   pub applied : (delivered ≡ Applied) ↔ (is_claimed old q ≡ true)
   pub ok : delivered ≡ Applied → new ≡ with_state old q (Answered v)
-  pub stale : delivered ≡ Stale → new ≡ old
+  pub stale : delivered ≡ Stale → new ≡ calls_after_let_go old q
 
 and_false : (b : Bool) → (b && false) ≡ false
 and_false true = refl
@@ -51,6 +58,16 @@ own_number q None p s e = absurd (none-some s e)
 -- the number in the copies of a ready worker is that of its message
 pub ready_number : (kept : UnderWay) → AreValidWorkers kept → (w q : ℕ) (s : Snapshot) → turn_of_worker kept w ≡ Some (Ready q s) → q ≡ s.seq
 ready_number kept whole w q s ready = own_number q (whole.messages q).head (progress_of_message (whole.messages q)) s (whole.agrees.workers w (Ready q s) ready).1
+
+-- what a worker is ready with is claimed, or has ended and is kept
+pub claimed_or_kept : (kept : UnderWay) → AreValidWorkers kept → AreNumbered kept → (w q : ℕ) (s : Snapshot) → turn_of_worker kept w ≡ Some (Ready q s) → is_claimed kept.calls q ≡ false → is_kept kept.calls q ≡ true
+claimed_or_kept kept whole numbered w q s ready unclaimed = by (whole.alive q) refl where
+  by : (b : Bool) → whole.alive q ≡ b → is_kept kept.calls q ≡ true
+  by true e =
+      let at : IsTurn whole.messages whole.alive (whole.turns w) (Ready q s) = whole.agrees.workers w (Ready q s) ready in
+      let claimed = turned_claimed whole.messages whole.turns whole.alive whole.posted (found_in kept) whole.agrees w q at.0 e in
+      absurd (true≢false (sym (ap is_claimed_state claimed.1) ∙ unclaimed))
+  by false e = numbered.ended q (w, s, ready) (none_live kept.calls q (whole.agrees.dead q e).state)
 
 module _ (old new : UnderWay) (w : ℕ) (s : Snapshot) (v : Verdict) (delivered : Delivered) (ready : turn_of_worker old w ≡ Some (Ready s.seq s)) (is : IsDelivered old.calls new.calls s.seq v delivered)
     (slots : new.slots ≡ old.slots) (put : new.turns ≡ set old.turns (w - 1) Idle) where
@@ -145,7 +162,7 @@ module _ (old new : UnderWay) (w : ℕ) (s : Snapshot) (v : Verdict) (delivered 
       not_applied : delivered ≡ Applied → ⊥
       not_applied e = true≢false (sym (is.applied.0 e) ∙ ap is_claimed_state none_there.state)
 
-      stale_calls : new.calls ≡ old.calls
+      stale_calls : new.calls ≡ calls_after_let_go old.calls s.seq
       stale_calls = is.stale (stale_by delivered not_applied)
 
       stale_step : s.seq ≤ posted → IsStep messages (all_worked (entry.Answered w s v false) messages) turns (all_turned (entry.Answered w s v false) turns) alive posted old new w s.seq Idle
@@ -190,6 +207,55 @@ module _ (old new : UnderWay) (w : ℕ) (s : Snapshot) (v : Verdict) (delivered 
     answered_agrees : AgreesWithMachine (all_worked (entry.Answered w s v (alive s.seq)) messages) (all_turned (entry.Answered w s v (alive s.seq)) turns) alive posted (found_in new)
     answered_agrees = stepped messages (all_worked (entry.Answered w s v (alive s.seq)) messages) turns (all_turned (entry.Answered w s v (alive s.seq)) turns) alive posted old new w s.seq Idle answered_step agrees
 
+    -- each number that is kept is kept by a ready worker
+    ready_only : (q : ℕ) (t : Snapshot) → Ready s.seq s ≡ Ready q t → q ≡ s.seq
+    ready_only q t e = sym (same_ready s.seq q s t e)
+
+    numbered_by_life : (b : Bool) → alive s.seq ≡ b → AreNumbered old → AreNumbered new
+    numbered_by_life true e numbered =
+        worked old new w s.seq (Ready s.seq s) Idle ready ready_only (idle_no_drawing s.seq) put (state_live new.calls s.seq (Answered v) (state e)) (λ q. ap (λ (c : HeldCalls). is_kept c q) (calls e))
+        (λ q ne. same_life old.calls new.calls q (states e q ne))
+        (subst AreValidCalls (sym (calls e)) (whole-moved old.calls s.seq (Answered v) numbered.calls (live_calls e) (λ x is_claim. not_claim x is_claim))) numbered
+      where
+        not_claim : (x : ℕ) → Answered v ≡ Claimed x → HasWorker old.calls x
+        not_claim x is_claim = cc
+    numbered_by_life false e numbered =
+        numbered_by old new s.seq (subst AreValidCalls (sym (stale_calls e)) (whole-let_go old.calls s.seq numbered.calls was_kept)) (record {
+          kept = λ q ne. ap (λ (c : HeldCalls). is_kept c q) (stale_calls e) ∙ ap (λ (o : Option KeptNumber). is_some o) (kept_without old.calls.kept s.seq q ∙ ap (λ (b : Bool). cond b None (kept_in old.calls.kept q)) (ne_eqb q s.seq ne));
+          live = λ q ne. ap (λ (c : HeldCalls). is_live_number c q) (stale_calls e);
+          ready = ready_before old new w s.seq (Ready s.seq s) Idle ready ready_only (idle_no_drawing s.seq) put;
+          still = ready_still old new w s.seq (Ready s.seq s) Idle ready ready_only (idle_no_drawing s.seq) put;
+          its_ready = λ is_there. absurd (true≢false (sym is_there ∙ let_go));
+          its_kept = λ at_it dead. absurd (nobody at_it);
+        }) numbered
+      where
+        was_kept : is_kept old.calls s.seq ≡ true
+        was_kept = numbered.ended s.seq (w, s, ready) (none_live old.calls s.seq (none_there e).state)
+
+        let_go : is_kept new.calls s.seq ≡ false
+        let_go = ap (λ (c : HeldCalls). is_kept c s.seq) (stale_calls e) ∙ ap (λ (o : Option KeptNumber). is_some o) (kept_without old.calls.kept s.seq s.seq ∙ ap (λ (b : Bool). cond b None (kept_in old.calls.kept s.seq)) (eq-eqb s.seq s.seq refl))
+
+        nobody : IsReadyWith new s.seq → ⊥
+        nobody it = elim (cases_eq it.0 w) [
+          | inl same ↦ not_idle it.1 (same_Some Idle (Ready s.seq it.1) (sym (turn_same old new w s.seq (Ready s.seq s) Idle ready ready_only (idle_no_drawing s.seq) put it.0 same) ∙ it.2))
+          | inr other ↦ (
+              let before : turn_of_worker old it.0 ≡ Some (Ready s.seq it.1) = sym (turn_other old new w s.seq (Ready s.seq s) Idle ready ready_only (idle_no_drawing s.seq) put it.0 other) ∙ it.2 in
+              let there : IsTurn messages alive (turns it.0) (Ready s.seq it.1) = agrees.workers it.0 (Ready s.seq it.1) before in
+              other (agrees.apart it.0 w s.seq there.0 at.0)
+              )
+        ] where
+          not_idle : (t : Snapshot) → Idle ≡ Ready s.seq t → ⊥
+          not_idle t same = cc
+
+    -- a drawing that isn't live isn't in use any more
+    numbers_by_life : (b : Bool) → alive s.seq ≡ b → AreNumbered old → CarriesNumbers (without_replaced (is_live_number old.calls) s.seq) old.calls new.calls
+    numbers_by_life true e numbered numbers has =
+        subst (HasNumbers (without_replaced (is_live_number old.calls) s.seq numbers)) (sym (calls e))
+        (numbers_moved old.calls numbered.calls s.seq (Answered v) (without_replaced (is_live_number old.calls) s.seq numbers) (numbers_still old.calls s.seq (is_live_number old.calls) (live_calls e) numbers has))
+    numbers_by_life false e numbered numbers has =
+        subst (HasNumbers (without_replaced (is_live_number old.calls) s.seq numbers)) (sym (stale_calls e))
+        (numbers_let_go old.calls numbered.calls s.seq (numbered.ended s.seq (w, s, ready) (none_live old.calls s.seq (none_there e).state)) (is_live_number old.calls) (none_live old.calls s.seq (none_there e).state) numbers has)
+
     workers_by : (b : Bool) → alive s.seq ≡ b → new.calls.workers ≡ old.calls.workers
     workers_by true e = ap (λ (c : HeldCalls). c.workers) (calls e)
     workers_by false e = ap (λ (c : HeldCalls). c.workers) (stale_calls e)
@@ -223,6 +289,12 @@ module _ (old new : UnderWay) (w : ℕ) (s : Snapshot) (v : Verdict) (delivered 
         agrees = answered_agrees whole.messages whole.turns whole.alive whole.posted whole.agrees;
       }
 
+  pub answered_numbered : AreValidWorkers old → AreNumbered old → AreNumbered new
+  answered_numbered whole = numbered_by_life whole.messages whole.turns whole.alive whole.posted whole.agrees (whole.alive s.seq) refl
+
+  pub answered_numbers : AreValidWorkers old → AreNumbered old → CarriesNumbers (without_replaced (is_live_number old.calls) s.seq) old.calls new.calls
+  answered_numbers whole = numbers_by_life whole.messages whole.turns whole.alive whole.posted whole.agrees (whole.alive s.seq) refl
+
   pub answered_workers : AreValidWorkers old → new.calls.workers ≡ old.calls.workers
   answered_workers whole = workers_by whole.messages whole.turns whole.alive whole.posted whole.agrees (whole.alive s.seq) refl
 
@@ -230,6 +302,7 @@ module _ (old new : UnderWay) (w : ℕ) (s : Snapshot) (v : Verdict) (delivered 
   pub answered_kept : (i : Input) (st : State) (alive : ℕ → Bool) → RepresentsMessages i st alive old → v ≡ judging.verdict (read_filters i.policies s.policy s.rule) s → RepresentsMessagesAfter i st (entry.Answered w s v (alive s.seq)) alive new
   answered_kept i st alive kept is_verdict = record {
     workers = workers_by st.messages st.turns alive st.posted kept.agrees (alive s.seq) refl ∙ kept.workers;
+    numbered = numbered_by_life st.messages st.turns alive st.posted kept.agrees (alive s.seq) refl kept.numbered;
     agrees = answered_agrees st.messages st.turns alive st.posted kept.agrees;
     verdicts = verdicts_kept i st.messages (all_worked (entry.Answered w s v (alive s.seq)) st.messages) old.calls new.calls s.seq (λ q ne. answered_other (alive s.seq) q (st.messages q) ne)
         (states_by st.messages st.turns alive st.posted kept.agrees (alive s.seq) refl) (verdict_by st.messages st.turns alive st.posted kept.agrees i is_verdict (alive s.seq) refl) kept.verdicts;

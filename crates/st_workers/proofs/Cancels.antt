@@ -1,5 +1,5 @@
 -- The messages and workers agree with the law's machine after a number has ended.
-use Rattle.std.proofs.Common.{◌≡◌, ◌≢◌, ℕ, ◌==◌, ◌||◌, Bool, true, false, cond, length, Option, Some, None, ◌⊎◌, inl, inr, refl, ap, sym, ◌∙◌, subst, arith}
+use Rattle.std.proofs.Common.{◌≡◌, ◌≢◌, ◌↔◌, ℕ, ◌==◌, ◌||◌, Bool, true, false, cond, length, Option, Some, None, ◌⊎◌, inl, inr, refl, ap, sym, ◌∙◌, subst, arith}
 use Rattle.std.specs.Prelude.{if◌then◌else◌, is_some}
 use Rattle.std.specs.Option.{option_map}
 use Rattle.std.proofs.lemmas.Bool.{cases_eq, eq-eqb, ne_eqb, true≢false}
@@ -11,14 +11,18 @@ use Rattle.st_messages.specs.declared.message.MsgState.TheVariants.{Waiting, Cla
 use Rattle.st_messages.specs.Messages.{calls_after_cancel, is_live_number, message_of_number, message_state, thread_of_number, ChangesState, HeldCalls}
 use Rattle.st_messages.proofs.Whole.{threads_cancelled}
 use Rattle.st_law.specs.declared.input.Input.{Input}
+use Rattle.st_law.specs.Numbers.{without_replaced}
 use Rattle.st_law.specs.State.{is_ready, progress_of_message, Message}
 use Rattle.st_workers.specs.Refinement.{at_work, AgreesWithMachine, RepresentsMachineMessages, ChangesLife, IsDead, IsLive, IsState, IsTurn, AreValidWorkers}
-use Rattle.st_workers.specs.Leaving.{is_claimed_by, left, HasLeft}
-use Rattle.st_workers.specs.UnderWay.{found_in, Found, UnderWay}
+use Rattle.st_workers.specs.Leaving.{is_claimed_by, is_claimer_ready, is_ready_turn, left, HasLeft}
+use Rattle.st_workers.specs.Numbers.{AreNumbered, AreReady, CarriesNumbers, HasNumbers, IsReadyWith}
+use Rattle.st_workers.specs.UnderWay.{found_in, turn_of_worker, Found, UnderWay}
 use Rattle.st_workers.specs.declared.turn.Turn.{Turn}
 use Rattle.st_workers.specs.declared.turn.Turn.TheVariants.{Idle, Ready, Working}
+use Rattle.st_workers.proofs.Carried.{numbers_cancelled}
 use Rattle.st_workers.proofs.Changed.{changed, Moves, Stays}
 use Rattle.st_workers.proofs.Claims.{idle_at_none, live_by_state}
+use Rattle.st_workers.proofs.Numbered.{cancelled_numbered, ready_left}
 use Rattle.st_workers.proofs.Steps.{turned_state, verdicts_kept}
 
 -- a number that was live has ended, its worker has left it, and each other is unchanged
@@ -121,14 +125,49 @@ live_message calls q is = by (message_of_number calls q) is where
   by None is = absurd (true≢false (sym is))
   by (Some m) is = (m, refl)
 
+-- two tests of the same are the same
+pub same_answer : (a b : Bool) (P : Type 0) → (a ≡ true) ↔ P → (b ≡ true) ↔ P → a ≡ b
+same_answer true true P a_is b_is = refl
+same_answer false false P a_is b_is = refl
+same_answer true false P a_is b_is = sym (b_is.1 (a_is.0 refl))
+same_answer false true P a_is b_is = a_is.1 (b_is.0 refl)
+
 -- a number that is live here is live in the law's machine
 pub live_there : (messages : ℕ → Message) (turns : ℕ → Option ℕ) (alive : ℕ → Bool) (posted : ℕ) (kept : UnderWay) → AgreesWithMachine messages turns alive posted (found_in kept) → (q : ℕ) → is_live_number kept.calls q ≡ true → alive q ≡ true
 live_there messages turns alive posted kept agrees q is =
     let m = live_message kept.calls q is in
     live_by_state messages turns alive posted (found_in kept) agrees q m.0.state (ap (option_map (λ (x : message.Message). x.state)) m.1) (alive q) refl
 
-module _ (old new : UnderWay) (p : ℕ) (here : is_live_number old.calls p ≡ true) (calls : new.calls ≡ calls_after_cancel old.calls p) (states : ChangesState old.calls p None new.calls) (slots : ChangesSlot old.slots p None new.slots)
-    (turns_left : HasLeft old.turns (message_state old.calls p) new.turns) (count : length new.turns ≡ length old.turns) where
+module _ (messages : ℕ → Message) (turns : ℕ → Option ℕ) (alive : ℕ → Bool) (posted : ℕ) (kept : UnderWay) (agrees : AgreesWithMachine messages turns alive posted (found_in kept)) (p : ℕ) (live : alive p ≡ true) where
+  -- the worker that claimed a message is ready with it, or goes on
+  ready_turn : (w : ℕ) (o : Option Turn) → turn_of_worker kept w ≡ o → turns w ≡ Some p → is_ready_turn o ≡ true → IsReadyWith kept p
+  ready_turn w None o_is turned ready = absurd (true≢false (sym ready))
+  ready_turn w (Some Idle) o_is turned ready = absurd (true≢false (sym ready))
+  ready_turn w (Some (Working q)) o_is turned ready = absurd (true≢false (sym ready))
+  ready_turn w (Some (Ready q s)) o_is turned ready =
+      let at : IsTurn messages alive (turns w) (Ready q s) = agrees.workers w (Ready q s) o_is in
+      (w, s, o_is ∙ ap (λ (n : ℕ). Some (Ready n s)) (same_Some q p (sym at.0 ∙ turned)))
+
+  claimer_is : (state : MsgState) → IsState turns p (messages p) state → is_claimer_ready kept.turns (Some state) ≡ true → IsReadyWith kept p
+  claimer_is Waiting is ready = absurd (true≢false (sym ready))
+  claimer_is (Claimed w) is ready = ready_turn w (turn_of_worker kept w) refl is.1 ready
+  claimer_is (Answered x) is ready = absurd (true≢false (sym ready))
+  claimer_is (Faulted errno) is ready = absurd (true≢false (sym ready))
+
+  claimer_found : IsReadyWith kept p → is_claimer_ready kept.turns (message_state kept.calls p) ≡ true
+  claimer_found it =
+      let at : IsTurn messages alive (turns it.0) (Ready p it.1) = agrees.workers it.0 (Ready p it.1) it.2 in
+      let was : IsLive turns p (messages p) (found_in kept) = agrees.live p live in
+      let claimed = turned_state turns p (messages p) was.state (agrees.turned it.0 p at.0) was.is_state in
+      ap (is_claimer_ready kept.turns) (was.state_is ∙ ap Some (claimed.1 ∙ ap Claimed (agrees.apart claimed.0 it.0 p claimed.2 at.0))) ∙ ap is_ready_turn it.2
+
+  pub claimer_ready : (keeps : Bool) → keeps ≡ is_claimer_ready kept.turns (message_state kept.calls p) → (keeps ≡ true) ↔ IsReadyWith kept p
+  claimer_ready keeps is =
+      let was : IsLive turns p (messages p) (found_in kept) = agrees.live p live in
+      (λ e. claimer_is was.state was.is_state (sym (is ∙ ap (is_claimer_ready kept.turns) was.state_is) ∙ e), λ it. is ∙ claimer_found it)
+
+module _ (old new : UnderWay) (p : ℕ) (keeps : Bool) (here : is_live_number old.calls p ≡ true) (calls : new.calls ≡ calls_after_cancel old.calls p keeps) (states : ChangesState old.calls p None new.calls) (slots : ChangesSlot old.slots p None new.slots)
+    (turns_left : HasLeft old.turns (message_state old.calls p) new.turns) (count : length new.turns ≡ length old.turns) (keeps_is : keeps ≡ is_claimer_ready old.turns (message_state old.calls p)) where
   states_now : (q : ℕ) → q ≢ p → message_state new.calls q ≡ message_state old.calls q
   states_now q ne = states q ∙ ap (λ (b : Bool). cond b None (message_state old.calls q)) (ne_eqb q p ne)
 
@@ -136,7 +175,7 @@ module _ (old new : UnderWay) (p : ℕ) (here : is_live_number old.calls p ≡ t
   state_now = states p ∙ ap (λ (b : Bool). cond b None (message_state old.calls p)) (eq-eqb p p refl)
 
   threads_now : (q : ℕ) → thread_of_number new.calls q ≡ cond (q == p) None (thread_of_number old.calls q)
-  threads_now q = ap (λ (c : HeldCalls). thread_of_number c q) calls ∙ threads_cancelled old.calls p q
+  threads_now q = ap (λ (c : HeldCalls). thread_of_number c q) calls ∙ threads_cancelled old.calls p keeps q
 
   cancelled : IsEnded (found_in old) (found_in new) p
   cancelled = record {
@@ -155,6 +194,28 @@ module _ (old new : UnderWay) (p : ℕ) (here : is_live_number old.calls p ≡ t
   workers_now : new.calls.workers ≡ old.calls.workers
   workers_now = ap (λ (c : HeldCalls). c.workers) calls
 
+  pub cancelled_ready : (q : ℕ) → IsReadyWith new q ↔ IsReadyWith old q
+  cancelled_ready = ready_left old new (message_state old.calls p) turns_left
+
+  module _ (messages : ℕ → Message) (turns : ℕ → Option ℕ) (alive : ℕ → Bool) (posted : ℕ) (agrees : AgreesWithMachine messages turns alive posted (found_in old)) where
+    -- each number that is kept is kept by a ready worker
+    left_numbered : AreNumbered old → AreNumbered new
+    left_numbered =
+        let m = live_message old.calls p here in
+        cancelled_numbered old new p keeps m.0 m.1 calls states_now cancelled_ready (claimer_ready messages turns alive posted old agrees p (live_there messages turns alive posted old agrees p here) keeps keeps_is)
+
+    left_numbers : AreNumbered old → (ready : ℕ → Bool) → AreReady ready old → CarriesNumbers (without_replaced ready p) old.calls new.calls
+    left_numbers numbered ready are numbers has =
+        let m = live_message old.calls p here in
+        let says : keeps ≡ ready p = same_answer keeps (ready p) (IsReadyWith old p) (claimer_ready messages turns alive posted old agrees p (live_there messages turns alive posted old agrees p here) keeps keeps_is) (are p) in
+        subst (HasNumbers (without_replaced ready p numbers)) (sym calls) (numbers_cancelled old.calls numbered.calls p keeps ready says m.0 m.1 numbers has)
+
+  pub cancelled_numbers : AreValidWorkers old → AreNumbered old → (ready : ℕ → Bool) → AreReady ready old → CarriesNumbers (without_replaced ready p) old.calls new.calls
+  cancelled_numbers whole = left_numbers whole.messages whole.turns whole.alive whole.posted whole.agrees
+
+  pub cancelled_stays : AreValidWorkers old → AreNumbered old → AreNumbered new
+  cancelled_stays whole = left_numbered whole.messages whole.turns whole.alive whole.posted whole.agrees
+
   pub cancelled_whole : AreValidWorkers old → AreValidWorkers new
   cancelled_whole whole = record {
     count = count ∙ whole.count ∙ sym workers_now;
@@ -169,6 +230,7 @@ module _ (old new : UnderWay) (p : ℕ) (here : is_live_number old.calls p ≡ t
   pub cancelled_kept : (i : Input) (messages : ℕ → Message) (turns : ℕ → Option ℕ) (alive later : ℕ → Bool) (posted : ℕ) → RepresentsMachineMessages i messages turns alive posted old → ChangesLife alive p false later → RepresentsMachineMessages i messages turns later posted new
   cancelled_kept i messages turns alive later posted kept lives = record {
     workers = workers_now ∙ kept.workers;
+    numbered = left_numbered messages turns alive posted kept.agrees kept.numbered;
     agrees = ended_agrees (found_in old) (found_in new) p cancelled messages turns alive later posted kept.agrees (live_there messages turns alive posted old kept.agrees p here) lives;
     verdicts = verdicts_kept i messages messages old.calls new.calls p (λ q ne. refl) states_now (λ v s is copies. absurd (none-some (Answered v) (sym state_now ∙ is))) kept.verdicts;
   }

@@ -7,17 +7,20 @@ use Rattle.st_lookaside.specs.Slot.{Slot}
 use Rattle.st_lookaside.specs.Slots.{slot_at, ChangesSlot}
 use Rattle.st_messages.specs.declared.message.MsgState.{MsgState}
 use Rattle.st_messages.specs.declared.message.MsgState.TheVariants.{Waiting, Claimed, Answered}
-use Rattle.st_messages.specs.Messages.{HeldCalls, message_state, thread_of_number, with_state}
-use Rattle.st_messages.proofs.Whole.{states_moved, threads_moved, waiting_live}
+use Rattle.st_messages.specs.Messages.{is_kept, AreValidCalls, HasWorker, HeldCalls, message_state, thread_of_number, with_state}
+use Rattle.st_messages.proofs.Whole.{states_moved, threads_moved, waiting_live, whole-moved}
 use Rattle.st_trace.specs.declared.entry.Entry.TheVariants as entry
 use Rattle.st_law.specs.State.{Message, is_ready, progress_of_message}
 use Rattle.st_workers.specs.Filling.{sealed_if_ready, IsTurnFor}
+use Rattle.st_workers.specs.Numbers.{AreNumbered}
 use Rattle.st_workers.specs.Refinement.{at_work, AgreesWithMachine, RepresentsAfterEntry, HasMessageFlags, IsLive, IsSlotOf, IsState, AreValidWorkers}
 use Rattle.st_workers.specs.UnderWay.{Found, UnderWay, found_in, turn_of_worker}
 use Rattle.st_workers.specs.declared.turn.Turn.{Turn}
 use Rattle.st_workers.specs.declared.turn.Turn.TheVariants.{Idle}
 use Rattle.st_workers.proofs.Copies.{sealed_then, slot_number, slot_sealed}
+use Rattle.st_workers.proofs.Ended.{state_live}
 use Rattle.st_workers.proofs.Filled.{changed_to}
+use Rattle.st_workers.proofs.Numbered.{idle_no_drawing, its_drawing, same_life, worked}
 use Rattle.st_workers.proofs.Steps.{all_turned, all_worked, count_kept, message_worked, stepped, turn_is, verdicts_kept, waiting_unturned, IsStep}
 use Rattle.st_workers.proofs.Turns.{number_within}
 
@@ -37,7 +40,8 @@ live_by_state messages turns alive posted found agrees q state is true e = e
 live_by_state messages turns alive posted found agrees q state is false e = absurd (none-some state (sym (agrees.dead q e).state ∙ is))
 
 module _ (old new : UnderWay) (w p : ℕ) (slot : Slot) (t : Turn) (idle : turn_of_worker old w ≡ Some Idle) (waits : message_state old.calls p ≡ Some Waiting) (there : slot_at old.slots p ≡ Some slot)
-    (calls : new.calls ≡ with_state old.calls p (Claimed w)) (slots : ChangesSlot old.slots p (Some (sealed_if_ready slot)) new.slots) (put : new.turns ≡ set old.turns (w - 1) t) (turn : IsTurnFor p slot t) where
+    (calls : new.calls ≡ with_state old.calls p (Claimed w)) (slots : ChangesSlot old.slots p (Some (sealed_if_ready slot)) new.slots) (put : new.turns ≡ set old.turns (w - 1) t) (turn : IsTurnFor p slot t)
+    (its_worker : HasWorker old.calls w) where
   states_now : (q : ℕ) → q ≢ p → message_state new.calls q ≡ message_state old.calls q
   states_now q ne = ap (λ (c : HeldCalls). message_state c q) calls ∙ states_moved old.calls p (Claimed w) (waiting_live old.calls p waits) q ∙ ap (λ (b : Bool). cond b (Some (Claimed w)) (message_state old.calls q)) (ne_eqb q p ne)
 
@@ -110,6 +114,16 @@ module _ (old new : UnderWay) (w p : ℕ) (slot : Slot) (t : Turn) (idle : turn_
   workers_now : new.calls.workers ≡ old.calls.workers
   workers_now = ap (λ (c : HeldCalls). c.workers) calls
 
+  same_worker : (a b : ℕ) → Claimed a ≡ Claimed b → a ≡ b
+  same_worker a b e = cc
+
+  -- each number that is kept is kept by a ready worker
+  pub claimed_numbered : AreNumbered old → AreNumbered new
+  claimed_numbered numbered =
+      worked old new w p Idle t idle (idle_no_drawing p) (its_drawing p slot t turn) put (state_live new.calls p (Claimed w) state_now) (λ q. ap (λ (c : HeldCalls). is_kept c q) calls)
+      (λ q ne. same_life old.calls new.calls q (states_now q ne))
+      (subst AreValidCalls (sym calls) (whole-moved old.calls p (Claimed w) numbered.calls (waiting_live old.calls p waits) (λ v e. subst (HasWorker old.calls) (same_worker w v e) its_worker))) numbered
+
   -- the messages and workers stay whole
   pub claimed_whole : AreValidWorkers old → AreValidWorkers new
   claimed_whole whole = record {
@@ -126,6 +140,7 @@ module _ (old new : UnderWay) (w p : ℕ) (slot : Slot) (t : Turn) (idle : turn_
   pub claimed_follows : RepresentsAfterEntry old (entry.Claimed w p) new
   claimed_follows i st alive kept = record {
     workers = workers_now ∙ kept.workers;
+    numbered = claimed_numbered kept.numbered;
     agrees = claimed_agrees st.messages st.turns alive st.posted kept.agrees;
     verdicts = verdicts_kept i st.messages (all_worked (entry.Claimed w p) st.messages) old.calls new.calls p (λ q ne. claimed_other q (st.messages q) ne) states_now
         (λ v s is copies. absurd (not_answer w v (same_Some (Claimed w) (Answered v) (sym state_now ∙ is)))) kept.verdicts;

@@ -56,7 +56,7 @@ module _ (closed : ℕ → Bool) (messages : ℕ → Message) (turns : ℕ → O
   }
 
   kept_closed : (i : Input) (kept : UnderWay) → RepresentsMachineMessages i messages turns alive posted kept → RepresentsMachineMessages i (λ q. with_closed (closed q) (messages q)) turns alive posted kept
-  kept_closed i kept are = record { workers = are.workers; agrees = agrees_closed (found_in kept) are.agrees; verdicts = are.verdicts }
+  kept_closed i kept are = record { workers = are.workers; numbered = are.numbered; agrees = agrees_closed (found_in kept) are.agrees; verdicts = are.verdicts }
 
 pub closing_is_not_kept : ClosingIsNotKept
 closing_is_not_kept i messages after turns alive posted kept are same =

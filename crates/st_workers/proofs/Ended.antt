@@ -1,5 +1,5 @@
 -- The messages and workers agree with the law's machine after a worker has marked a message as faulted, or has answered.
-use Rattle.std.proofs.Common.{◌≡◌, ◌≢◌, ◌-◌, ℕ, ◌==◌, Bool, true, false, cond, List, set, Option, Some, None, refl, ap, sym, ◌∙◌}
+use Rattle.std.proofs.Common.{◌≡◌, ◌≢◌, ◌-◌, ℕ, ◌==◌, Bool, true, false, cond, List, set, Option, Some, None, refl, ap, sym, ◌∙◌, subst}
 use Rattle.std.specs.Prelude.{is_some}
 use Rattle.std.specs.Option.{option_map}
 use Rattle.std.proofs.lemmas.Bool.{eq-eqb, ne_eqb, true≢false}
@@ -11,15 +11,17 @@ use Rattle.st_lookaside.specs.Slots.{slot_at}
 use Rattle.st_messages.specs.declared.message.Message as message
 use Rattle.st_messages.specs.declared.message.MsgState.{MsgState}
 use Rattle.st_messages.specs.declared.message.MsgState.TheVariants.{Claimed, Answered, Faulted}
-use Rattle.st_messages.specs.Messages.{is_live_number, message_of_number, message_state, thread_of_number, with_state, HeldCalls}
-use Rattle.st_messages.proofs.Whole.{states_moved, threads_moved}
+use Rattle.st_messages.specs.Messages.{is_kept, is_live_number, message_of_number, message_state, thread_of_number, with_state, AreValidCalls, HasWorker, HeldCalls}
+use Rattle.st_messages.proofs.Whole.{states_moved, threads_moved, whole-moved}
 use Rattle.st_trace.specs.declared.entry.Entry.TheVariants as entry
 use Rattle.st_law.specs.Messages.{unless_same}
 use Rattle.st_law.specs.State.{Message, State}
 use Rattle.st_law.specs.declared.input.Input.{Input}
+use Rattle.st_workers.specs.Numbers.{AreNumbered}
 use Rattle.st_workers.specs.Refinement.{at_work, AgreesWithMachine, RepresentsAfterEntry, HasMessageFlags, RepresentsMessages, IsLive, IsTurn, AreValidWorkers}
 use Rattle.st_workers.specs.UnderWay.{found_in, turn_of_worker, Found, UnderWay}
 use Rattle.st_workers.specs.declared.turn.Turn.TheVariants.{Idle, Working}
+use Rattle.st_workers.proofs.Numbered.{idle_no_drawing, same_life, worked, working_no_drawing}
 use Rattle.st_workers.proofs.Steps.{all_turned, all_worked, count_kept, message_worked, stepped, turned_state, verdicts_kept, IsStep}
 use Rattle.st_workers.proofs.Turns.{number_within}
 
@@ -40,7 +42,7 @@ dead_not_live calls q is live = by (message_of_number calls q) is live where
   by (Some m) is live = none-some m.state (sym is)
 
 -- a number without a state isn't live
-none_live : (calls : HeldCalls) (q : ℕ) → message_state calls q ≡ None → is_live_number calls q ≡ false
+pub none_live : (calls : HeldCalls) (q : ℕ) → message_state calls q ≡ None → is_live_number calls q ≡ false
 none_live calls q is = by (message_of_number calls q) is where
   by : (o : Option message.Message) → option_map (λ (m : message.Message). m.state) o ≡ None → is_some o ≡ false
   by None is = refl
@@ -144,6 +146,16 @@ module _ (old new : UnderWay) (w p : ℕ) (errno : Errno) (working : turn_of_wor
   fault_workers : new.calls.workers ≡ old.calls.workers
   fault_workers = ap (λ (c : HeldCalls). c.workers) calls
 
+  -- each number that is kept is kept by a ready worker
+  pub fault_numbered : AreNumbered old → AreNumbered new
+  fault_numbered numbered =
+      worked old new w p (Working p) Idle working (working_no_drawing p p) (idle_no_drawing p) put (state_live new.calls p (Faulted errno) fault_state) (λ q. ap (λ (c : HeldCalls). is_kept c q) calls)
+      (λ q ne. same_life old.calls new.calls q (fault_states q ne))
+      (subst AreValidCalls (sym calls) (whole-moved old.calls p (Faulted errno) numbered.calls fault_live (λ v e. not_claim v e))) numbered
+    where
+      not_claim : (v : ℕ) → Faulted errno ≡ Claimed v → HasWorker old.calls v
+      not_claim v e = cc
+
   pub fault_whole : AreValidWorkers old → AreValidWorkers new
   fault_whole whole = record {
     count = count_kept whole.messages (all_worked (entry.Faulted p errno) whole.messages) whole.turns (all_turned (entry.Faulted p errno) whole.turns) whole.alive whole.posted old new w p Idle
@@ -161,6 +173,7 @@ module _ (old new : UnderWay) (w p : ℕ) (errno : Errno) (working : turn_of_wor
   pub fault_follows : RepresentsAfterEntry old (entry.Faulted p errno) new
   fault_follows i st alive kept = record {
     workers = fault_workers ∙ kept.workers;
+    numbered = fault_numbered kept.numbered;
     agrees = fault_agrees st.messages st.turns alive st.posted kept.agrees;
     verdicts = verdicts_kept i st.messages (all_worked (entry.Faulted p errno) st.messages) old.calls new.calls p (λ q ne. fault_other q (st.messages q) ne) fault_states
         (λ v s is copies. absurd (fault_no_answer v (same_Some (Faulted errno) (Answered v) (sym fault_state ∙ is)))) kept.verdicts;

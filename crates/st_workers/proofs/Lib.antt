@@ -1,13 +1,17 @@
 mod Answered
 mod Begun
 mod Cancels
+mod Carried
 mod Changed
 mod Claims
 pub mod Closing
 mod Copies
+mod Counts
 pub mod Ended
+mod Few
 mod Filled
 mod Lookups
+mod Numbered
 mod Posts
 mod Renewals
 mod Same

@@ -1,5 +1,5 @@
 -- The messages and workers agree with the law's machine after a number is renewed: it has ended, and its call is posted again.
-use Rattle.std.proofs.Common.{◌≡◌, ◌≢◌, ℕ, suc, ◌==◌, Bool, true, false, cond, length, IfSome, Option, Some, None, inl, inr, refl, ap, sym, ◌∙◌, subst}
+use Rattle.std.proofs.Common.{◌≡◌, ◌≢◌, ◌↔◌, ◌≤◌, ℕ, suc, ◌==◌, Bool, true, false, cond, length, IfSome, Option, Some, None, inl, inr, refl, ap, sym, ◌∙◌, subst}
 use Rattle.std.specs.Prelude.{if◌then◌else◌}
 use Rattle.std.specs.Option.{option_map}
 use Rattle.std.proofs.lemmas.Bool.{cases_eq, eq-eqb, ne_eqb}
@@ -11,18 +11,23 @@ use Rattle.st_lookaside.specs.Slots.{slot_at, RenewsSlot}
 use Rattle.st_lookaside.specs.declared.head.Head as kept
 use Rattle.st_messages.specs.declared.message.Message as message
 use Rattle.st_messages.specs.declared.message.MsgState.TheVariants.{Waiting, Answered}
-use Rattle.st_messages.specs.Messages.{calls_after_cancel, calls_after_post, calls_after_renew, calls_after_renew_of, is_live_number, message_of_number, message_state, thread_of_number, HeldCalls, RenewsState}
-use Rattle.st_messages.proofs.Whole.{threads_cancelled}
+use Rattle.st_messages.specs.Messages.{calls_after_cancel, calls_after_post_as, calls_after_renew, calls_after_renew_of, count_in_use, is_live_number, message_of_number, message_state, most_in_use, next_seq, thread_of_number, AreValidCalls, HeldCalls, RenewsState}
+use Rattle.st_messages.proofs.Whole.{states_cancelled, threads_cancelled, whole-renewed}
 use Rattle.st_model.specs.Process.{Process}
 use Rattle.st_names.specs.Name.{Components}
 use Rattle.st_law.specs.declared.input.Input.{Input}
 use Rattle.st_law.specs.Messages.{renewed_head, Head}
+use Rattle.st_law.specs.Numbers.{drawn_as, largest_number, without_replaced}
 use Rattle.st_law.specs.State.{snapshot_of_message, Message}
 use Rattle.st_workers.specs.Refinement.{head_of, messages_renewed, AgreesWithMachine, RepresentsMachineMessages, IsLive, AreValidWorkers, RenewsLife}
-use Rattle.st_workers.specs.Leaving.{HasLeft}
+use Rattle.st_workers.specs.Leaving.{is_claimer_ready, HasLeft}
+use Rattle.st_workers.specs.Numbers.{AreFew, AreNumbered, AreReady, CarriesNumbers, HasNumbers, IsReadyWith}
 use Rattle.st_workers.specs.UnderWay.{found_in, Found, UnderWay}
-use Rattle.st_workers.proofs.Cancels.{ended_agrees, live_message, live_there, without_live, IsEnded}
+use Rattle.st_workers.proofs.Cancels.{claimer_ready, ended_agrees, live_message, live_there, same_answer, without_live, IsEnded}
+use Rattle.st_workers.proofs.Carried.{numbers_renewed}
+use Rattle.st_workers.proofs.Few.{few_renewed}
 use Rattle.st_workers.proofs.Filled.{known}
+use Rattle.st_workers.proofs.Numbered.{cancelled_numbered, posted_numbered, ready_left}
 use Rattle.st_workers.proofs.Posts.{head_other, not_answer, posted_agrees, thread_other, with_head, with_live, IsPosted}
 
 -- what is found after a number has ended, with these turns
@@ -35,24 +40,24 @@ found_without old p new = record {
   turn = new.turn;
 }
 
-renewed_calls : (calls : HeldCalls) (p : ℕ) (m : message.Message) → message_of_number calls p ≡ Some m → calls_after_renew calls p ≡ calls_after_post (calls_after_cancel calls p) m.tid
-renewed_calls calls p m is = ap (calls_after_renew_of calls p) is
+renewed_calls : (calls : HeldCalls) (p : ℕ) (keeps : Bool) (m : message.Message) → message_of_number calls p ≡ Some m → calls_after_renew calls p keeps ≡ calls_after_post_as (calls_after_cancel calls p keeps) m.tid (next_seq calls)
+renewed_calls calls p keeps m is = ap (calls_after_renew_of calls p keeps) is
 
 -- a head under another number, with these ids and this directory
 abbrev pub fresh_head : kept.Head → ℕ → Ids → Components → kept.Head
 fresh_head head drawing ids cwd = record head { drawing = drawing; ids = ids; cwd = cwd }
 
-module _ (old new : UnderWay) (p : ℕ) (ids : Ids) (cwd : Components) (here : is_live_number old.calls p ≡ true) (calls : new.calls ≡ calls_after_renew old.calls p) (thread : thread_of_number new.calls old.calls.next ≡ thread_of_number old.calls p)
+module _ (old new : UnderWay) (p : ℕ) (keeps : Bool) (ids : Ids) (cwd : Components) (here : is_live_number old.calls p ≡ true) (calls : new.calls ≡ calls_after_renew old.calls p keeps) (thread : thread_of_number new.calls old.calls.next ≡ thread_of_number old.calls p)
     (states : RenewsState old.calls p old.calls.next new.calls) (slots : IfSome (slot_at old.slots p) (λ slot. RenewsSlot old.slots p old.calls.next (renewed slot old.calls.next ids cwd) new.slots))
-    (turns_left : HasLeft old.turns (message_state old.calls p) new.turns) (count : length new.turns ≡ length old.turns) where
+    (turns_left : HasLeft old.turns (message_state old.calls p) new.turns) (count : length new.turns ≡ length old.turns) (keeps_is : keeps ≡ is_claimer_ready old.turns (message_state old.calls p)) (few : count_in_use old.calls ≤ most_in_use) where
   message_there : (m : message.Message) × (message_of_number old.calls p ≡ Some m)
   message_there = live_message old.calls p here
 
-  calls_are : new.calls ≡ calls_after_post (calls_after_cancel old.calls p) message_there.0.tid
-  calls_are = calls ∙ renewed_calls old.calls p message_there.0 message_there.1
+  calls_are : new.calls ≡ calls_after_post_as (calls_after_cancel old.calls p keeps) message_there.0.tid (next_seq old.calls)
+  calls_are = calls ∙ renewed_calls old.calls p keeps message_there.0 message_there.1
 
   threads_now : (q : ℕ) → q ≢ old.calls.next → thread_of_number new.calls q ≡ cond (q == p) None (thread_of_number old.calls q)
-  threads_now q ne = ap (λ (c : HeldCalls). thread_of_number c q) calls_are ∙ thread_other (calls_after_cancel old.calls p) message_there.0.tid q ne ∙ threads_cancelled old.calls p q
+  threads_now q ne = ap (λ (c : HeldCalls). thread_of_number c q) calls_are ∙ thread_other (calls_after_cancel old.calls p keeps) message_there.0.tid (next_seq old.calls) q ne ∙ threads_cancelled old.calls p keeps q
 
   states_now : (q : ℕ) → q ≢ old.calls.next → message_state new.calls q ≡ cond (q == p) None (message_state old.calls q)
   states_now q ne = states q ∙ ap (λ (b : Bool). cond b (Some Waiting) (cond (q == p) None (message_state old.calls q))) (ne_eqb q old.calls.next ne)
@@ -75,6 +80,41 @@ module _ (old new : UnderWay) (p : ℕ) (ids : Ids) (cwd : Components) (here : i
         slots = λ q ne. ap (λ (b : Bool). cond b None (slot_at old.slots q)) (ne_eqb q p ne);
         turn = turns_left;
       }
+
+  pub renewed_ready : (q : ℕ) → IsReadyWith new q ↔ IsReadyWith old q
+  renewed_ready = ready_left old new (message_state old.calls p) turns_left
+
+  -- what is under way when the old drawing has ended, before the call is posted again
+  abbrev between : UnderWay
+  between = record { calls = calls_after_cancel old.calls p keeps; slots = old.slots; turns = new.turns }
+
+  between_states : (q : ℕ) → q ≢ p → message_state between.calls q ≡ message_state old.calls q
+  between_states q ne = states_cancelled old.calls p keeps q ∙ ap (λ (b : Bool). cond b None (message_state old.calls q)) (ne_eqb q p ne)
+
+  module _ (messages : ℕ → Message) (turns : ℕ → Option ℕ) (alive : ℕ → Bool) (posted : ℕ) (agrees : AgreesWithMachine messages turns alive posted (found_in old)) where
+    keeps_iff : (keeps ≡ true) ↔ IsReadyWith old p
+    keeps_iff = claimer_ready messages turns alive posted old agrees p (live_there messages turns alive posted old agrees p here) keeps keeps_is
+
+    -- each number that is kept is kept by a ready worker
+    again_numbered : AreNumbered old → AreNumbered new
+    again_numbered numbered =
+        posted_numbered between new message_there.0.tid (next_seq old.calls) calls_are refl (subst AreValidCalls (sym calls) (whole-renewed old.calls p keeps numbered.calls few message_there.0 message_there.1))
+        (cancelled_numbered old between p keeps message_there.0 message_there.1 refl between_states renewed_ready keeps_iff numbered)
+
+    again_numbers : AreNumbered old → (ready : ℕ → Bool) → AreReady ready old → CarriesNumbers (λ numbers. without_replaced ready p (drawn_as largest_number old.calls.next numbers)) old.calls new.calls
+    again_numbers numbered ready are numbers has =
+        subst (HasNumbers (without_replaced ready p (drawn_as largest_number old.calls.next numbers))) (sym calls)
+        (numbers_renewed old.calls numbered.calls p keeps ready (same_answer keeps (ready p) (IsReadyWith old p) keeps_iff (are p)) message_there.0 message_there.1 numbers has few)
+
+  pub renewed_stays : AreValidWorkers old → AreNumbered old → AreNumbered new
+  renewed_stays whole = again_numbered whole.messages whole.turns whole.alive whole.posted whole.agrees
+
+  pub renewed_numbers : AreValidWorkers old → AreNumbered old → (ready : ℕ → Bool) → AreReady ready old → CarriesNumbers (λ numbers. without_replaced ready p (drawn_as largest_number old.calls.next numbers)) old.calls new.calls
+  renewed_numbers whole = again_numbers whole.messages whole.turns whole.alive whole.posted whole.agrees
+
+  -- there are no more threads with calls than before
+  pub renewed_few : AreFew old.calls → AreFew new.calls
+  renewed_few = few_renewed old.calls new.calls p (ap (λ (c : HeldCalls). c.workers) calls_are) threads_now thread
 
   module _ (messages : ℕ → Message) (turns : ℕ → Option ℕ) (alive : ℕ → Bool) (posted : ℕ) (agrees : AgreesWithMachine messages turns alive posted (found_in old)) where
     live : alive p ≡ true
@@ -146,6 +186,7 @@ module _ (old new : UnderWay) (p : ℕ) (ids : Ids) (cwd : Components) (here : i
       subst (λ (n : ℕ). RepresentsMachineMessages i (messages_renewed process p n messages) turns later (suc posted) new) kept.agrees.next
       (subst (λ (all : ℕ → Message). RepresentsMachineMessages i all turns later (suc posted) new) (messages_are messages turns alive posted kept.agrees process ids_is cwd_is) (record {
         workers = workers_now ∙ kept.workers;
+        numbered = again_numbered messages turns alive posted kept.agrees kept.numbered;
         agrees = renewed_agrees messages turns alive posted kept.agrees later lives_next;
         verdicts = λ q v s is copies. elim (cases_eq q old.calls.next) [
           | inl e ↦ absurd (not_answer v (same_Some Waiting (Answered v) (sym (ap (message_state new.calls) e ∙ state_now) ∙ is)))

@@ -11,6 +11,7 @@ use Rattle.st_workers.specs.UnderWay.{UnderWay, found_in}
 use Rattle.st_workers.specs.declared.turn.Turn.{Turn}
 use Rattle.st_workers.proofs.Changed.{unchanged, IsSame}
 use Rattle.st_workers.proofs.Filled.{last_change}
+use Rattle.st_workers.proofs.Numbered.{same_numbered}
 
 module _ (old new : UnderWay) (calls : new.calls ≡ old.calls) (slots : AreSame old.slots new.slots) (turns_same : new.turns ≡ old.turns) where
   is_same : IsSame (found_in old) (found_in new)
@@ -25,6 +26,7 @@ module _ (old new : UnderWay) (calls : new.calls ≡ old.calls) (slots : AreSame
   pub stands_by : SameWorkersState old new
   stands_by i messages turns alive posted is = record {
     workers = ap (λ (c : HeldCalls). c.workers) calls ∙ is.workers;
+    numbered = same_numbered old new calls turns_same is.numbered;
     agrees = unchanged messages turns alive posted (found_in old) (found_in new) is_same is.agrees;
     verdicts = λ q v s answered copies. is.verdicts q v s (sym (ap (λ (c : HeldCalls). message_state c q) calls) ∙ answered) copies;
   }

@@ -9,7 +9,7 @@ use Rattle.st_lookaside.specs.Part.{with_lookup, with_word}
 use Rattle.st_lookaside.specs.Slot.{after_look, after_word, part_at, part_next, slot_progress, with_part, Slot}
 use Rattle.st_lookaside.specs.Slots.{slot_at, ChangesSlot}
 use Rattle.st_messages.specs.declared.message.MsgState.TheVariants.{Answered, Claimed}
-use Rattle.st_messages.specs.Messages.{message_state, thread_of_number, HeldCalls}
+use Rattle.st_messages.specs.Messages.{is_kept, is_live_number, message_state, thread_of_number, AreValidCalls, HeldCalls}
 use Rattle.st_names.specs.Name.{Components}
 use Rattle.st_names.specs.declared.seen.SeenText.{SeenText}
 use Rattle.st_trace.specs.declared.entry.Entry.{Entry}
@@ -18,12 +18,15 @@ use Rattle.st_law.specs.declared.input.Input.{Input}
 use Rattle.st_law.specs.Messages.{turn_after}
 use Rattle.st_law.specs.State.{Message}
 use Rattle.st_workers.specs.Filling.{sealed_if_ready, IsTurnFor}
+use Rattle.st_workers.specs.Numbers.{AreNumbered}
 use Rattle.st_workers.specs.Refinement.{AgreesWithMachine, RepresentsMachineMessages, HasMessageFlags, IsLive, IsSlotOf, IsTurn, AreValidWorkers}
 use Rattle.st_workers.specs.UnderWay.{found_in, turn_of_worker, UnderWay}
 use Rattle.st_workers.specs.declared.turn.Turn.{Turn}
 use Rattle.st_workers.specs.declared.turn.Turn.TheVariants.{Working}
 use Rattle.st_workers.proofs.Copies.{asked_inside, look_kept, sealed_then, slot_number, slot_sealed, word_kept, IsBelow}
+use Rattle.st_workers.proofs.Ended.{state_live}
 use Rattle.st_workers.proofs.Filled.{changed_to}
+use Rattle.st_workers.proofs.Numbered.{its_drawing, worked, working_no_drawing}
 use Rattle.st_workers.proofs.Steps.{all_turned, all_worked, count_kept, message_worked, stepped, turn_is, turned_state, verdicts_kept, IsStep}
 use Rattle.st_workers.proofs.Turns.{number_within}
 
@@ -93,6 +96,12 @@ module _ (e : Entry) (old new : UnderWay) (w p : ℕ) (slot filled : Slot) (t : 
     pub served_agrees : AgreesWithMachine (all_worked e messages) (all_turned e turns) alive posted (found_in new)
     served_agrees = stepped messages (all_worked e messages) turns (all_turned e turns) alive posted old new w p t served_step agrees
 
+    -- each number that is kept is kept by a ready worker
+    pub served_numbered : AreNumbered old → AreNumbered new
+    served_numbered numbered =
+        worked old new w p (Working p) t working (working_no_drawing p p) (its_drawing p filled t turn) put (state_live new.calls p (Claimed claimed.0) state_claimed) (λ q. ap (λ (c : HeldCalls). is_kept c q) calls)
+        (λ q ne. ap (λ (c : HeldCalls). is_live_number c q) calls) (subst AreValidCalls (sym calls) numbered.calls) numbered
+
   pub served_workers : new.calls.workers ≡ old.calls.workers
   served_workers = ap (λ (c : HeldCalls). c.workers) calls
 
@@ -115,6 +124,7 @@ module _ (e : Entry) (old new : UnderWay) (w p : ℕ) (slot filled : Slot) (t : 
   pub served_kept : (i : Input) (messages : ℕ → Message) (turns : ℕ → Option ℕ) (alive : ℕ → Bool) (posted : ℕ) → RepresentsMachineMessages i messages turns alive posted old → RepresentsMachineMessages i (all_worked e messages) (all_turned e turns) alive posted new
   served_kept i messages turns alive posted is = record {
     workers = served_workers ∙ is.workers;
+    numbered = served_numbered messages turns alive posted is.agrees is.numbered;
     agrees = served_agrees messages turns alive posted is.agrees;
     verdicts = verdicts_kept i messages (all_worked e messages) old.calls new.calls p (λ q ne. fills.other q (messages q) ne) (λ q ne. states_now q)
         (λ v s answered copies. absurd (not_answer (claimed messages turns alive posted is.agrees).0 v (same_Some (Claimed (claimed messages turns alive posted is.agrees).0) (Answered v) (sym (state_claimed messages turns alive posted is.agrees) ∙ answered)))) is.verdicts;

@@ -8,6 +8,7 @@ use Rattle.st_names.specs.Name.{Components}
 use Rattle.st_names.specs.declared.seen.SeenText.{SeenText}
 use Rattle.st_trace.specs.declared.entry.Entry.TheVariants as entry
 use Rattle.st_workers.specs.Filling.{sealed_if_ready, IsTurnFor}
+use Rattle.st_workers.specs.Numbers.{AreNumbered}
 use Rattle.st_workers.specs.Refinement.{RepresentsAfterEntry, AreValidWorkers}
 use Rattle.st_workers.specs.Tasks.{task_of, IsCopy, IsLook}
 use Rattle.st_workers.specs.UnderWay.{turn_of_worker, UnderWay}
@@ -15,7 +16,7 @@ use Rattle.st_workers.specs.declared.task.Task.TheVariants as task
 use Rattle.st_workers.specs.declared.turn.Turn.{Turn}
 use Rattle.st_workers.specs.declared.turn.Turn.TheVariants.{Working}
 use Rattle.st_workers.proofs.Filled.{known}
-use Rattle.st_workers.proofs.Served.{fills_look, fills_word, served_kept, served_whole}
+use Rattle.st_workers.proofs.Served.{fills_look, fills_word, served_kept, served_numbered, served_whole, Fills}
 use Rattle.st_workers.proofs.Tasks.{copy_is, look_asked, look_is, word_asked, working_slot}
 use Rattle.st_workers.proofs.Turns.{item_here, number_within, read_is}
 
@@ -47,10 +48,13 @@ module _ (old new : UnderWay) (w drawing : ℕ) (t : Turn) (working : turn_of_wo
     turn_word : IsTurnFor drawing (after_word slot.0 word) t
     turn_word = known (slot_at old.slots drawing) (λ s. IsTurnFor drawing (after_word s word) t) slot.0 slot.1 turn
 
-    pub copied_whole : IsCopy (task_of old w) → AreValidWorkers new
-    copied_whole is =
+    pub copied_whole : IsCopy (task_of old w) → AreNumbered old → AreValidWorkers new × AreNumbered new
+    copied_whole is numbered =
         let asked = word_asked old w drawing slot.0 working slot.1 is in
-        served_whole (entry.Copied drawing asked.0 asked.1 word) old new w drawing slot.0 (after_word slot.0 word) t working slot.1 calls slots_word put turn_word (fills_word drawing asked.0 asked.1 word slot.0 asked.2) whole
+        let fills : Fills (entry.Copied drawing asked.0 asked.1 word) drawing slot.0 (after_word slot.0 word) = fills_word drawing asked.0 asked.1 word slot.0 asked.2 in (
+          served_whole (entry.Copied drawing asked.0 asked.1 word) old new w drawing slot.0 (after_word slot.0 word) t working slot.1 calls slots_word put turn_word fills whole,
+          served_numbered (entry.Copied drawing asked.0 asked.1 word) old new w drawing slot.0 (after_word slot.0 word) t working slot.1 calls slots_word put turn_word fills whole.messages whole.turns whole.alive whole.posted whole.agrees numbered,
+        )
 
     pub copied_follows : (q pid part place : ℕ) → task_of old w ≡ task.Copy q pid part place → RepresentsAfterEntry old (entry.Copied q part place word) new
     copied_follows q pid part place e =
@@ -67,10 +71,13 @@ module _ (old new : UnderWay) (w drawing : ℕ) (t : Turn) (working : turn_of_wo
     turn_look : IsTurnFor drawing (after_look slot.0 seen) t
     turn_look = known (slot_at old.slots drawing) (λ s. IsTurnFor drawing (after_look s seen) t) slot.0 slot.1 turn
 
-    pub looked_whole : IsLook (task_of old w) → AreValidWorkers new
-    looked_whole is =
+    pub looked_whole : IsLook (task_of old w) → AreNumbered old → AreValidWorkers new × AreNumbered new
+    looked_whole is numbered =
         let asked = look_asked old w drawing slot.0 working slot.1 is in
-        served_whole (entry.Looked drawing asked.0 asked.1 seen) old new w drawing slot.0 (after_look slot.0 seen) t working slot.1 calls slots_look put turn_look (fills_look drawing asked.0 asked.1 asked.1 seen slot.0 asked.2) whole
+        let fills : Fills (entry.Looked drawing asked.0 asked.1 seen) drawing slot.0 (after_look slot.0 seen) = fills_look drawing asked.0 asked.1 asked.1 seen slot.0 asked.2 in (
+          served_whole (entry.Looked drawing asked.0 asked.1 seen) old new w drawing slot.0 (after_look slot.0 seen) t working slot.1 calls slots_look put turn_look fills whole,
+          served_numbered (entry.Looked drawing asked.0 asked.1 seen) old new w drawing slot.0 (after_look slot.0 seen) t working slot.1 calls slots_look put turn_look fills whole.messages whole.turns whole.alive whole.posted whole.agrees numbered,
+        )
 
     pub looked_follows : (q part : ℕ) (name : Components) → task_of old w ≡ task.Look q part → RepresentsAfterEntry old (entry.Looked q part name seen) new
     looked_follows q part name e =

@@ -1,5 +1,5 @@
 -- The worker of a message that ends becomes idle, unless it is ready.
-use Rattle.std.specs.Prelude.{◌≡◌, ◌==◌, ℕ, Bool, false, if◌then◌else◌, List, Option, Some, None}
+use Rattle.std.specs.Prelude.{◌≡◌, ◌==◌, ℕ, Bool, true, false, if◌then◌else◌, List, Option, Some, None}
 use Rattle.st_base.specs.Numbered.{item_at_number}
 use Rattle.st_messages.specs.declared.message.MsgState.{MsgState}
 use Rattle.st_messages.specs.declared.message.MsgState.TheVariants.{Waiting, Claimed, Answered, Faulted}
@@ -24,3 +24,18 @@ left (Some (Ready q copies)) = Some (Ready q copies)
 -- the worker of a message has left it, and the turn of each other worker is unchanged
 abbrev pub HasLeft : List Turn → Option MsgState → List Turn → Type 0
 HasLeft old state new = (worker : ℕ) → item_at_number new worker ≡ (if is_claimed_by state worker then left (item_at_number old worker) else item_at_number old worker)
+
+-- whether a worker with this turn is ready
+abbrev pub is_ready_turn : Option Turn → Bool
+is_ready_turn None = false
+is_ready_turn (Some Idle) = false
+is_ready_turn (Some (Working drawing)) = false
+is_ready_turn (Some (Ready q copies)) = true
+
+-- whether the worker that claimed a message of this state is ready
+abbrev pub is_claimer_ready : List Turn → Option MsgState → Bool
+is_claimer_ready turns None = false
+is_claimer_ready turns (Some Waiting) = false
+is_claimer_ready turns (Some (Claimed worker)) = is_ready_turn (item_at_number turns worker)
+is_claimer_ready turns (Some (Answered verdict)) = false
+is_claimer_ready turns (Some (Faulted errno)) = false

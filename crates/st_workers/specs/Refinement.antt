@@ -18,6 +18,7 @@ use Rattle.st_law.specs.Machine.{message_after}
 use Rattle.st_law.specs.Messages.{Head, head_after_change, posted_after, turn_after}
 use Rattle.st_filter.specs.Policies.{read_filters}
 use Rattle.st_law.specs.State.{Message, State, is_live, is_ready, progress_of_message, read_at, snapshot_in, snapshot_of_message}
+use Rattle.st_workers.specs.Numbers.{AreNumbered}
 use Rattle.st_workers.specs.UnderWay.{Found, UnderWay, found_in}
 use Rattle.st_workers.specs.declared.turn.Turn.{Turn}
 use Rattle.st_workers.specs.declared.turn.Turn.TheVariants.{Idle, Working, Ready}
@@ -120,9 +121,11 @@ pub record AgreesWithMachine (messages : ℕ → Message) (turns : ℕ → Optio
   pub apart : (a b q : ℕ) → turns a ≡ Some q → turns b ≡ Some q → a ≡ b
   pub workers : (worker : ℕ) (turn : Turn) → found.turn worker ≡ Some turn → IsTurn messages alive (turns worker) turn
 
--- the same for the workers of an input; each answer is the verdict of the filters that were read
+-- the same for the workers of an input; each answer is the verdict of the filters that were read; ready workers keep the numbers of ended
+-- messages
 pub record RepresentsMachineMessages (i : Input) (messages : ℕ → Message) (turns : ℕ → Option ℕ) (alive : ℕ → Bool) (posted : ℕ) (kept : UnderWay) : Type 0 where
   pub workers : kept.calls.workers ≡ i.options.workers
+  pub numbered : AreNumbered kept
   pub agrees : AgreesWithMachine messages turns alive posted (found_in kept)
   pub verdicts : (q : ℕ) (v : Verdict) (s : Snapshot) → message_state kept.calls q ≡ Some (Answered v) → snapshot_of_message q (messages q) ≡ Some s → v ≡ verdict (read_filters i.policies s.policy s.rule) s
 

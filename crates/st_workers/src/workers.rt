@@ -9,7 +9,8 @@ ghost use Rattle.st_law.specs.State.{State, is_live as is_live_in, read_at, snap
 ghost use Rattle.st_law.specs.declared.input.Input.{Input};
 ghost use Rattle.st_lookaside.specs.Need.{IsShort};
 ghost use Rattle.st_lookaside.specs.Slots.{slot_at};
-ghost use Rattle.st_messages.specs.Messages.{calls_after_cancel, calls_after_post, calls_after_renew, is_live_number, message_state, thread_of_number, with_state, HasNoNumber, HasWorker};
+ghost use Rattle.st_law.specs.Numbers.{drawn_as, largest_number, no_numbers, without_replaced};
+ghost use Rattle.st_messages.specs.Messages.{calls_after_cancel, calls_after_let_go, calls_after_post, calls_after_renew, is_claimed, is_kept, is_live_number, message_state, thread_of_number, with_state, HasNoNumber, HasWorker};
 ghost use Rattle.st_messages.specs.declared.message.Delivered.TheVariants.{Applied, Stale};
 ghost use Rattle.st_messages.specs.declared.message.MsgState.TheVariants.{Answered, Claimed, Faulted};
 ghost use Rattle.st_model.specs.Process.{Process};
@@ -19,7 +20,8 @@ ghost use Rattle.st_names.specs.Seen.{seen_text};
 ghost use Rattle.st_trace.specs.declared.entry.Entry.TheVariants as entry;
 ghost use Rattle.st_trace.specs.declared.entry.Way.TheVariants.{Held};
 ghost use Rattle.st_workers.specs.Refinement.{head_of, messages_renewed, RepresentsMachineMessages, ChangesLife, RepresentsAfterEntry, IsMessageStateOf, HasAnswer, IsHeldBy, RepresentsMessages, RepresentsMessagesAfter, RenewsLife, SameWorkersState};
-ghost use Rattle.st_workers.specs.Leaving.{HasLeft};
+ghost use Rattle.st_workers.specs.Leaving.{is_claimer_ready, HasLeft};
+ghost use Rattle.st_workers.specs.Numbers.{AreFew, AreReady, CarriesNumbers, HasNumbers, IsReadyWith};
 ghost use Rattle.st_workers.specs.Tasks.{task_of, IsBusy, IsCopy, IsFault, IsLook, IsTask, CanServe};
 ghost use Rattle.st_workers.specs.UnderWay.{turn_of_worker};
 ghost use Rattle.st_workers.specs.declared.task.Task.TheVariants.{Answer, Claim, Copy, Fault, Look as LookAt};
@@ -62,9 +64,10 @@ impl Model for Workers {
 
     ghost view = { λ w. record { calls = w.messages; slots = w.slots; turns = w.turns.items } };
 
+    ghost use Rattle.st_workers.specs.Numbers.{AreNumbered};
     ghost use Rattle.st_workers.specs.Refinement.{AreValidWorkers};
 
-    ghost invariant = { λ w. AreValidWorkers (record { calls = w.messages; slots = w.slots; turns = w.turns.items }) };
+    ghost invariant = { λ w. AreValidWorkers (record { calls = w.messages; slots = w.slots; turns = w.turns.items }) × AreNumbered (record { calls = w.messages; slots = w.slots; turns = w.turns.items }) };
 }
 
 // So many idle workers.
@@ -79,22 +82,42 @@ fn idle(alloc: Global, workers: u32) -> Result<Vec<Turn>, AllocError>
     Ok(turns)
 }
 
-// Makes the worker that claimed a message of this state idle, unless it is ready.
-fn leave(turns: &mut [Turn], state: Option<MsgState>)
+// Makes the worker that claimed a message of this state idle, unless it is ready, and returns whether it is.
+fn leave(turns: &mut [Turn], state: Option<MsgState>) -> bool
     requires { (worker : ℕ) → state ≡ Some (Claimed worker) → (1 ≤ worker) × (worker ≤ length turns.old) }
     ensures left { HasLeft turns.old state turns.new }
     ensures count { length turns.new ≡ length turns.old }
+    ensures ready { result ≡ is_claimer_ready turns.old state }
 {
     let Some(state) = state else {
-        return;
+        return false;
     };
     let MsgState::Claimed(worker) = state else {
-        return;
+        return false;
     };
     let turn = &mut turns[worker as usize - 1];
-    if let Turn::Working(_) = turn {
-        put_turn(turn, Turn::Idle);
+    match turn {
+        Turn::Idle => false,
+        Turn::Working(_) => {
+            put_turn(turn, Turn::Idle);
+            false
+        }
+        Turn::Ready(_, _) => true,
     }
+}
+
+// Answers a message. Where it has ended, the number that its worker kept isn't in use any more.
+fn deliver(messages: &mut Messages, drawing: Drawing, verdict: Verdict) -> Delivered
+    requires { is_claimed messages.old drawing ≡ false → is_kept messages.old drawing ≡ true }
+    ensures applied { (result ≡ Applied) ↔ (is_claimed messages.old drawing ≡ true) }
+    ensures ok { result ≡ Applied → messages.new ≡ with_state messages.old drawing (Answered verdict) }
+    ensures stale { result ≡ Stale → messages.new ≡ calls_after_let_go messages.old drawing }
+{
+    let delivered = messages.answer(drawing, verdict);
+    if let Delivered::Stale = delivered {
+        messages.let_go(drawing);
+    }
+    delivered
 }
 
 impl Workers {
@@ -103,10 +126,11 @@ impl Workers {
         ensures workers { IfOk result (λ kept. kept.calls.workers ≡ workers) }
         ensures next { IfOk result (λ kept. kept.calls.next ≡ 1) }
         ensures none { IfOk result (λ kept. kept.calls.live ≡ []) }
+        ensures numbers { IfOk result (λ kept. HasNumbers no_numbers kept.calls) }
         ensures kept { IfOk result (λ kept. (i : Input) → workers ≡ i.options.workers → RepresentsMessages i (first_state i) (is_live_in (first_state i)) kept) }
     {
         Ok(Workers {
-            messages: Messages::new(alloc, workers),
+            messages: Messages::new(alloc, workers)?,
             slots: Slots::new(alloc),
             turns: idle(alloc, workers)?,
         })
@@ -198,10 +222,13 @@ impl Workers {
         requires drawing { head.drawing ≡ self.old.calls.next }
         requires thread { HasNoNumber self.old.calls tid }
         requires room { self.old.calls.next < 2 ^ 64 - 1 }
+        requires few { AreFew self.old.calls }
         requires short { IsShort head.cwd }
         ensures drawing { IfOk result (λ drawing. drawing ≡ self.old.calls.next) }
         ensures workers { self.new.calls.workers ≡ self.old.calls.workers }
         ensures calls { OnOk result (self.new.calls ≡ calls_after_post self.old.calls tid) }
+        ensures numbers { OnOk result (CarriesNumbers (drawn_as largest_number self.old.calls.next) self.old.calls self.new.calls) }
+        ensures unchanged { OnErr result (self.new.calls ≡ self.old.calls) }
         ensures kept { OnOk result ((i : Input) (st : State) (alive later : ℕ → Bool) (call : SysCall) (regs : List ℕ) → RepresentsMessages i st alive self.old → head_of tid head ≡ new_head i tid (st.threads tid).owner (st.processes (st.threads tid).owner) call regs → ChangesLife alive (suc st.posted) true later → RepresentsMessagesAfter i st (entry.Entered tid call regs (Held (suc st.posted))) later self.new) }
         ensures err { OnErr result (SameWorkersState self.old self.new) }
     {
@@ -221,6 +248,7 @@ impl Workers {
         requires { task_of self.old worker ≡ Claim }
         ensures calls { IfOk result (λ drawing. self.new.calls ≡ with_state self.old.calls drawing (Claimed worker)) }
         ensures workers { self.new.calls.workers ≡ self.old.calls.workers }
+        ensures numbers { CarriesNumbers (λ numbers. numbers) self.old.calls self.new.calls }
         ensures law { IfOk result (λ drawing. (i : Input) (st : State) → RepresentsMessages i st (is_live_in st) self.old → worker_entry i st worker ≡ Some (entry.Claimed worker drawing)) }
         ensures kept { IfOk result (λ drawing. RepresentsAfterEntry self.old (entry.Claimed worker drawing) self.new) }
         ensures err { OnErr result (self.new ≡ self.old) }
@@ -285,6 +313,7 @@ impl Workers {
     pub fn fault(&mut self, worker: Worker)
         requires { IsFault (task_of self.old worker) }
         ensures workers { self.new.calls.workers ≡ self.old.calls.workers }
+        ensures numbers { CarriesNumbers (λ numbers. numbers) self.old.calls self.new.calls }
         ensures calls { (drawing : ℕ) (errno : Errno) → task_of self.old worker ≡ Fault drawing errno → self.new.calls ≡ with_state self.old.calls drawing (Faulted errno) }
         ensures kept { (drawing : ℕ) (errno : Errno) → task_of self.old worker ≡ Fault drawing errno → RepresentsAfterEntry self.old (entry.Faulted drawing errno) self.new }
     {
@@ -309,14 +338,15 @@ impl Workers {
         ensures lives { (i : Input) (st : State) (alive : ℕ → Bool) → RepresentsMessages i st alive self.old → is_live_number self.old.calls result.0 ≡ alive result.0 }
         ensures workers { self.new.calls.workers ≡ self.old.calls.workers }
         ensures calls { result.2 ≡ Applied → self.new.calls ≡ with_state self.old.calls result.0 (Answered verdict) }
-        ensures stale { result.2 ≡ Stale → self.new.calls ≡ self.old.calls }
+        ensures stale { result.2 ≡ Stale → self.new.calls ≡ calls_after_let_go self.old.calls result.0 }
+        ensures numbers { CarriesNumbers (without_replaced (is_live_number self.old.calls) result.0) self.old.calls self.new.calls }
         ensures kept { (i : Input) (st : State) (alive : ℕ → Bool) → RepresentsMessages i st alive self.old → verdict ≡ judged (read_at i st result.1.policy result.1.rule) result.1 → RepresentsMessagesAfter i st (entry.Answered worker result.1 verdict (alive result.0)) alive self.new }
     {
         let turn = std::mem::replace(&mut self.turns[worker as usize - 1], Turn::Idle);
         let Turn::Ready(drawing, copies) = turn else {
             unreachable!()
         };
-        let delivered = self.messages.answer(drawing, verdict);
+        let delivered = deliver(&mut self.messages, drawing, verdict);
         (drawing, copies, delivered)
     }
 
@@ -332,11 +362,13 @@ impl Workers {
     /// ready: then it still answers, but too late. It takes no memory.
     pub fn cancel(&mut self, drawing: Drawing)
         requires { is_live_number self.old.calls drawing ≡ true }
-        ensures calls { self.new.calls ≡ calls_after_cancel self.old.calls drawing }
+        ensures calls { (keeps : Bool) × (self.new.calls ≡ calls_after_cancel self.old.calls drawing keeps) }
+        ensures numbers { (ready : ℕ → Bool) → AreReady ready self.old → CarriesNumbers (without_replaced ready drawing) self.old.calls self.new.calls }
+        ensures ready { (q : ℕ) → IsReadyWith self.new q ↔ IsReadyWith self.old q }
         ensures kept { (i : Input) (messages : ℕ → Message) (turns : ℕ → Option ℕ) (alive later : ℕ → Bool) (posted : ℕ) → RepresentsMachineMessages i messages turns alive posted self.old → ChangesLife alive drawing false later → RepresentsMachineMessages i messages turns later posted self.new }
     {
-        leave(&mut self.turns, self.messages.state(drawing));
-        self.messages.cancel(drawing);
+        let keeps = leave(&mut self.turns, self.messages.state(drawing));
+        self.messages.cancel(drawing, keeps);
         self.slots.drop_of(drawing);
     }
 
@@ -345,14 +377,18 @@ impl Workers {
     pub fn renew(&mut self, drawing: Drawing, ids: Ids, cwd: Shared<AbsName>) -> Drawing
         requires live { is_live_number self.old.calls drawing ≡ true }
         requires room { self.old.calls.next < 2 ^ 64 - 1 }
+        requires few { AreFew self.old.calls }
         requires short { IsShort cwd }
         ensures drawing { result ≡ self.old.calls.next }
         ensures workers { self.new.calls.workers ≡ self.old.calls.workers }
-        ensures calls { self.new.calls ≡ calls_after_renew self.old.calls drawing }
+        ensures calls { (keeps : Bool) × (self.new.calls ≡ calls_after_renew self.old.calls drawing keeps) }
+        ensures few { AreFew self.new.calls }
+        ensures numbers { (ready : ℕ → Bool) → AreReady ready self.old → CarriesNumbers (λ numbers. without_replaced ready drawing (drawn_as largest_number self.old.calls.next numbers)) self.old.calls self.new.calls }
+        ensures ready { (q : ℕ) → IsReadyWith self.new q ↔ IsReadyWith self.old q }
         ensures kept { (i : Input) (messages : ℕ → Message) (turns : ℕ → Option ℕ) (alive later : ℕ → Bool) (posted : ℕ) (process : Process) → RepresentsMachineMessages i messages turns alive posted self.old → process.ids ≡ ids → process.cwd ≡ cwd → RenewsLife alive drawing (suc posted) later → RepresentsMachineMessages i (messages_renewed process drawing (suc posted) messages) turns later (suc posted) self.new }
     {
-        leave(&mut self.turns, self.messages.state(drawing));
-        let fresh = self.messages.renew(drawing);
+        let keeps = leave(&mut self.turns, self.messages.state(drawing));
+        let fresh = self.messages.renew(drawing, keeps);
         self.slots.renew(drawing, fresh, ids, cwd);
         fresh
     }

@@ -10,7 +10,7 @@ use Rattle.st_threads.proofs.Renewed.{RenewedSoFar, all_renewed, all_same, next_
 use Rattle.st_threads.proofs.renewing.renew_all.Goals as goal
 
 pub loop-i-init : goal.loop-i-init
-loop-i-init c = none_so_far c.args.system.now.processes c.args.caller.pid c.args.caller.tid c.args.threads.now c.args.workers.now c.args.cwds.items c.requires.calls c.requires.room c.requires.cwds
+loop-i-init c = none_so_far c.args.system.now.processes c.args.caller.pid c.args.caller.tid c.args.threads.now c.args.workers.now c.args.cwds.items c.requires.calls c.requires.room c.requires.in_use c.requires.cwds
 
 inside : (c : goal.After-cwds-1) → c.loop-i.i < length c.loop-i.threads
 inside c = let end = c.loop-i-test.true in let same = c.loop-i.auto.threads in omega (arith, end, same)
@@ -38,6 +38,9 @@ renew_call-requires-clause-short c = all_same IsShort c.loop-i.cwds.items (proce
     (next_same c.args.system.now.processes c.args.caller.pid c.args.caller.tid c.args.threads.now c.args.workers.now c.loop-i.i c.loop-i.threads c.loop-i.workers c.loop-i.cwds.items c.loop-i.invariant
     (row c) (inside c) (here c) c.drawing_renewed-drawing.result c.drawing_renewed-drawing.ensures) c.requires.short
 
+pub renew_call-requires-clause-few : goal.renew_call-requires-clause-few
+renew_call-requires-clause-few c = c.loop-i.invariant.few
+
 -- the thread that is tested is the thread whose call gets a number
 same_row : (rows : List ThreadRow) (i : ℕ) (a b : ThreadRow) → i < length rows → get_or rows i a ≡ get_or rows i b
 same_row rows i a b inside = same_Some (get_or rows i a) (get_or rows i b) (sym (slice_get-get_or rows i a inside) ∙ slice_get-get_or rows i b inside)
@@ -54,7 +57,7 @@ loop-i-preserved c =
     subst (λ (row : ThreadRow). RenewedSoFar c.args.system.now.processes c.args.caller.pid c.args.caller.tid c.args.threads.now c.args.workers.now (c.loop-i.i + 1) (set c.loop-i.threads c.loop-i.i row) c.renew_call.new.workers c.renew_call.new.cwds.items)
     (ap (row_renewed c.loop-i.workers.calls.next c.drawing_renewed-drawing.result) same ∙ sym c.renew_call.ensures.thread)
     (next_renewed c.args.system.now.processes c.args.caller.pid c.args.caller.tid c.args.threads.now c.args.workers.now c.loop-i.i c.loop-i.threads c.loop-i.workers c.loop-i.cwds.items c.loop-i.invariant
-    it within there c.drawing_renewed-drawing.result c.drawing_renewed-drawing.ensures c.renew_call.new.workers (c.renew_call.ensures.kept process (sym c.ids-ids.ensures) copies) c.renew_call.new.cwds.items c.renew_call.ensures.count (c.renew_call.ensures.same process.cwd copies))
+    it within there c.drawing_renewed-drawing.result c.drawing_renewed-drawing.ensures c.renew_call.new.workers (c.renew_call.ensures.kept process (sym c.ids-ids.ensures) copies) c.renew_call.new.cwds.items c.renew_call.ensures.count (c.renew_call.ensures.same process.cwd copies) c.renew_call.ensures.few c.renew_call.ensures.ready c.renew_call.ensures.numbers)
 
 pub returns : goal.returns
 returns c = all_renewed c.args.system.now.processes c.args.caller.pid c.args.caller.tid c.args.threads.now c.args.workers.now c.loop-i.i c.loop-i.threads c.loop-i.workers c.loop-i.cwds.items c.loop-i.invariant

@@ -1,12 +1,11 @@
-use Rattle.std.proofs.Common.{◌≡◌, ◌-◌, ◌==◌, ◌∙◌, ℕ, Bool, cond, get_or, set, List, Option, Some, inl, inr, ap, refl, sym}
+use Rattle.std.proofs.Common.{◌≡◌, ◌-◌, ◌==◌, ◌∙◌, ℕ, Bool, cond, set, List, Option, Some, inl, inr, ap, refl, sym, false}
 use Rattle.std.proofs.lemmas.Bool.{cases_eq, eq-eqb, ne_eqb}
-use Rattle.std.proofs.lemmas.List.{length-set}
 use Rattle.st_base.specs.Numbered.{item_at_number}
 use Rattle.st_messages.specs.declared.message.MsgState.{MsgState}
-use Rattle.st_messages.specs.declared.message.MsgState.TheVariants.{Claimed}
-use Rattle.st_workers.specs.Leaving.{is_claimed_by, left, HasLeft}
+use Rattle.st_messages.specs.declared.message.MsgState.TheVariants.{Claimed, Answered, Faulted, Waiting}
+use Rattle.st_workers.specs.Leaving.{is_claimed_by, left, HasLeft, is_ready_turn, is_claimer_ready}
 use Rattle.st_workers.specs.declared.turn.Turn.{Turn}
-use Rattle.st_workers.specs.declared.turn.Turn.TheVariants.{Idle, Ready, Working}
+use Rattle.st_workers.specs.declared.turn.Turn.TheVariants.{Idle, Working}
 use Rattle.st_workers.proofs.Turns.{item_here, item_put, number_within}
 use Rattle.st_workers.proofs.workers.leave.Goals as goal
 
@@ -26,11 +25,15 @@ module _ (turns : List Turn) (worker : ℕ) (turn put : Turn) (here : item_at_nu
       ap (λ (ts : List Turn). item_at_number ts other) is ∙ item_put turns worker put within.0 within.1 other ∙ at other
       ∙ ap (λ (o : Option MsgState). cond (is_claimed_by o other) (left (item_at_number turns other)) (item_at_number turns other)) (sym claimed)
 
--- a turn that isn't at work stays
-stays : (turn : Turn) → ((drawing : ℕ) → turn ≡ Working drawing → ⊥) → left (Some turn) ≡ Some turn
-stays Idle other = refl
-stays (Working drawing) other = absurd (other drawing refl)
-stays (Ready q copies) other = refl
+  is_ready : (state : Option MsgState) → state ≡ Some (Claimed worker) → is_ready_turn (Some turn) ≡ is_claimer_ready turns state
+  is_ready state claimed = sym (ap (is_claimer_ready turns) claimed ∙ ap is_ready_turn here)
+
+-- a message that isn't claimed has no worker
+none_ready : (turns : List Turn) (state : MsgState) → ((worker : ℕ) → state ≡ Claimed worker → ⊥) → false ≡ is_claimer_ready turns (Some state)
+none_ready turns Waiting other = refl
+none_ready turns (Claimed worker) other = absurd (other worker refl)
+none_ready turns (Answered verdict) other = refl
+none_ready turns (Faulted errno) other = refl
 
 pub returns-in-Working-clause-left : goal.returns-in-Working-clause-left
 returns-in-Working-clause-left c =
@@ -39,13 +42,8 @@ returns-in-Working-clause-left c =
     has_left c.args.turns.now c.in-Claimed.worker (Working c.in-Working.field-0) Idle (item_here c.args.turns.now c.in-Claimed.worker c.index-turns-worker.result within.0 within.1 ∙ ap Some c.in-Working.is) refl
     c.args.state _ claimed (ap (set c.args.turns.now (c.in-Claimed.worker - 1)) c.put_turn.ensures)
 
-pub returns-in_default-turn : goal.returns-in_default-turn
-returns-in_default-turn c =
+pub returns-in-Working-clause-ready : goal.returns-in-Working-clause-ready
+returns-in-Working-clause-ready c =
     let claimed = c.in-Some.is ∙ ap Some c.in-Claimed.is in
     let within = c.requires c.in-Claimed.worker claimed in
-    let turn : Turn = get_or c.args.turns.now (c.in-Claimed.worker - 1) c.index-turns-worker.result in
-    record {
-      left = has_left c.args.turns.now c.in-Claimed.worker turn turn (item_here c.args.turns.now c.in-Claimed.worker c.index-turns-worker.result within.0 within.1) (stays turn c.in_default-turn.not-Working)
-          c.args.state _ claimed refl;
-      count = length-set c.args.turns.now (c.in-Claimed.worker - 1) turn;
-    }
+    is_ready c.args.turns.now c.in-Claimed.worker (Working c.in-Working.field-0) Idle (item_here c.args.turns.now c.in-Claimed.worker c.index-turns-worker.result within.0 within.1 ∙ ap Some c.in-Working.is) refl c.args.state claimed

@@ -18,7 +18,7 @@ use Rattle.st_machine.proofs.After.{with_parts}
 use Rattle.st_machine.proofs.Entered.{held_step, no_number}
 use Rattle.st_machine.proofs.Moving.{row_entering}
 use Rattle.st_decide.proofs.NextSteps.{owner_is}
-use Rattle.st_machine.proofs.Room.{room_left}
+use Rattle.st_machine.proofs.Room.{few_calls, room_left}
 use Rattle.st_machine.proofs.Served.{left_as, on_err, running_stands, running_step, stands_so, with_workers}
 use Rattle.st_machine.proofs.Running.{running_of}
 use Rattle.st_machine.proofs.machine.Machine.enter_held.Goals as goal
@@ -33,6 +33,9 @@ post-requires-clause-thread c =
 
 pub post-requires-clause-room : goal.post-requires-clause-room
 post-requires-clause-room c = room_left (running_of c.self.inside) c.self.invariant.state c.self.invariant.is
+
+pub post-requires-clause-few : goal.post-requires-clause-few
+post-requires-clause-few c = few_calls (running_of c.self.inside) c.self.invariant.state c.self.invariant.is
 
 pub post-requires-clause-drawing : goal.post-requires-clause-drawing
 post-requires-clause-drawing c = (subst (λ (k : Running). IsHeadOf k c.args.new.now c.in_ok-head.head) (c.view.ensures ∙ sym c.self.view_is) c.in_ok-head.ensures).drawing_is

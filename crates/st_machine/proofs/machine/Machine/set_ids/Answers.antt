@@ -23,7 +23,8 @@ use Rattle.st_machine.proofs.CanMake.{can_use}
 use Rattle.st_machine.proofs.MadeSteps.{drawing_there}
 use Rattle.st_machine.proofs.Moving.{row_making}
 use Rattle.st_threads.proofs.RenewedLaw.{count_renewed}
-use Rattle.st_machine.proofs.RenewedSteps.{can_set, copies_set, cwd_set, room_for_all, room_set, setting, there_set}
+use Rattle.st_machine.proofs.Room.{few_calls}
+use Rattle.st_machine.proofs.RenewedSteps.{can_set, copies_set, cwd_set, own_set, room_for_all, room_set, setting, there_set}
 use Rattle.st_machine.proofs.Served.{running_step}
 use Rattle.st_machine.proofs.Running.{running_of}
 use Rattle.st_machine.proofs.machine.Machine.set_ids.Goals as goal
@@ -42,13 +43,6 @@ execute-requires c =
     let asked = can_use m c.args.self.now c.self.view_is c.self.invariant c.args.tid c.args.ready.now c.requires.step c.request_with-request.result
     (c.request_with-request.ensures ∙ ap (λ (k : Running). request_with k c.args.tid c.args.ready.now) (c.view.ensures ∙ sym c.self.view_is)) in
     record { process = asked.process; can = asked.can; no_link = asked.no_link }
-
-pub end_call-requires : goal.end_call-requires
-end_call-requires c =
-    let m : Running = running_of c.self.inside in
-    let can = subst (λ (k : Running). CanStep k c.args.tid (steps.Make c.args.ready.now)) (sym c.self.view_is) c.requires.step in
-    let row = row_making m c.self.invariant c.args.tid c.args.ready.now can.next in
-    drawing_there m c.self.invariant.state c.self.invariant.is c.args.tid c.args.ready.now can row.0 row.1
 
 -- ---- before the other calls are renewed
 
@@ -73,32 +67,46 @@ early_done c = subst (λ (request : Request). IsCallMade c.args.ready.now.call r
     (c.request_with-request.ensures ∙ ap (λ (k : Running). request_with k c.args.tid c.args.ready.now) (c.view.ensures ∙ sym c.self.view_is)) c.in_ok-outcome.ensures.done
 
 pub renew_all-requires-clause-there : goal.renew_all-requires-clause-there
-renew_all-requires-clause-there c = there_set (early_old c) c.args.tid c.args.ready.now (early_can c) (early_row c).0 (early_row c).1 c.requires.sets c.in_ok-outcome.outcome c.execute.new.self (early_done c)
-    c.end_call.new.workers c.end_call.ensures c.args.set c.requires.refused c.requires.set c.self.invariant.state c.self.invariant.is
+renew_all-requires-clause-there c = there_set (early_old c) c.args.tid c.args.ready.now (early_can c) (early_row c).0 (early_row c).1 c.requires.sets c.in_ok-outcome.outcome c.execute.new.self (early_done c) c.args.set c.requires.refused c.requires.set c.self.invariant.state c.self.invariant.is
 
 pub renew_all-requires-clause-calls : goal.renew_all-requires-clause-calls
-renew_all-requires-clause-calls c = subst (λ (rows : List ThreadRow). CanRenew c.end_call.new.workers (numbers_from c.execute.new.self.processes c.args.ready.now.pid c.args.tid 1 rows)) (sym (early_closed c))
-    (can_set (early_old c) c.args.tid c.args.ready.now (early_can c) (early_row c).0 (early_row c).1 c.requires.sets c.in_ok-outcome.outcome c.execute.new.self (early_done c)
-    c.end_call.new.workers c.end_call.ensures c.args.set c.requires.refused c.requires.set c.self.invariant.state c.self.invariant.is)
+renew_all-requires-clause-calls c = subst (λ (rows : List ThreadRow). CanRenew (early_old c).workers (numbers_from c.execute.new.self.processes c.args.ready.now.pid c.args.tid 1 rows)) (sym (early_closed c))
+    (can_set (early_old c) c.args.tid c.args.ready.now (early_can c) (early_row c).0 (early_row c).1 c.requires.sets c.in_ok-outcome.outcome c.execute.new.self (early_done c) c.args.set c.requires.refused c.requires.set c.self.invariant.state c.self.invariant.is)
 
 pub renew_all-requires-clause-room : goal.renew_all-requires-clause-room
-renew_all-requires-clause-room c = subst (λ (rows : List ThreadRow). c.end_call.new.workers.calls.next + length rows < 2 ^ 64) (sym (early_closed c))
-    (room_set (early_old c) c.args.tid c.args.ready.now (early_can c) (early_row c).0 (early_row c).1 c.requires.sets c.in_ok-outcome.outcome c.execute.new.self (early_done c)
-    c.end_call.new.workers c.end_call.ensures c.args.set c.requires.refused c.requires.set c.self.invariant.state c.self.invariant.is)
+renew_all-requires-clause-room c = subst (λ (rows : List ThreadRow). (early_old c).workers.calls.next + length rows < 2 ^ 64) (sym (early_closed c))
+    (room_set (early_old c) c.args.tid c.args.ready.now (early_can c) (early_row c).0 (early_row c).1 c.requires.sets c.in_ok-outcome.outcome c.execute.new.self (early_done c) c.args.set c.requires.refused c.requires.set c.self.invariant.state c.self.invariant.is)
 
 pub renew_all-requires-clause-cwds : goal.renew_all-requires-clause-cwds
 renew_all-requires-clause-cwds c =
     c.in_ok-plan.ensures.cwds
     ∙ ap (λ (rows : List ThreadRow). replicate (length (numbers_from (early_old c).system.processes c.args.ready.now.pid c.args.tid 1 rows)) (process_at (early_old c).system.processes c.args.ready.now.pid).cwd) c.deref.ensures.value
-    ∙ copies_set (early_old c) c.args.tid c.args.ready.now (early_can c) (early_row c).0 (early_row c).1 c.requires.sets c.in_ok-outcome.outcome c.execute.new.self (early_done c)
-    c.end_call.new.workers c.end_call.ensures c.args.set c.requires.refused c.requires.set c.self.invariant.state c.self.invariant.is
+    ∙ copies_set (early_old c) c.args.tid c.args.ready.now (early_can c) (early_row c).0 (early_row c).1 c.requires.sets c.in_ok-outcome.outcome c.execute.new.self (early_done c) c.args.set c.requires.refused c.requires.set c.self.invariant.state c.self.invariant.is
     ∙ ap (λ (rows : List ThreadRow). replicate (length (numbers_from c.execute.new.self.processes c.args.ready.now.pid c.args.tid 1 rows)) (process_at c.execute.new.self.processes c.args.ready.now.pid).cwd) (sym (early_closed c))
 
 pub renew_all-requires-clause-short : goal.renew_all-requires-clause-short
 renew_all-requires-clause-short c = subst IsShort
-    (cwd_set (early_old c) c.args.tid c.args.ready.now (early_can c) (early_row c).0 (early_row c).1 c.requires.sets c.in_ok-outcome.outcome c.execute.new.self (early_done c)
-    c.end_call.new.workers c.end_call.ensures c.args.set c.requires.refused c.requires.set c.self.invariant.state c.self.invariant.is)
+    (cwd_set (early_old c) c.args.tid c.args.ready.now (early_can c) (early_row c).0 (early_row c).1 c.requires.sets c.in_ok-outcome.outcome c.execute.new.self (early_done c) c.args.set c.requires.refused c.requires.set c.self.invariant.state c.self.invariant.is)
     c.in_ok-plan.ensures.short
+
+pub renew_all-requires-clause-in_use : goal.renew_all-requires-clause-in_use
+renew_all-requires-clause-in_use c = few_calls (early_old c) c.self.invariant.state c.self.invariant.is
+
+pub end_call-requires : goal.end_call-requires
+end_call-requires c =
+    let m : Running = running_of c.self.inside in
+    let can = subst (λ (k : Running). CanStep k c.args.tid (steps.Make c.args.ready.now)) (sym c.self.view_is) c.requires.step in
+    let row = row_making m c.self.invariant c.args.tid c.args.ready.now can.next in
+    let shut : List ThreadRow = set m.threads (c.args.tid - 1) (record row.0 { pending = None }) in
+    let closed : c.deref_mut.result.now ≡ shut =
+    c.deref_mut.ensures.value
+    ∙ ap (set m.threads (c.args.tid - 1)) (c.close.ensures ∙ ap (λ (r : ThreadRow). record r { pending = None }) (read_is m.threads c.args.tid row.0 c.index_mut.result.now row.1 c.index_mut.ensures.value)) in
+    let done : IsCallMade c.args.ready.now.call (request_with m c.args.tid c.args.ready.now) c.in_ok-outcome.outcome m.system c.execute.new.self =
+    subst (λ (request : Request). IsCallMade c.args.ready.now.call request c.in_ok-outcome.outcome m.system c.execute.new.self)
+    (c.request_with-request.ensures ∙ ap (λ (k : Running). request_with k c.args.tid c.args.ready.now) (c.view.ensures ∙ sym c.self.view_is)) c.in_ok-outcome.ensures.done in
+    own_set m c.args.tid c.args.ready.now can row.0 row.1 c.requires.sets c.in_ok-outcome.outcome c.execute.new.self done c.args.set c.requires.refused c.requires.set c.renew_all.new.workers c.renew_all.new.threads
+    (subst (λ (rows : List ThreadRow). HaveRenewed c.execute.new.self.processes c.args.ready.now.pid c.args.tid rows m.workers c.renew_all.new.threads c.renew_all.new.workers) closed c.renew_all.ensures)
+    c.self.invariant.state c.self.invariant.is
 
 -- ---- after the other calls are renewed
 
@@ -123,13 +131,13 @@ done c = subst (λ (request : Request). IsCallMade c.args.ready.now.call request
     (c.request_with-request.ensures ∙ ap (λ (k : Running). request_with k c.args.tid c.args.ready.now) (c.view.ensures ∙ sym c.self.view_is)) c.in_ok-outcome.ensures.done
 
 abbrev new : goal.After-drop-outcome → List ThreadRow → Running
-new c rows = with_parts (old c) c.execute.new.self c.renew_all.new.workers rows
+new c rows = with_parts (old c) c.execute.new.self c.end_call.new.workers rows
 
 abbrev used : goal.After-drop-outcome → List Change → Entry
 used c changes = entry.Used c.args.tid c.args.ready.now.drawing c.args.ready.now.call c.args.ready.now.regs c.args.ready.now.args c.args.ready.now.ids c.in_ok-outcome.outcome.result changes
 
-have : (c : goal.After-drop-outcome) → HaveRenewed c.execute.new.self.processes c.args.ready.now.pid c.args.tid (shut c) c.end_call.new.workers c.renew_all.new.threads c.renew_all.new.workers
-have c = subst (λ (rows : List ThreadRow). HaveRenewed c.execute.new.self.processes c.args.ready.now.pid c.args.tid rows c.end_call.new.workers c.renew_all.new.threads c.renew_all.new.workers) (closed c) c.renew_all.ensures
+have : (c : goal.After-drop-outcome) → HaveRenewed c.execute.new.self.processes c.args.ready.now.pid c.args.tid (shut c) (old c).workers c.renew_all.new.threads c.renew_all.new.workers
+have c = subst (λ (rows : List ThreadRow). HaveRenewed c.execute.new.self.processes c.args.ready.now.pid c.args.tid rows (old c).workers c.renew_all.new.threads c.renew_all.new.workers) (closed c) c.renew_all.ensures
 
 abbrev known : goal.After-drop-outcome → List Change
 known c = SetIds c.args.set ∷ renewals_from (old c).workers.calls.next (numbers_from (old c).system.processes c.args.ready.now.pid c.args.tid 1 (old c).threads)
@@ -139,14 +147,14 @@ known_is c = sym (c.in_ok-plan.ensures.changes ∙ (λ k. SetIds c.args.set ∷ 
 
 step : (c : goal.After-drop-outcome) → IsStep (old c) (choice.Thread c.args.tid) (Some (used c (known c))) (new c c.renew_all.new.threads)
 step c = setting (old c) c.args.tid c.args.ready.now (can c) (row c).0 (row c).1 c.requires.sets c.in_ok-outcome.outcome c.execute.new.self (done c)
-    c.end_call.new.workers c.end_call.ensures c.args.set c.requires.refused c.requires.set c.renew_all.new.workers c.renew_all.new.threads (have c)
+    c.args.set c.requires.refused c.requires.set c.renew_all.new.workers c.end_call.new.workers c.renew_all.new.threads (have c) c.end_call.ensures
 
 abbrev rows : goal.After-drop-outcome → List ThreadRow
 rows c = take c.self.inside.threads.len (c.renew_all.new.threads ++ drop (length c.renew_all.new.threads) (set (old c).threads (c.args.tid - 1) c.close.new.self))
 
 rows_are : (c : goal.After-drop-outcome) → rows c ≡ c.renew_all.new.threads
 rows_are c = whole_again c.renew_all.new.threads (set (old c).threads (c.args.tid - 1) c.close.new.self) c.self.inside.threads.len (c.self.inside.threads.ok.0 ∙ sym (length-set (old c).threads (c.args.tid - 1) c.close.new.self))
-    (ap length c.renew_all.ensures.rows_are ∙ count_renewed c.execute.new.self.processes c.args.ready.now.pid c.args.tid c.deref_mut.result.now 1 c.end_call.new.workers.calls.next ∙ ap (λ (all : List ThreadRow). length all) c.deref_mut.ensures.value)
+    (ap length c.renew_all.ensures.rows_are ∙ count_renewed c.execute.new.self.processes c.args.ready.now.pid c.args.tid c.deref_mut.result.now 1 (old c).workers.calls.next ∙ ap (λ (all : List ThreadRow). length all) c.deref_mut.ensures.value)
 
 pub invariant_of-self-2 : goal.invariant_of-self-2
 invariant_of-self-2 c = subst (λ (all : List ThreadRow). RefinesSomeState (new c all)) (sym (rows_are c)) (running_step (old c) (new c c.renew_all.new.threads) (choice.Thread c.args.tid) (used c (known c)) c.self.invariant (step c))

@@ -23,18 +23,18 @@ returns-in_err-place-clause-first c = c.from_residual.ensures ∙ sym (ap (optio
 
 -- the first waiting message
 abbrev first : goal.After-set_state_at → Message
-first c = get_or c.args.self.now.live c.in_ok-place.place (waiting_message 0 0)
+first c = get_or c.args.self.now.live c.in_ok-place.place (waiting_message 0 0 0)
 
 found : (c : goal.After-set_state_at) → find is_unclaimed c.args.self.now.live ≡ Some (first c)
 found c =
-    found_first is_unclaimed c.args.self.now.live c.in_ok-place.place (waiting_message 0 0) (
+    found_first is_unclaimed c.args.self.now.live c.in_ok-place.place (waiting_message 0 0 0) (
     ap (λ (calls : HeldCalls). position is_unclaimed calls.live) (sym c.self.view_is) ∙ sym c.waiting_place.ensures ∙ c.in_ok-place.was
     )
 
 least : (c : goal.After-set_state_at) → IsLeastWaiting c.args.self.now c.set_state_at.result
 least c =
-    subst (IsLeastWaiting c.args.self.now) (sym (c.set_state_at.ensures.drawing (waiting_message 0 0))) (
-    least_waiting c.args.self.now (first c) (subst AreValidCalls c.self.view_is c.self.invariant) (found c)
+    subst (IsLeastWaiting c.args.self.now) (sym (c.set_state_at.ensures.drawing (waiting_message 0 0 0))) (
+    least_waiting c.args.self.now (first c) (subst AreValidCalls c.self.view_is c.self.invariant.0) (found c)
     )
 
 pub returns-clause-none : goal.returns-clause-none
@@ -44,4 +44,4 @@ pub returns-clause-least : goal.returns-clause-least
 returns-clause-least c = least c
 
 pub returns-clause-first : goal.returns-clause-first
-returns-clause-first c = ap Some (c.set_state_at.ensures.drawing (waiting_message 0 0)) ∙ sym (ap (option_map (λ (message : Message). message.drawing)) (found c))
+returns-clause-first c = ap Some (c.set_state_at.ensures.drawing (waiting_message 0 0 0)) ∙ sym (ap (option_map (λ (message : Message). message.drawing)) (found c))

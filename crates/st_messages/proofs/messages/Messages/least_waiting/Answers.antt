@@ -14,7 +14,7 @@ returns-in_err-first_waiting-clause-none c =
 least : (c : goal.In_ok-first_waiting) → IsLeastWaiting c.args.self.now c.in_ok-first_waiting.field-0.drawing
 least c =
     let is = sym (c.first_waiting.ensures ∙ ap (λ (calls : HeldCalls). find is_unclaimed calls.live) c.self.view_is) ∙ c.in_ok-first_waiting.was in
-    least_waiting c.args.self.now c.in_ok-first_waiting.field-0 (subst AreValidCalls c.self.view_is c.self.invariant) is
+    least_waiting c.args.self.now c.in_ok-first_waiting.field-0 (subst AreValidCalls c.self.view_is c.self.invariant.0) is
 
 pub returns-clause-none : goal.returns-clause-none
 returns-clause-none c = (λ no. absurd cc, λ none. absurd (none c.in_ok-first_waiting.field-0.drawing (least c).waiting))

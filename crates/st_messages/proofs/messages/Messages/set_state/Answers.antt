@@ -10,7 +10,7 @@ use Rattle.st_messages.proofs.messages.Messages.set_state.Goals as goal
 -- the message at the index has the number
 number : (c : goal.After-set_state_at) → c.set_state_at.result ≡ c.args.drawing
 number c =
-    let default = waiting_message 0 0 in
+    let default = waiting_message 0 0 0 in
     let is = ap (λ (calls : HeldCalls). position (is_message_of c.args.drawing) calls.live) (sym c.self.view_is) ∙ sym c.place_of.ensures ∙ c.in-Some.is in
     c.set_state_at.ensures.drawing default ∙ eqb-true _ c.args.drawing (position-Some (is_message_of c.args.drawing) c.args.self.now.live c.in-Some.place default is).1
 

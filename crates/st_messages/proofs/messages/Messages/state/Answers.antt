@@ -9,7 +9,7 @@ found : (c : goal.In_ok-message_of) → message_of_number c.args.self.now c.args
 found c = sym (c.message_of.ensures ∙ ap (λ (calls : HeldCalls). message_of_number calls c.args.drawing) c.self.view_is) ∙ c.in_ok-message_of.was
 
 whole : (c : goal.In_ok-message_of) → AreValidCalls c.args.self.now
-whole c = subst AreValidCalls c.self.view_is c.self.invariant
+whole c = subst AreValidCalls c.self.view_is c.self.invariant.0
 
 pub returns-clause-given : goal.returns-clause-given
 returns-clause-given c = found_below c.args.self.now.live 1 c.args.self.now.next c.args.drawing c.in_ok-message_of.field-0 (whole c).ordered (found c)

@@ -10,11 +10,11 @@ pub copies-requires : goal.copies-requires
 copies-requires c =
     let kept : UnderWay = record { calls = c.self.inside.messages; slots = c.self.inside.slots; turns = c.self.inside.turns.items } in
     let answered = subst (λ (k : UnderWay). HasAnswer (message_state k.calls c.args.drawing)) (sym c.self.view_is) c.requires in
-    record { slot = answered_slot kept c.args.drawing c.self.invariant answered; sealed = answered_sealed kept c.args.drawing c.self.invariant answered }
+    record { slot = answered_slot kept c.args.drawing c.self.invariant.0 answered; sealed = answered_sealed kept c.args.drawing c.self.invariant.0 answered }
 
 pub returns : goal.returns
 returns c = λ i st is.
     let kept : UnderWay = record { calls = c.self.inside.messages; slots = c.self.inside.slots; turns = c.self.inside.turns.items } in
-    sealed_is kept c.args.drawing c.copies.result.now c.copies.ensures.args c.copies.ensures.head c.self.invariant
+    sealed_is kept c.args.drawing c.copies.result.now c.copies.ensures.args c.copies.ensures.head c.self.invariant.0
     (subst (λ (k : UnderWay). HasAnswer (message_state k.calls c.args.drawing)) (sym c.self.view_is) c.requires) i st
     (subst (λ (k : UnderWay). RepresentsMessages i st (is_live st) k) (sym c.self.view_is) is)
