@@ -1,9 +1,9 @@
-use crate::usage::append_usage;
 use st_base::Text;
 use st_command::Command;
 use st_policy_diagnostics::shown::OUT_OF_MEMORY;
 use st_schedule_diagnostics::names::file_in;
 use st_top::{Status, Which};
+use st_usage::usage::append_usage;
 use std::alloc::{AllocError, Global};
 
 const REFUSED: &str = "refused, and no memory was left for the reason";

@@ -2,7 +2,6 @@ ghost use Rattle.std.specs.Prelude.{IfOk, IfSome};
 ghost use Rattle.st_command.specs.Reading.{IsWithinLimits};
 
 use crate::message::message;
-use crate::wrong_words::usage_message;
 use st_base::Text;
 use st_command::{Command, StepWords, read_run_words, read_words};
 use st_grammar::PolicyRefusal;
@@ -15,6 +14,7 @@ use st_schedule_diagnostics::sources::{env_of, text_of};
 use st_script_diagnostics::script_fault::script_message;
 use st_script_faults::ScriptFault;
 use st_top::{Status, Which};
+use st_usage::wrong_words::usage_message;
 use std::alloc::{AllocError, Global};
 
 // Why a policy file is refused.

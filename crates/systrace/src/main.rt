@@ -10,11 +10,10 @@ mod kept;
 
 use crate::kept::{Kept, KeptFiles};
 use st_base::Text;
-use st_diagnostics::{
-    Answer, OUT_OF_MEMORY, answer_of, answer_text, line_of, no_text_message, unread_message,
-};
+use st_diagnostics::{OUT_OF_MEMORY, line_of, unread_message};
 use st_outside::{StdFiles, StdSink, Unread};
 use st_top::{OpenGate, Status, systrace_plain, systrace_run};
+use st_usage::{Answer, answer_of, answer_text, no_text_message};
 use std::alloc::{AllocError, Global};
 use std::process::ExitCode;
 use std::rt::{Env, Files};

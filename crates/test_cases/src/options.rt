@@ -2,7 +2,7 @@
 
 use st_base::Text;
 use st_command::{read_run_words, read_words};
-use st_diagnostics::{Answer, answer_text};
+use st_usage::{Answer, answer_text};
 use std::alloc::{AllocError, Global};
 
 // The words of a command with an option and a script.

@@ -25,8 +25,9 @@ use crate::lines::{count_of, first_line, other_lines, words_of};
 use crate::options::{is_read, is_shown};
 use crate::statuses::{reason_of, status_of};
 use st_base::Text;
-use st_diagnostics::{answer_of, answer_text, unread_message};
+use st_diagnostics::unread_message;
 use st_outside::MemoryFiles;
+use st_usage::{answer_of, answer_text};
 use std::alloc::{AllocError, Global};
 
 /// The state of a table after the lines so far, and what was written of them.
