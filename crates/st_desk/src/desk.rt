@@ -1,18 +1,12 @@
 // What lies under the lock: a run, and which of its runners wait.
-ghost use Rattle.std.specs.Prelude.{◌≡◌, IfOk};
-ghost use Rattle.st_law.specs.Machine.{IsSettled};
-ghost use Rattle.st_kernel.specs.Kernel.{state_in, trace_of};
-
 use crate::runners::{OPERATOR, Runners, Sleepers};
 use st_base::{Seq, Tid, Worker};
-use st_calls::{Snapshot, Verdict};
-use st_filter::Judged;
-use st_kernel::{Kernel, Work};
+use st_calls::Snapshot;
+use st_kernel::Work;
 use st_messages::Ticket;
-use st_recorded::{InputName, News, RecordedRun, TicketUse};
-use st_report::Recorder;
+use st_recorded::{News, Run, TicketUse};
 use st_trace::Choice;
-use std::alloc::{AllocError, Global};
+use std::alloc::Global;
 use std::sync::Wait;
 
 /// A run that runners take in turns.
@@ -24,8 +18,8 @@ use std::sync::Wait;
 /// by a fault, when the operator has answered, and when its process runs another binary or dies. When nobody serves a call and none is
 /// waiting, all bodies are woken. The operator is woken when there is a question.
 #[derive(Drop)]
-pub struct Desk<'a, N: InputName, R: Recorder + Drop> {
-    run: RecordedRun<'a, N, R>,
+pub struct Desk<Q: Run + Drop> {
+    run: Q,
     // Whether every body has ended.
     over: bool,
     // Whether there may be a question.
@@ -72,9 +66,9 @@ pub enum WorkerTurn {
     Over,
 }
 
-impl<'a, N: InputName, R: Recorder + Drop> Desk<'a, N, R> {
+impl<Q: Run + Drop> Desk<Q> {
     /// A run whose runners haven't begun.
-    pub fn new(run: RecordedRun<'a, N, R>, runners: Runners) -> Desk<'a, N, R> {
+    pub fn new(run: Q, runners: Runners) -> Desk<Q> {
         Desk {
             run,
             over: false,
@@ -84,14 +78,10 @@ impl<'a, N: InputName, R: Recorder + Drop> Desk<'a, N, R> {
         }
     }
 
-    /// The kernel, settled, and what recorded its run.
-    pub fn finish(self, alloc: Global) -> Result<(Kernel<'a>, R), AllocError>
-        ensures input { IfOk result (λ both. both.0.input ≡ N.input) }
-        ensures settled { IfOk result (λ both. IsSettled both.0.input (state_in both.0)) }
-        ensures noted { IfOk result (λ both. ∥ R.has_noted both.1 both.0.input (trace_of both.0) ∥₁) }
-    {
+    /// The run, as its runners have left it.
+    pub fn into_run(self) -> Q {
         let Self { run, .. } = self;
-        run.finish(alloc)
+        run
     }
 
     /// Whether the script starts a thread of its own.
@@ -258,7 +248,7 @@ impl<'a, N: InputName, R: Recorder + Drop> Desk<'a, N, R> {
 
     // Lets an idle worker claim a call. Returns whether it did, and is to be served.
     fn claim<T: Wait>(&mut self, rt: &T, alloc: Global, worker: Worker) -> bool {
-        if self.run.is_stopped() || !self.run.claim(rt, alloc, worker) {
+        if self.run.is_stopped() || matches!(self.run.work(rt, alloc, worker), Work::Idle) {
             return false;
         }
         self.begin_service(worker);
@@ -378,16 +368,14 @@ impl<'a, N: InputName, R: Recorder + Drop> Desk<'a, N, R> {
         WorkerTurn::Over
     }
 
-    /// Answers under the number of a worker that its runner serves.
-    pub fn answer<T: Wait>(&mut self, rt: &T, alloc: Global, worker: Worker, judged: Judged<'a>)
-        requires { judged.policies ≡ N.input.policies }
-    {
-        if self.run.is_stopped() {
-            return;
-        }
-        let seq = judged.snapshot().seq;
-        let is_unmatched = matches!(judged.verdict(), Verdict::Unmatched);
-        self.run.answer(rt, alloc, worker, judged);
+    /// The run, in which a runner answers.
+    pub fn run(&mut self) -> &mut Q {
+        &mut self.run
+    }
+
+    /// What an answer under the number of a worker means for its runner, and for those that wait. The operator is asked if no filter has
+    /// decided.
+    pub fn after_answer(&mut self, worker: Worker, seq: Seq, is_unmatched: bool) {
         if is_unmatched {
             self.may_ask = true;
             self.wake_operator();

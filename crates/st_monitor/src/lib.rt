@@ -13,5 +13,5 @@ pub use bodies::run_body;
 pub use gate::{Gate, OpenGate};
 pub use monitor::Monitor;
 pub use run::run_all;
-pub use servers::{run_operator, run_worker};
+pub use servers::{run_operator, run_worker, serve};
 pub use shared::Shared;

@@ -1,13 +1,36 @@
 // The runners of workers and of the operator.
+ghost use Rattle.std.specs.Prelude.{◌≡◌};
+ghost use Rattle.st_messages.specs.Tickets.{took_nothing};
+
 use crate::gate::Gate;
 use crate::monitor::Monitor;
 use st_base::Worker;
-use st_desk::ClaimTurn;
+use st_desk::{ClaimTurn, WorkerTurn};
 use st_messages::Taker;
+use st_recorded::{Run, RunName};
 use std::sync::Wait;
 
-/// Runs a worker until every body has ended: it serves call after call. The taker takes its tickets without the lock.
-pub fn run_worker<M: Monitor, G: Gate, T: Wait>(
+/// Serves the call that a worker has claimed, until the worker is idle.
+pub fn serve<Q: Run + Drop, M: Monitor<Q>, G: Gate, T: Wait>(
+    rt: &T,
+    shared: &M,
+    worker: Worker,
+    gate: &G,
+) {
+    for _ in rt.forever() {
+        match shared.turns().work(rt, worker) {
+            WorkerTurn::Went => {}
+            WorkerTurn::Judge(copies) => {
+                shared.judge(rt, worker, gate, copies);
+                return;
+            }
+            WorkerTurn::Over => return,
+        }
+    }
+}
+
+// Runs a worker until every body has ended: it serves call after call. The taker takes its tickets without the lock.
+fn run_with<Q: Run + Drop, M: Monitor<Q>, G: Gate, T: Wait>(
     rt: &T,
     shared: &M,
     worker: Worker,
@@ -16,27 +39,40 @@ pub fn run_worker<M: Monitor, G: Gate, T: Wait>(
 ) {
     let mut taker = taker;
     let mut ticket = None;
-    shared.await_turn(rt, worker);
+    shared.turns().await_turn(rt, worker);
     for _ in rt.forever() {
         if ticket.is_none() {
             ticket = taker.take(rt);
         }
-        match shared.worker_claims(rt, worker, ticket) {
+        match shared.turns().worker_claims(rt, worker, ticket) {
             ClaimTurn::Serves => {
                 ticket = None;
-                shared.serve(rt, worker, gate);
+                serve::<Q, M, G, T>(rt, shared, worker, gate);
             }
             ClaimTurn::Went => ticket = None,
-            ClaimTurn::Sleeps => shared.await_turn(rt, worker),
+            ClaimTurn::Sleeps => shared.turns().await_turn(rt, worker),
             ClaimTurn::Over => return,
         }
     }
 }
 
+/// Runs a worker of the run that `N` names, with a taker of its queue, until every body has ended.
+pub fn run_worker<N: RunName, Q: Run + Drop, M: Monitor<Q>, G: Gate, T: Wait>(
+    rt: &T,
+    shared: &M,
+    worker: Worker,
+    gate: &G,
+    taker: Taker,
+)
+    requires { taker ≡ took_nothing N.queue }
+{
+    run_with::<Q, M, G, T>(rt, shared, worker, gate, taker);
+}
+
 /// Runs the operator until every body has ended.
-pub fn run_operator<M: Monitor, T: Wait>(rt: &T, shared: &M) {
+pub fn run_operator<Q: Run + Drop, M: Monitor<Q>, T: Wait>(rt: &T, shared: &M) {
     for _ in rt.forever() {
-        if !shared.operator_turn(rt) {
+        if !shared.turns().operator_turn(rt) {
             return;
         }
     }

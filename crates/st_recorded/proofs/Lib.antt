@@ -1,2 +1,1 @@
 mod Posted
-mod Recording

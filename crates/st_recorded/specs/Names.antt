@@ -1,5 +1,6 @@
--- Inputs that have a name.
+-- What a name of a run stands for, before a call picks it.
 use Rattle.std.specs.Prelude.{false, [], None}
+use Rattle.atomic_table.specs.Seated.{TableId}
 use Rattle.st_law.specs.declared.input.Input.{Input}
 use Rattle.st_law.specs.declared.input.Mode.TheVariants.{Enforce}
 
@@ -11,3 +12,7 @@ no_input = record {
   replies = [];
   options = record { mode = Enforce; inherit = false; aliasing = false; ids = None; workers = 0 };
 }
+
+-- a queue of nothing; a call picks another
+abbrev pub no_queue : TableId
+no_queue = record { words = 0; slots = 0; views_name = 0; atom = 0; block = 0; offset = 0; slot_names = [] }

@@ -3,7 +3,10 @@
 
 pub mod news;
 pub mod recorded;
-mod steps;
+pub mod run;
+mod tickets;
 
 pub use news::News;
-pub use recorded::{InputName, RecordedRun, TicketUse, tickets_for};
+pub use recorded::{RecordedRun, RunName};
+pub use run::{Run, TicketUse};
+pub use tickets::tickets_for;

@@ -1,72 +1,45 @@
 // A run whose entries are recorded, and whose tickets are posted, as they are made.
-ghost use Rattle.std.specs.Prelude.{◌≡◌, ◌≤◌, [], false, IfOk, length};
+ghost use Rattle.std.specs.Prelude.{◌≡◌, ◌≤◌, [], true, false, IfOk};
 ghost use Rattle.std.specs.Coded.{codes};
+ghost use Rattle.atomic_table.specs.Seated.{TableId};
 ghost use Rattle.st_filter.specs.FormulaCode.{formula_code};
+ghost use Rattle.st_trace.specs.declared.entry.Choice.TheVariants as choices;
 ghost use Rattle.st_law.specs.Machine.{IsSettled};
 ghost use Rattle.st_law.specs.State.{is_live};
 ghost use Rattle.st_law.specs.declared.input.Input.{Input};
-ghost use Rattle.st_kernel.specs.Kernel.{state_in, trace_of};
+ghost use Rattle.st_kernel.specs.Kernel.{rested, state_in, trace_of, with_choice};
+ghost use Rattle.st_noted.specs.Steps.{MayHaveMade};
 ghost use Rattle.st_reached.specs.Reached.{most_numbers};
-ghost use Rattle.st_recorded.specs.Tickets.{tickets_up_to};
 
 use crate::news::{News, news_of};
-use crate::steps;
+use crate::run::{Run, TicketUse};
+use crate::tickets::catch_up;
 use st_base::{Seq, Tid, Worker};
 use st_filter::Judged;
 use st_kernel::{Kernel, Work};
 use st_law::Input;
-use st_messages::{Poster, Taker, Ticket, seq_of, tickets};
+use st_messages::{Poster, Ticket};
+use st_noted::{LastEntry, steps};
 use st_report::Recorder;
-use st_trace::{Choice, Entry};
+use st_trace::Choice;
 use std::alloc::{AllocError, Global};
 use std::marker::{Brand, Model, PhantomData};
 use std::sync::Wait;
 
-/// What a worker did with a ticket.
-#[derive(Clone, Copy, Debug, PartialEq, Eq)]
-pub enum TicketUse {
-    /// The ticket's number isn't live, and the ticket was skipped.
-    Skipped,
-    /// No call was waiting, and the ticket is spent.
-    Spent,
-    /// The worker has claimed a call by it.
-    Claimed,
-}
-
-/// A name of the input of a run.
-pub trait InputName {
+/// A name of a run: of its input, and of the queue of its tickets.
+pub trait RunName {
     ghost input: { Input };
+
+    ghost queue: { TableId };
 }
 
 // The name that a call picks.
-impl InputName for Brand {
-    ghost use Rattle.st_recorded.specs.Names.{no_input};
+impl RunName for Brand {
+    ghost use Rattle.st_recorded.specs.Names.{no_input, no_queue};
 
     ghost input = { no_input };
-}
 
-/// A poster with room for all tickets of the run of a kernel, and a taker for each of its workers.
-pub fn tickets_for(alloc: Global, kernel: &Kernel<'_>) -> Result<(Poster, Vec<Taker>), AllocError>
-    ensures room { IfOk result (λ made. most_numbers kernel.now.input ≤ made.0.capacity) }
-    ensures none { IfOk result (λ made. made.0.tickets ≡ []) }
-{
-    let capacity = kernel.most_messages().max(1);
-    let workers = kernel.input().options.workers.max(1);
-    tickets(alloc, capacity, workers)
-}
-
-// Posts a ticket for each number that was drawn since the last was posted.
-fn post_drawn<T: Wait>(rt: &T, poster: &mut Poster, drawings: u64)
-    requires room { drawings ≤ poster.old.capacity }
-    requires count { length poster.old.tickets ≤ drawings }
-    requires posted { poster.old.tickets ≡ tickets_up_to (length poster.old.tickets) }
-    ensures capacity { poster.new.capacity ≡ poster.old.capacity }
-    ensures posted { poster.new.tickets ≡ tickets_up_to drawings }
-{
-    while poster.posted() < drawings {
-        let seq = seq_of(poster.posted() + 1);
-        poster.post(rt, seq);
-    }
+    ghost queue = { no_queue };
 }
 
 // Makes the choices that are still enabled.
@@ -77,6 +50,7 @@ fn settle<'a, R: Recorder + Drop>(
 ) -> Result<(Kernel<'a>, R), AllocError>
     requires { ∥ R.has_noted recorder kernel.input (trace_of kernel) ∥₁ }
     ensures input { IfOk result (λ both. both.0.input ≡ kernel.entry.input) }
+    ensures rested { IfOk result (λ both. both.0 ≡ rested kernel.entry) }
     ensures settled { IfOk result (λ both. IsSettled both.0.input (state_in both.0)) }
     ensures noted { IfOk result (λ both. ∥ R.has_noted both.1 both.0.input (trace_of both.0) ∥₁) }
 {
@@ -85,21 +59,21 @@ fn settle<'a, R: Recorder + Drop>(
     Ok((kernel, recorder))
 }
 
-/// A kernel of the input that `N` names, with what records its run, and a poster of tickets. Unless it is stopped, each entry of the run was
-/// recorded. There is a ticket for each number that was drawn, in order, and room for all that can be drawn.
+/// A kernel of the input that `N` names, with what records its run, and the poster of the queue that `N` names. Unless it is stopped, each
+/// entry of the run was recorded. There is a ticket for each number that was drawn, in order, and room for all that can be drawn.
 #[derive(Drop)]
-pub struct RecordedRun<'a, N: InputName, R: Recorder + Drop> {
+pub struct RecordedRun<'a, N: RunName, R: Recorder + Drop> {
     kernel: Kernel<'a>,
     recorder: R,
     poster: Poster,
-    // The entry of the last step of a thread or a worker. It stays here, so that no step drops one.
-    added: Option<Entry>,
+    // The entry of the last step of a thread or a worker.
+    added: LastEntry,
     // Whether memory ran out.
     stopped: bool,
     named: PhantomData<N>,
 }
 
-impl<'a, N: InputName, R: Recorder + Drop> Model for RecordedRun<'a, N, R> {
+impl<'a, N: RunName, R: Recorder + Drop> Model for RecordedRun<'a, N, R> {
     ghost use Rattle.std.specs.Prelude.{◌≡◌, ◌≤◌, false};
     ghost use Rattle.st_kernel.specs.Kernel.{state_in, trace_of, RunSoFar};
     ghost use Rattle.st_reached.specs.Reached.{most_numbers};
@@ -113,10 +87,10 @@ impl<'a, N: InputName, R: Recorder + Drop> Model for RecordedRun<'a, N, R> {
 
     ghost view = { λ r. r.kernel };
 
-    ghost invariant = { λ r. (r.kernel.input ≡ N.input) × (r.stopped ≡ false → ∥ R.has_noted r.recorder r.kernel.input (trace_of r.kernel) ∥₁) × (most_numbers r.kernel.input ≤ r.poster.capacity) × (r.poster.tickets ≡ tickets_up_to (state_in r.kernel).posted) };
+    ghost invariant = { λ r. (r.kernel.input ≡ N.input) × (r.stopped ≡ false → ∥ R.has_noted r.recorder r.kernel.input (trace_of r.kernel) ∥₁) × (most_numbers r.kernel.input ≤ r.poster.capacity) × (r.poster.tickets ≡ tickets_up_to (state_in r.kernel).posted) × (r.poster.queue ≡ N.queue) };
 }
 
-impl<'a, N: InputName, R: Recorder + Drop> RecordedRun<'a, N, R> {
+impl<'a, N: RunName, R: Recorder + Drop> RecordedRun<'a, N, R> {
     /// A run whose entries so far were recorded, with a poster that hasn't posted. It posts tickets for the numbers drawn so far.
     pub fn new<T: Wait>(
         rt: &T,
@@ -128,14 +102,15 @@ impl<'a, N: InputName, R: Recorder + Drop> RecordedRun<'a, N, R> {
         requires noted { R.has_noted recorder kernel.input (trace_of kernel) }
         requires room { most_numbers kernel.input ≤ poster.capacity }
         requires none { poster.tickets ≡ [] }
+        requires queue { poster.queue ≡ N.queue }
     {
         let mut poster = poster;
-        post_drawn(rt, &mut poster, kernel.drawings());
+        catch_up(rt, &mut poster, &kernel);
         RecordedRun {
             kernel,
             recorder,
             poster,
-            added: None,
+            added: LastEntry::none(),
             stopped: false,
             named: PhantomData,
         }
@@ -151,6 +126,7 @@ impl<'a, N: InputName, R: Recorder + Drop> RecordedRun<'a, N, R> {
     /// The kernel, settled, and what recorded its run. Makes the choices that are still enabled.
     pub fn finish(self, alloc: Global) -> Result<(Kernel<'a>, R), AllocError>
         ensures input { IfOk result (λ both. both.0.input ≡ N.input) }
+        ensures rested { IfOk result (λ both. both.0 ≡ rested self.entry) }
         ensures settled { IfOk result (λ both. IsSettled both.0.input (state_in both.0)) }
         ensures noted { IfOk result (λ both. ∥ R.has_noted both.1 both.0.input (trace_of both.0) ∥₁) }
     {
@@ -170,35 +146,11 @@ impl<'a, N: InputName, R: Recorder + Drop> RecordedRun<'a, N, R> {
         settle(alloc, kernel, recorder)
     }
 
-    /// Whether the script starts a thread of its own.
-    pub fn starts(&self, tid: Tid) -> bool {
-        if tid == 0 {
-            return false;
-        }
-        let rows = self.input().start.threads.as_slice();
-        match rows.get(tid as usize - 1) {
-            Some(row) => row.process.is_some(),
-            None => false,
-        }
-    }
-
-    /// Whether a choice is enabled.
-    pub fn enabled(&self, choice: Choice) -> bool {
-        self.kernel.enabled(choice)
-    }
-
-    /// The thread that holds the call of a number, if the number is live.
-    pub fn holder(&self, seq: Seq) -> Option<Tid> {
-        self.kernel.holder(seq)
-    }
-
-    /// Whether memory ran out.
-    pub fn is_stopped(&self) -> bool {
-        self.stopped
-    }
-
     /// Makes a choice. Returns whether it was enabled. If memory runs out, the run is stopped.
-    pub fn advance<T: Wait>(&mut self, rt: &T, alloc: Global, choice: Choice) -> bool {
+    pub fn advance<T: Wait>(&mut self, rt: &T, alloc: Global, choice: Choice) -> bool
+        ensures made { result ≡ true → self.new ≡ with_choice self.old choice }
+        ensures step { MayHaveMade self.old choice self.new }
+    {
         let made = steps::advance(
             &mut self.kernel,
             &mut self.recorder,
@@ -206,7 +158,7 @@ impl<'a, N: InputName, R: Recorder + Drop> RecordedRun<'a, N, R> {
             choice,
             &mut self.added,
         );
-        post_drawn(rt, &mut self.poster, self.kernel.drawings());
+        catch_up(rt, &mut self.poster, &self.kernel);
         match made {
             Ok(enabled) => enabled,
             Err(AllocError) => {
@@ -217,7 +169,9 @@ impl<'a, N: InputName, R: Recorder + Drop> RecordedRun<'a, N, R> {
     }
 
     /// Moves a worker, unless it is ready. If memory runs out, the run is stopped.
-    pub fn work<T: Wait>(&mut self, rt: &T, alloc: Global, worker: Worker) -> Work {
+    pub fn work<T: Wait>(&mut self, rt: &T, alloc: Global, worker: Worker) -> Work
+        ensures step { MayHaveMade self.old (choices.Worker worker) self.new }
+    {
         let made = steps::work(
             &mut self.kernel,
             &mut self.recorder,
@@ -225,7 +179,7 @@ impl<'a, N: InputName, R: Recorder + Drop> RecordedRun<'a, N, R> {
             worker,
             &mut self.added,
         );
-        post_drawn(rt, &mut self.poster, self.kernel.drawings());
+        catch_up(rt, &mut self.poster, &self.kernel);
         match made {
             Ok(work) => work,
             Err(AllocError) => {
@@ -233,11 +187,6 @@ impl<'a, N: InputName, R: Recorder + Drop> RecordedRun<'a, N, R> {
                 Work::Idle
             }
         }
-    }
-
-    /// Lets an idle worker claim a call. Returns whether it did. If memory runs out, the run is stopped.
-    pub fn claim<T: Wait>(&mut self, rt: &T, alloc: Global, worker: Worker) -> bool {
-        !matches!(self.work(rt, alloc, worker), Work::Idle)
     }
 
     /// Lets an idle worker claim a call by a ticket. If the ticket's number isn't live, nothing changes. If memory runs out, the run is
@@ -254,30 +203,81 @@ impl<'a, N: InputName, R: Recorder + Drop> RecordedRun<'a, N, R> {
         if !self.kernel.live(ticket.seq) {
             return TicketUse::Skipped;
         }
-        if self.claim(rt, alloc, worker) {
-            TicketUse::Claimed
-        } else {
-            TicketUse::Spent
-        }
-    }
-
-    /// What the last step means for runners that wait.
-    pub fn news(&self) -> News {
-        match &self.added {
-            Some(entry) => news_of(entry),
-            None => News::nothing(),
+        match self.work(rt, alloc, worker) {
+            Work::Idle => TicketUse::Spent,
+            _ => TicketUse::Claimed,
         }
     }
 
     /// Answers under the number of a worker, if it is ready with this call. If memory runs out, the run is stopped.
     pub fn answer<T: Wait>(&mut self, rt: &T, alloc: Global, worker: Worker, judged: Judged<'a>)
         requires { judged.policies ≡ N.input.policies }
+        ensures step { MayHaveMade self.old (choices.Worker worker) self.new }
     {
         let made = steps::answer(&mut self.kernel, &mut self.recorder, alloc, worker, judged);
-        post_drawn(rt, &mut self.poster, self.kernel.drawings());
+        catch_up(rt, &mut self.poster, &self.kernel);
         match made {
             Ok(_) => {}
             Err(AllocError) => self.stopped = true,
         }
+    }
+}
+
+// Whether the script of an input starts a thread of its own.
+fn script_starts(input: &Input, tid: Tid) -> bool {
+    if tid == 0 {
+        return false;
+    }
+    match input.start.threads.as_slice().get(tid as usize - 1) {
+        Some(row) => row.process.is_some(),
+        None => false,
+    }
+}
+
+// What the last entry means for runners that wait, if there is one.
+fn news_of_last(added: &LastEntry) -> News {
+    match &added.entry {
+        Some(entry) => news_of(entry),
+        None => News::nothing(),
+    }
+}
+
+impl<'a, N: RunName, R: Recorder + Drop> Run for RecordedRun<'a, N, R> {
+    fn starts(&self, tid: Tid) -> bool {
+        script_starts(self.kernel.input(), tid)
+    }
+
+    fn enabled(&self, choice: Choice) -> bool {
+        self.kernel.enabled(choice)
+    }
+
+    fn holder(&self, seq: Seq) -> Option<Tid> {
+        self.kernel.holder(seq)
+    }
+
+    fn is_stopped(&self) -> bool {
+        self.stopped
+    }
+
+    fn news(&self) -> News {
+        news_of_last(&self.added)
+    }
+
+    fn advance<T: Wait>(&mut self, rt: &T, alloc: Global, choice: Choice) -> bool {
+        self.advance(rt, alloc, choice)
+    }
+
+    fn work<T: Wait>(&mut self, rt: &T, alloc: Global, worker: Worker) -> Work {
+        self.work(rt, alloc, worker)
+    }
+
+    fn use_ticket<T: Wait>(
+        &mut self,
+        rt: &T,
+        alloc: Global,
+        worker: Worker,
+        ticket: Ticket,
+    ) -> TicketUse {
+        self.use_ticket(rt, alloc, worker, ticket)
     }
 }

@@ -15,4 +15,11 @@ pub run_all_at-requires-sync-M : goal.run_all_at-requires-sync-M
 run_all_at-requires-sync-M g c κs within =
     let named_send : IsSend (param 0 g.row.N) = c.type_bounds.send-N in
     let recorder_send : IsSend (param 1 g.row.R) = c.type_bounds.send-R in
-    search (kernel_send, compiled_sync, input_sync, runners.the_send, runners.the_field_send, poster.the_send, entry.the_send, mutex.the_sync, condvar.the_sync, phantom.the_send, phantom.the_field_send, crosses, sendable) depth 60 fits 20000
+    search (kernel_send, compiled_sync, input_sync, runners.the_field_send, poster.the_send, entry.the_send, mutex.the_sync, condvar.the_sync, phantom.the_field_send, crosses, sendable) depth 60 fits 20000
+
+-- and the run below the lock may be sent
+pub run_all_at-requires-send-Q : goal.run_all_at-requires-send-Q
+run_all_at-requires-send-Q g c κs within =
+    let named_send : IsSend (param 0 g.row.N) = c.type_bounds.send-N in
+    let recorder_send : IsSend (param 1 g.row.R) = c.type_bounds.send-R in
+    search (kernel_send, poster.the_send, entry.the_send, phantom.the_field_send, crosses, sendable) depth 60 fits 20000

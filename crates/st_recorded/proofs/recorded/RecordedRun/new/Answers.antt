@@ -1,5 +1,6 @@
-use Rattle.st_recorded.proofs.Posted.{tickets_again}
+use native.Mathlib.Omega.{arith}
 use Rattle.st_recorded.proofs.recorded.RecordedRun.new.Goals as goal
 
-pub post_drawn-requires-clause-posted : goal.post_drawn-requires-clause-posted
-post_drawn-requires-clause-posted g c = tickets_again c.args.poster.tickets 0 c.requires.none
+-- no ticket was posted
+pub catch_up-requires-clause-posted : goal.catch_up-requires-clause-posted
+catch_up-requires-clause-posted g c = (0, omega arith, c.requires.none)

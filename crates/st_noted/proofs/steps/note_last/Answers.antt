@@ -1,7 +1,7 @@
 use Rattle.std.proofs.Common.{◌∙◌}
 use Rattle.std.proofs.lemmas.Result.{on_ok_weaker}
 use Rattle.st_kernel.proofs.Plays.{noted_on}
-use Rattle.st_recorded.proofs.steps.note_last.Goals as goal
+use Rattle.st_noted.proofs.steps.note_last.Goals as goal
 
 pub returns : goal.returns
 returns g c =

@@ -1,7 +1,7 @@
 use Rattle.std.proofs.Common.{◌∙◌, ap, sym}
 use Rattle.std.specs.Prelude.{is_some}
-use Rattle.st_recorded.proofs.Posted.{choice_draws}
-use Rattle.st_recorded.proofs.steps.advance.Goals as goal
+use Rattle.st_noted.proofs.Draws.{choice_draws}
+use Rattle.st_noted.proofs.steps.advance.Goals as goal
 
 -- a choice that is enabled adds an entry
 pub note_last-requires : goal.note_last-requires

@@ -5,7 +5,7 @@ use Rattle.st_messages.specs.declared.ticket.Ticket.{Ticket}
 use Rattle.st_messages.specs.Tickets.{PostedTickets, ticket_of}
 use Rattle.st_recorded.specs.Tickets.{tickets_up_to}
 use Rattle.st_recorded.proofs.Posted.{one_more_ticket}
-use Rattle.st_recorded.proofs.recorded.post_drawn.Goals as goal
+use Rattle.st_recorded.proofs.tickets.post_drawn.Goals as goal
 
 pub loop-poster-preserved : goal.loop-poster-preserved
 loop-poster-preserved g c =
@@ -18,6 +18,7 @@ loop-poster-preserved g c =
     let below = c.loop-poster-test.true in
     let posted = c.posted.ensures in (
       ap (λ (p : PostedTickets). p.capacity) c.post.ensures ∙ c.loop-poster.invariant.0,
+      ap (λ (p : PostedTickets). p.queue) c.post.ensures ∙ c.loop-poster.invariant.1,
       omega (arith, count, below, posted),
-      longer ∙ one_more_ticket before c.loop-poster.invariant.2 ∙ ap tickets_up_to (sym count),
+      longer ∙ one_more_ticket before c.loop-poster.invariant.3 ∙ ap tickets_up_to (sym count),
     )

@@ -3,7 +3,7 @@ use Rattle.st_calls.specs.declared.judged.Snapshot.{Snapshot}
 use Rattle.st_filter.specs.Judged.{JudgedCall, verdict_under}
 use Rattle.st_filter.specs.declared.set.BinaryPolicy.{BinaryPolicy}
 use Rattle.st_law.specs.declared.input.Input.{Input}
-use Rattle.st_monitor.proofs.shared.Shared.judge.Goals as goal
+use Rattle.st_monitor.proofs.shared.SharedMonitorRecordedRun.judge.Goals as goal
 
 pub with-judged-requires : goal.with-judged-requires
 with-judged-requires g c =

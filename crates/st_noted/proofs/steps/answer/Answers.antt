@@ -3,8 +3,8 @@ use Rattle.std.specs.Prelude.{is_some}
 use Rattle.std.specs.Result.{is_ok, OnOk}
 use Rattle.st_trace.specs.declared.entry.Choice.TheVariants.{Worker}
 use Rattle.st_kernel.specs.declared.runners.AnswerFault.{AnswerFault}
-use Rattle.st_recorded.proofs.Posted.{choice_draws}
-use Rattle.st_recorded.proofs.steps.answer.Goals as goal
+use Rattle.st_noted.proofs.Draws.{choice_draws}
+use Rattle.st_noted.proofs.steps.answer.Goals as goal
 
 -- what holds of an answer that was taken
 taken : (answered : Result (Unit {0}) AnswerFault) (P : Type 0) → is_ok answered ≡ true → OnOk answered P → P

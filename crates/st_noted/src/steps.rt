@@ -1,10 +1,13 @@
 // Steps of a kernel whose entries are given to a recorder.
-ghost use Rattle.std.specs.Prelude.{◌≡◌, ◌≤◌, true, is_some, OnOk};
+ghost use Rattle.std.specs.Prelude.{◌≡◌, ◌≤◌, true, is_some, IfOk, OnOk};
 ghost use Rattle.st_trace.specs.declared.entry.Choice.{Choice};
+ghost use Rattle.st_trace.specs.declared.entry.Choice.TheVariants as choices;
 ghost use Rattle.st_law.specs.Machine.{entry_of};
 ghost use Rattle.st_law.specs.Meaning.{IsWorker};
 ghost use Rattle.st_kernel.specs.Kernel.{state_in, trace_of, with_choice, RunSoFar};
+ghost use Rattle.st_noted.specs.Steps.{MayHaveMade};
 
+use crate::last_entry::LastEntry;
 use st_base::Worker;
 use st_filter::Judged;
 use st_kernel::{Kernel, StepFault, Work};
@@ -39,18 +42,20 @@ pub fn advance<R: Recorder>(
     recorder: &mut R,
     alloc: Global,
     choice: Choice,
-    added: &mut Option<Entry>,
+    added: &mut LastEntry,
 ) -> Result<bool, AllocError>
     ensures input { kernel.new.input ≡ kernel.old.input }
     ensures posted { (state_in kernel.old).posted ≤ (state_in kernel.new).posted }
     ensures noted { OnOk result (R.has_noted recorder.old kernel.old.input (trace_of kernel.old) → R.has_noted recorder.new kernel.new.input (trace_of kernel.new)) }
+    ensures made { IfOk result (λ made. made ≡ true → kernel.new ≡ with_choice kernel.old choice) }
+    ensures step { MayHaveMade kernel.old choice kernel.new }
 {
-    match kernel.advance(alloc, choice, added) {
+    match kernel.advance(alloc, choice, &mut added.entry) {
         Ok(()) => {}
         Err(StepFault::NotEnabled) => return Ok(false),
         Err(StepFault::NoMemory) => return Err(AllocError),
     }
-    note_last(kernel, recorder, alloc, added)?;
+    note_last(kernel, recorder, alloc, &added.entry)?;
     Ok(true)
 }
 
@@ -68,21 +73,22 @@ pub fn work<R: Recorder>(
     recorder: &mut R,
     alloc: Global,
     worker: Worker,
-    added: &mut Option<Entry>,
+    added: &mut LastEntry,
 ) -> Result<Work, AllocError>
     ensures input { kernel.new.input ≡ kernel.old.input }
     ensures posted { (state_in kernel.old).posted ≤ (state_in kernel.new).posted }
     ensures noted { OnOk result (R.has_noted recorder.old kernel.old.input (trace_of kernel.old) → R.has_noted recorder.new kernel.new.input (trace_of kernel.new)) }
+    ensures step { MayHaveMade kernel.old (choices.Worker worker) kernel.new }
 {
     if !has_worker(kernel, worker) {
         return Ok(Work::Idle);
     }
-    match kernel.work(alloc, worker, added)? {
+    match kernel.work(alloc, worker, &mut added.entry)? {
         Work::Went => {}
         Work::Judge(copies) => return Ok(Work::Judge(copies)),
         Work::Idle => return Ok(Work::Idle),
     }
-    note_last(kernel, recorder, alloc, added)?;
+    note_last(kernel, recorder, alloc, &added.entry)?;
     Ok(Work::Went)
 }
 
@@ -99,14 +105,19 @@ pub fn answer<'a, R: Recorder>(
     ensures input { kernel.new.input ≡ kernel.old.input }
     ensures posted { (state_in kernel.old).posted ≤ (state_in kernel.new).posted }
     ensures noted { OnOk result (R.has_noted recorder.old kernel.old.input (trace_of kernel.old) → R.has_noted recorder.new kernel.new.input (trace_of kernel.new)) }
+    ensures step { MayHaveMade kernel.old (choices.Worker worker) kernel.new }
 {
     if !has_worker(kernel, worker) {
         return Ok(false);
     }
-    let mut added = None;
-    if kernel.answer(worker, judged, &mut added).ok().is_none() {
+    let mut answered = LastEntry::none();
+    if kernel
+        .answer(worker, judged, &mut answered.entry)
+        .ok()
+        .is_none()
+    {
         return Ok(false);
     }
-    note_last(kernel, recorder, alloc, &added)?;
+    note_last(kernel, recorder, alloc, &answered.entry)?;
     Ok(true)
 }
