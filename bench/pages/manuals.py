@@ -11,7 +11,7 @@ OPTION = re.compile(r"\.(?:It )?Fl ([\w-]+)")
 def options_of_sources():
     """Returns the options that the sources of the program and of its command line have, without their first dash."""
     found = set()
-    for crate in ("st_command", "st_diagnostics", "systrace"):
+    for crate in ("st_command", "st_usage", "systrace"):
         for path in tree.files(f"crates/{crate}/src", ".rt"):
             found.update(re.findall(r'"-(-?\w+)"', path.read_text()))
     return found
