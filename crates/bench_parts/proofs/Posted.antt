@@ -3,7 +3,7 @@ use native.Mathlib.Omega.{arith}
 use Rattle.std.proofs.Common.{◌≡◌, ◌<◌, ◌⊎◌, ℕ, ◌+◌, Bool, true, false, cond, List, [], ◌∷◌, ◌++◌, Option, Some, None, inl, inr, ap, length-append, subst}
 use Rattle.std.specs.Option.{option_map}
 use Rattle.std.specs.Prelude.{find}
-use Rattle.st_messages.specs.Messages.{HeldCalls, calls_after_post, count_in_use, is_message_of, next_seq, thread_of_number, waiting_message}
+use Rattle.st_messages.specs.Messages.{HeldCalls, calls_after_post, count_in_use, is_message_of, next_seq, thread_of_drawing, waiting_message}
 use Rattle.st_messages.specs.declared.message.Message.{Message}
 
 -- if a thread has a message after one more was added, it had one before, or the added message is its
@@ -25,8 +25,8 @@ below t tid P f (inl p) = let less = f p in omega (arith, less)
 below t tid P f (inr e) = omega (arith, e)
 
 -- if only threads below a number have messages, and the thread of this number gets one, only threads up to it have messages
-pub posted : (calls new : HeldCalls) (tid : ℕ) → ((q t : ℕ) → thread_of_number calls q ≡ Some t → t < tid) → new ≡ calls_after_post calls tid → (q t : ℕ) → thread_of_number new q ≡ Some t → t < tid + 1
-posted calls new tid all is q t e = below t tid (thread_of_number calls q ≡ Some t) (all q t) (last calls.live (waiting_message calls.next (next_seq calls) tid) q t (subst (λ (c : HeldCalls). thread_of_number c q ≡ Some t) is e))
+pub posted : (calls new : HeldCalls) (tid : ℕ) → ((q t : ℕ) → thread_of_drawing calls q ≡ Some t → t < tid) → new ≡ calls_after_post calls tid → (q t : ℕ) → thread_of_drawing new q ≡ Some t → t < tid + 1
+posted calls new tid all is q t e = below t tid (thread_of_drawing calls q ≡ Some t) (all q t) (last calls.live (waiting_message calls.next (next_seq calls) tid) q t (subst (λ (c : HeldCalls). thread_of_drawing c q ≡ Some t) is e))
 
 -- one more number is in use
 pub counted : (calls new : HeldCalls) (tid count : ℕ) → new ≡ calls_after_post calls tid → count_in_use calls ≡ count → count_in_use new ≡ count + 1

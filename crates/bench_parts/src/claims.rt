@@ -15,20 +15,20 @@ fn waiting(alloc: Global, count: u32) -> Result<Messages, AllocError>
     Ok(messages)
 }
 
-// The sum of the numbers of 64 messages, each of which is claimed.
+// The sum of the drawings of 64 messages, each of which is claimed.
 fn claim_all(mut messages: Messages) -> u64
     requires { messages.workers ≡ 1 }
 {
     let mut sum: u64 = 0;
     for _ in 0..64 {
-        if let Some(seq) = messages.claim(1) {
-            sum = sum.wrapping_add(seq);
+        if let Some(drawing) = messages.claim(1) {
+            sum = sum.wrapping_add(drawing);
         }
     }
     sum
 }
 
-/// The sum of the numbers of 64 messages that a worker claims, this many times.
+/// The sum of the drawings of 64 messages that a worker claims, this many times.
 pub fn claims(alloc: Global, count: u64) -> Result<u64, AllocError> {
     let mut sum: u64 = 0;
     for _ in 0..count {

@@ -20,8 +20,8 @@ pub type Obj = u32;
 /// The drawing of a message: 1 for the message that is posted first, 2 for the next, and so on. None comes again.
 pub type Drawing = u64;
 
-/// The sequence number by which entries name a message: its drawing.
-pub type Seq = u64;
+/// The sequence number by which entries name a message: from 1 to 65,535, and then again from 1, without those in use.
+pub type Seq = u16;
 
 /// The ids of a process: its real and effective user and group, as in credentials(7) and setuid(2).
 #[derive(Clone, Copy, Debug, PartialEq, Eq)]

@@ -36,6 +36,13 @@ impl<T> Sequence<T> {
         })
     }
 
+    /// The items of a vector, in order. It takes no memory.
+    pub fn of(items: Vec<T>) -> Self
+        ensures { result ≡ items.items }
+    {
+        Sequence { items }
+    }
+
     /// The items, in order.
     pub fn as_slice(&self) -> &[T]
         ensures { result.now ≡ self.now }

@@ -1,11 +1,10 @@
 -- Which threads and workers can move.
-use Rattle.std.proofs.Common.{◌≡◌, ◌∙◌, ◌<◌, ◌&&◌, ◌||◌, not, ℕ, arith, Bool, Bor, true, false, Option, Some, None, refl, ap, sym, true≢false}
+use Rattle.std.proofs.Common.{◌≡◌, ◌∙◌, ◌<◌, ◌&&◌, ◌||◌, not, ℕ, arith, Bool, true, false, Option, Some, None, refl, ap, sym, true≢false}
 use Rattle.std.proofs.lemmas.Bool.{eqb-true}
 use Rattle.std.proofs.lemmas.Option.{none-some, same_Some}
-use Rattle.std.specs.Option.{option_copied, option_map}
-use Rattle.std.specs.Prelude.{is_none, is_some, IfSome}
+use Rattle.std.specs.Option.{option_map}
+use Rattle.std.specs.Prelude.{is_some, IfSome}
 use Rattle.st_base.specs.declared.errno.Errno.{Errno}
-use Rattle.st_calls.specs.declared.judged.Snapshot.{Snapshot}
 use Rattle.st_trace.specs.declared.entry.Way.TheVariants.{Held}
 use Rattle.st_base.specs.Numbered.{item_at_number}
 use Rattle.st_messages.specs.declared.message.MsgState.{MsgState}
@@ -26,12 +25,12 @@ use Rattle.st_workers.specs.declared.task.Task.{Task}
 use Rattle.st_workers.specs.declared.task.Task.TheVariants.{Rest, Claim, Copy, Look as LookAt, Fault, Answer}
 use Rattle.st_decide.specs.Enabled.{is_faulted_or_answered, is_work}
 use Rattle.st_decide.specs.Machine.{Refines, Running}
-use Rattle.st_decide.specs.Questions.{CanBeMadeOrDenied, IsQuestion}
-use Rattle.st_threads.specs.Thread.{ThreadRow, IsRow, number_held}
+use Rattle.st_decide.specs.Questions.{CanBeMadeOrDenied}
+use Rattle.st_threads.specs.Thread.{ThreadRow, IsRow, drawing_held}
 use Rattle.st_decide.proofs.HeldCalls.{are_held}
 use Rattle.st_decide.proofs.NextSteps.{owner_is, row_of}
 use Rattle.st_decide.proofs.Reached.{reached_of}
-use Rattle.st_threads.proofs.Rows.{Holds, held_number, holds}
+use Rattle.st_threads.proofs.Rows.{Holds, drawing_of_held, holds}
 
 module _ (m : Running) (st : State) (is : Refines m st) (t : ℕ) where
   -- a thread that is still adds no entry
@@ -56,15 +55,15 @@ module _ (m : Running) (st : State) (is : Refines m st) (t : ℕ) where
     running free unasked (awaiting waits) = free waits
     running free unasked (asking asks) = unasked asks
 
-    holds_none : number_held row ≡ None → (entered : PendingCall) → (st.threads t).dying ≡ false → (st.threads t).pending ≡ Some entered → (first : ℕ) → entered.way ≡ Held first → ⊥
-    holds_none none entered undying pending first way = none-some row.number (sym none ∙ held_number row (sym its.dying ∙ undying) entered (sym its.pending ∙ pending) first way)
+    holds_none : drawing_held row ≡ None → (entered : PendingCall) → (st.threads t).dying ≡ false → (st.threads t).pending ≡ Some entered → (first : ℕ) → entered.way ≡ Held first → ⊥
+    holds_none none entered undying pending first way = none-some row.number (sym none ∙ drawing_of_held row (sym its.dying ∙ undying) entered (sym its.pending ∙ pending) first way)
 
     -- a thread that holds no call can move
-    pub free_moves : number_held row ≡ None → true ≡ is_some (thread_entry m.input st t)
+    pub free_moves : drawing_held row ≡ None → true ≡ is_some (thread_entry m.input st t)
     free_moves none = can (running (λ waits. holds_none none waits.entered waits.undying waits.pending waits.first waits.way) (λ asks. holds_none none asks.entered asks.undying asks.pending asks.first asks.way))
 
     -- a thread that holds a call can move if its message was faulted or answered, and is no question
-    module _ (q : ℕ) (held : number_held row ≡ Some q) where
+    module _ (q : ℕ) (held : drawing_held row ≡ Some q) where
       x : Holds row q
       x = holds row q held
 
@@ -115,24 +114,13 @@ come_by i st q (Some (Claimed w)) come live = sym (λ k. is_some (come.1.fault k
 come_by i st q (Some (Answered v)) come live = sym (λ k. is_some (come.1.fault k) || come.1.answered k)
 come_by i st q (Some (Faulted errno)) come live = sym (λ k. is_some (come.1.fault k) || come.1.answered k)
 
--- an option that isn't some is none
-pub none_of : {X : Type 0} (o : Option (Bor X)) (b : Bool) → is_some o ≡ not b → b ≡ is_none (option_copied o)
-none_of None true e = refl
-none_of None false e = cc
-none_of (Some x) true e = cc
-none_of (Some x) false e = refl
-
 -- a held call whose message was neither faulted nor answered isn't over
 pub not_over : (i : Input) (st : State) (q : ℕ) (o : Option MsgState) → IsMessageStateOf i st q o → is_faulted_or_answered o ≡ false → CanBeMadeOrDenied i st q false
 not_over i st q o come none live = ap (λ (b : Bool). b && not (is_question i st q)) (sym none ∙ come_by i st q o come live)
 
 -- a held call whose message was faulted or answered is over if it is no question
-pub over_by : (m : Running) (st : State) → Refines m st → (q : ℕ) (o : Option MsgState) → IsMessageStateOf m.input st q o → is_faulted_or_answered o ≡ true → (found : Option Snapshot) → IsQuestion m q found → CanBeMadeOrDenied m.input st q (is_none found)
-over_by m st is q o come has None question live = (λ k. (sym has ∙ come_by m.input st q o come live) k && not (sym (question st is) k))
-over_by m st is q o come has (Some copies) question live = sym (ap (λ (b : Bool). (is_some (st.messages q).fault || (st.messages q).answered) && not b) (question st is).0 ∙ and_no (is_some (st.messages q).fault || (st.messages q).answered)) where
-  and_no : (b : Bool) → (b && false) ≡ false
-  and_no true = refl
-  and_no false = refl
+pub over_by : (m : Running) (st : State) (q : ℕ) (o : Option MsgState) → IsMessageStateOf m.input st q o → is_faulted_or_answered o ≡ true → (asks : Bool) → is_question m.input st q ≡ asks → CanBeMadeOrDenied m.input st q (not asks)
+over_by m st q o come has asks question live = (λ k. true && not (sym question k)) ∙ ap (λ (b : Bool). b && not (is_question m.input st q)) (sym has ∙ come_by m.input st q o come live)
 
 -- a worker can move iff it has something to do
 pub work_moves : (i : Input) (st : State) (kept : UnderWay) (worker : ℕ) (task : Task) → IsTask i st kept worker task → is_work task ≡ is_some (worker_entry i st worker)

@@ -1,10 +1,11 @@
 pub mod SameRule
 pub mod Asked
 mod Enabling
+pub mod FewCalls
 mod Fits
 pub mod HeldCalls
 pub mod NextSteps
-mod Questions
+pub mod Questions
 pub mod Reached
 mod Running
 pub mod Started

@@ -31,7 +31,7 @@ use Rattle.st_decide.specs.Step.{step_entry}
 use Rattle.st_threads.specs.Thread.{ThreadRow, IsWayHeld, IsRow, IsRowOf}
 use Rattle.st_decide.specs.declared.step.Step.{Step}
 use Rattle.st_decide.proofs.Reached.{reached_of}
-use Rattle.st_threads.proofs.Rows.{held_number}
+use Rattle.st_threads.proofs.Rows.{drawing_of_held}
 
 module _ (m : Running) (st : State) (is : Refines m st) (t : ℕ) where
   pub row_of : (row : ThreadRow) → item_at_number m.threads t ≡ Some row → IsRow row (st.threads t)
@@ -107,7 +107,7 @@ module _ (m : Running) (st : State) (is : Refines m st) (t pid drawing : ℕ) (e
   row_its = row_of m st is t x.row x.row_is
 
   number_by : (way : Way) → entered.way ≡ way → IsWayHeld way → (st.threads t).number ≡ drawing
-  number_by (Held first) e held = row_its.number x.row.number (held_number x.row x.undying entered x.pending first e) ∙ pending.number
+  number_by (Held first) e held = row_its.number x.row.number (drawing_of_held x.row x.undying entered x.pending first e) ∙ pending.number
   number_by Fast e held = absurd held
   number_by (Barred n) e held = absurd held
   number_by Untraced e held = absurd held

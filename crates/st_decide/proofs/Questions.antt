@@ -19,9 +19,13 @@ use Rattle.st_law.specs.Machine.{decided_entry}
 use Rattle.st_law.specs.Sessions.{SessionFilter, session_filters, verdict_or}
 use Rattle.st_law.specs.State.{State, decision_in, operator_decides, is_live, is_open_question, is_question, is_undecided, read_at, snapshot_in}
 use Rattle.st_law.proofs.Standing.{read_decides}
-use Rattle.st_learn.specs.Operator.{answers}
+use Rattle.st_filter.specs.Policies.{read_filters}
+use Rattle.st_law.specs.declared.input.Mode.{Mode}
+use Rattle.st_law.specs.declared.input.Mode.TheVariants.{Enforce, Learn, AskText}
+use Rattle.st_learn.specs.Operator.{answers, operator_answers, Added}
 use Rattle.st_learn.proofs.Replies.{asked_same}
-use Rattle.st_workers.specs.Refinement.{IsMessageStateOf, RepresentsMessages}
+use Rattle.st_workers.specs.Refinement.{drawn_copies, HasAnswer, IsMessageStateOf, RepresentsMessages}
+use Rattle.st_workers.proofs.Copies.{same_verdict}
 use Rattle.st_decide.specs.Machine.{Refines, Running}
 use Rattle.st_decide.specs.NextSteps.{IsDecidedStep, IsDecision, IsPermittedStep}
 use Rattle.st_decide.specs.Questions.{is_unmatched, later_decision, session_verdict}
@@ -129,6 +133,21 @@ module _ (m : Running) (st : State) (is : Refines m st) (q : ℕ) where
   no_question (Some (Answered (Permit n ids))) come e = decided (Permit n ids) (λ x. cc) refl come
   no_question (Some (Answered (Refuse n errno))) come e = decided (Refuse n errno) (λ x. cc) refl come
   no_question (Some (Answered Unmatched)) come e = cc
+
+-- the number in copies tells nothing of whether the operator would answer, and nothing of the decision on them
+pub answers_drawn : (added : Added) (q : ℕ) (s : Snapshot) (mode : Mode) → operator_answers added (drawn_copies q s) mode ≡ operator_answers added s mode
+answers_drawn added q s Enforce = refl
+answers_drawn added q s Learn = refl
+answers_drawn added q s AskText = refl
+
+pub later_drawn : (m : Running) (q : ℕ) (s : Snapshot) → later_decision m (drawn_copies q s) ≡ later_decision m s
+later_drawn m q s = λ k. if is_undecided (same k) && answers_drawn m.operator q s m.input.options.mode k then None else Some (same k) where
+  same : session_verdict m (drawn_copies q s) ≡ session_verdict m s
+  same = same_verdict q s (suc (length (read_filters m.input.policies s.policy s.rule))) (session_filters m.operator.filters s.policy s.rule)
+
+-- an unmatched message is answered
+pub unmatched_answered : (o : Option MsgState) → is_unmatched o ≡ true → HasAnswer o
+unmatched_answered o e = subst HasAnswer (sym (unmatched_is o e)) tt
 
 none_if : (b : Bool) (v : Verdict) → b ≡ not (is_some (if b then None else Some v))
 none_if true v = refl

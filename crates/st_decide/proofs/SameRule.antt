@@ -23,10 +23,10 @@ use Rattle.st_reached.proofs.Reached.{held_live}
 use Rattle.st_workers.specs.Refinement.{IsLive, head_of}
 use Rattle.st_workers.specs.UnderWay.{found_in}
 use Rattle.st_workers.proofs.Ended.{lives_as}
-use Rattle.st_threads.specs.Ending.{HasNumber}
+use Rattle.st_threads.specs.Ending.{HasDrawing}
 use Rattle.st_decide.specs.Holding.{is_same_rule, is_held_alike, held_head, message_held, message_of, held_drawing}
 use Rattle.st_decide.specs.Machine.{Refines, Running}
-use Rattle.st_threads.specs.Thread.{ThreadRow, number_held}
+use Rattle.st_threads.specs.Thread.{ThreadRow, drawing_held}
 use Rattle.st_decide.proofs.HeldCalls.{are_held}
 use Rattle.st_decide.proofs.Reached.{reached_of}
 
@@ -46,28 +46,28 @@ module _ (m : Running) (st : State) (is : Refines m st) where
       ap (option_map (λ (slot : Slot). slot.head)) x.slot_is ∙ ap Some (sym same)
 
   -- a number that has a thread among the held calls is live
-  pub threaded_lives : (q t : ℕ) → calls.thread_of_number m.workers.calls q ≡ Some t → calls.is_live_number m.workers.calls q ≡ true
-  threaded_lives q t there = by (calls.message_of_number m.workers.calls q) there where
+  pub threaded_lives : (q t : ℕ) → calls.thread_of_drawing m.workers.calls q ≡ Some t → calls.is_live_drawing m.workers.calls q ≡ true
+  threaded_lives q t there = by (calls.message_of_drawing m.workers.calls q) there where
     by : (o : Option message.Message) → option_map (λ (it : message.Message). it.tid) o ≡ Some t → is_some o ≡ true
     by None e = absurd (none-some t e)
     by (Some it) e = refl
 
-  pub threaded_message : (q t : ℕ) → calls.thread_of_number m.workers.calls q ≡ Some t → (head : kept.Head) → IfSome (slot_at m.workers.slots q) (λ slot. head ≡ slot.head) → held_head m q ≡ Some head
+  pub threaded_message : (q t : ℕ) → calls.thread_of_drawing m.workers.calls q ≡ Some t → (head : kept.Head) → IfSome (slot_at m.workers.slots q) (λ slot. head ≡ slot.head) → held_head m q ≡ Some head
   threaded_message q t there = found_message q (sym (lives_as m.input st (is_live st) m.workers q is.workers) ∙ threaded_lives q t there)
 
   -- a number without a thread has no message
-  pub threadless_message : (q : ℕ) → calls.thread_of_number m.workers.calls q ≡ None → held_head m q ≡ None
+  pub threadless_message : (q : ℕ) → calls.thread_of_drawing m.workers.calls q ≡ None → held_head m q ≡ None
   threadless_message q none = by (is_live st q) refl where
     by : (b : Bool) → is_live st q ≡ b → held_head m q ≡ None
     by true live = absurd (none-some (is.workers.agrees.live q live).tid (sym none ∙ (is.workers.agrees.live q live).thread_is))
     by false dead = ap (option_map (λ (slot : Slot). slot.head)) (is.workers.agrees.dead q dead).slot
 
-  pub held_lives : (t : ℕ) (row : ThreadRow) (q : ℕ) → item_at_number m.threads t ≡ Some row → number_held row ≡ Some q → calls.is_live_number m.workers.calls q ≡ true
+  pub held_lives : (t : ℕ) (row : ThreadRow) (q : ℕ) → item_at_number m.threads t ≡ Some row → drawing_held row ≡ Some q → calls.is_live_drawing m.workers.calls q ≡ true
   held_lives t row q row_is held = lives_as m.input st (is_live st) m.workers q is.workers ∙ ((are_held m st is).lives t row q row_is held).lives
 
   -- ---- a thread that holds a call
 
-  numbered : (o : Option ThreadRow) (q : ℕ) → HasNumber o q → held_drawing o ≡ Some q
+  numbered : (o : Option ThreadRow) (q : ℕ) → HasDrawing o q → held_drawing o ≡ Some q
   numbered None q has = absurd has
   numbered (Some row) q has = has
 
@@ -75,7 +75,7 @@ module _ (m : Running) (st : State) (is : Refines m st) where
   number_is t x =
       let live : HasLiveNumber st t = (held_live m.input st (reached_of m.input st is.reached)).held t x.entered x.first x.pending x.way x.undying in
       numbered (item_at_number m.threads t) (st.threads t).number
-      (subst (λ (n : ℕ). HasNumber (item_at_number m.threads n) (st.threads t).number) live.own ((are_held m st is).own (st.threads t).number live.head live.live live.posted))
+      (subst (λ (n : ℕ). HasDrawing (item_at_number m.threads n) (st.threads t).number) live.own ((are_held m st is).own (st.threads t).number live.head live.live live.posted))
 
   holder_live : (t : ℕ) → IsHolder st t → is_live st (st.threads t).number ≡ true
   holder_live t x = ((held_live m.input st (reached_of m.input st is.reached)).held t x.entered x.first x.pending x.way x.undying).live
@@ -121,6 +121,6 @@ module _ (m : Running) (st : State) (is : Refines m st) where
   held_alike q t holds = alike_by q t (st.threads t).pending refl holds
 
   -- the message of a thread's held call is found
-  pub message_there : (t : ℕ) (row : ThreadRow) (q : ℕ) → item_at_number m.threads t ≡ Some row → number_held row ≡ Some q → (head : kept.Head) → IfSome (slot_at m.workers.slots q) (λ slot. head ≡ slot.head) → message_held m t ≡ Some head
+  pub message_there : (t : ℕ) (row : ThreadRow) (q : ℕ) → item_at_number m.threads t ≡ Some row → drawing_held row ≡ Some q → (head : kept.Head) → IfSome (slot_at m.workers.slots q) (λ slot. head ≡ slot.head) → message_held m t ≡ Some head
   message_there t row q row_is held head found =
       ap (λ (o : Option ThreadRow). message_of m (held_drawing o)) row_is ∙ ap (message_of m) held ∙ found_message q ((are_held m st is).lives t row q row_is held).lives head found

@@ -3,6 +3,7 @@ use Rattle.std.specs.Prelude.{◌≡◌, ℕ, suc, if◌then◌else◌, List}
 use Rattle.st_calls.specs.declared.call.SysCall.{SysCall}
 use Rattle.st_lookaside.specs.Need.{IsShort}
 use Rattle.st_lookaside.specs.declared.head.Head as kept
+use Rattle.st_messages.specs.Messages.{next_seq}
 use Rattle.st_trace.specs.declared.entry.Way.{Way}
 use Rattle.st_trace.specs.declared.entry.Way.TheVariants.{Fast, Barred, Held, Untraced}
 use Rattle.st_law.specs.declared.input.Input.{Input}
@@ -28,8 +29,9 @@ IsUnposted (Barred n) = Unit {0}
 IsUnposted Untraced = Unit {0}
 IsUnposted (Held q) = ⊥
 
--- the head of the message of a call that is held under the next number
+-- the head of the message of a call that is held under the next drawing
 pub record IsHeadOf (m : Running) (new : NewCall) (head : kept.Head) : Type 0 where
   pub drawing_is : head.drawing ≡ m.workers.calls.next
+  pub seq_is : head.seq ≡ next_seq m.workers.calls
   pub short : IsShort head.cwd
   pub law : (st : State) (t : ℕ) → Refines m st → head_of t head ≡ new_head m.input t new.pid (st.processes new.pid) new.call new.regs

@@ -7,21 +7,21 @@ use Rattle.st_lookaside.specs.Slot.{Slot}
 use Rattle.st_lookaside.specs.Slots.{slot_at}
 use Rattle.st_lookaside.specs.declared.head.Head.{Head}
 use Rattle.st_decide.specs.Machine.{Running}
-use Rattle.st_threads.specs.Thread.{ThreadRow, number_held}
+use Rattle.st_threads.specs.Thread.{ThreadRow, drawing_held}
 
--- the message of a number, if the number is live
+-- the message of a drawing, if the drawing is live
 abbrev pub held_head : Running → ℕ → Option Head
 held_head m drawing = option_map (λ (slot : Slot). slot.head) (slot_at m.workers.slots drawing)
 
--- the message of an optional number
+-- the message of an optional drawing
 abbrev pub message_of : Running → Option ℕ → Option Head
 message_of m None = None
 message_of m (Some drawing) = held_head m drawing
 
--- the number of the call that a thread holds, by its row
+-- the drawing of the call that a thread holds, by its row
 abbrev pub held_drawing : Option ThreadRow → Option ℕ
 held_drawing None = None
-held_drawing (Some row) = number_held row
+held_drawing (Some row) = drawing_held row
 
 -- the message of the call that a thread holds
 abbrev pub message_held : Running → ℕ → Option Head

@@ -12,6 +12,7 @@ use Rattle.st_learn.specs.Operator.{Added, IsAdded}
 use Rattle.st_reached.specs.Grants.{RepliesUngranted, SetIdsUngranted}
 use Rattle.st_reached.specs.Scripts.{IsBounded}
 use Rattle.st_system.specs.System.{IsSystem, Parts}
+use Rattle.st_workers.specs.Numbers.{CarriesEntry, IsNumbered}
 use Rattle.st_workers.specs.Refinement.{RepresentsMessages}
 use Rattle.st_workers.specs.Tasks.{task_of, IsTask, CanServe}
 use Rattle.st_workers.specs.UnderWay.{UnderWay}
@@ -58,16 +59,21 @@ pub record RefinesSomeState (m : Running) : Type 0 where
 abbrev pub IsNextStep : Running → ℕ → Step → Type 0
 IsNextStep m t step = (st : State) → Refines m st → thread_entry m.input st t ≡ step_entry m.input st t step
 
--- the machine that runs still represents each state that it represented before
+-- the machine that runs still represents each state that it represented before, and its held calls are the same
 abbrev pub SameState : Running → Running → Type 0
-SameState old new = (st : State) → Refines old st → Refines new st
+SameState old new = (st : State) → Refines old st → Refines new st × (new.workers.calls ≡ old.workers.calls)
 
--- a choice adds this entry, and the machine that runs goes on by it; or it adds none, and the machine still represents the same state
+-- a choice adds this entry of drawings, and the machine that runs goes on by it, with the law's numbers
+abbrev pub IsDrawnStep : Running → Choice → Entry → Running → Type 0
+IsDrawnStep old c e new = (st : State) → Refines old st → (entry_of old.input st c ≡ Some e) × Refines new (state_after old.input st e) × CarriesEntry e old.workers new.workers
+
+-- a choice adds this entry of numbers, and the machine that runs goes on by the entry of their drawings; or it adds none, and the machine
+-- still represents the same state
 abbrev pub IsStep : Running → Choice → Option Entry → Running → Type 0
-IsStep old c None new = (st : State) → Refines old st → (entry_of old.input st c ≡ None) × Refines new st
-IsStep old c (Some e) new = (st : State) → Refines old st → (entry_of old.input st c ≡ Some e) × Refines new (state_after old.input st e)
+IsStep old c None new = (st : State) → Refines old st → (entry_of old.input st c ≡ None) × Refines new st × (new.workers.calls ≡ old.workers.calls)
+IsStep old c (Some given) new = (e : Entry) × IsDrawnStep old c e new × IsNumbered e given old.workers
 
--- this is what a worker does next, here and in the law's machine; the number that the task names is live, and a word that it copies is
+-- this is what a worker does next, here and in the law's machine; the drawing that the task names is live, and a word that it copies is
 -- inside memory
 pub record HasTask (m : Running) (worker : ℕ) (task : Task) : Type 0 where
   pub here : task_of m.workers worker ≡ task

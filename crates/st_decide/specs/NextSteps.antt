@@ -41,13 +41,13 @@ pub record HasEntered (m : Running) (t pid : ℕ) (entered : PendingCall) : Type
   pub unended : row.ended ≡ false
   pub caller : IsInProcess m.system t pid
 
--- the same, and if the call is held, it has this number
+-- the same, and if the call is held, it has this drawing
 pub record HasPending (m : Running) (t pid : ℕ) (entered : PendingCall) (drawing : ℕ) : Type 0 where
   pub has : HasEntered m t pid entered
   pub number : has.row.number ≡ drawing
 
--- a thread of a process holds a call under this number
-pub record HoldsNumber (m : Running) (t pid drawing : ℕ) : Type 0 where
+-- a thread of a process holds a call under this drawing
+pub record HoldsDrawing (m : Running) (t pid drawing : ℕ) : Type 0 where
   pub entered : PendingCall
   pub pending : HasPending m t pid entered drawing
   pub held : IsWayHeld entered.way
@@ -71,7 +71,7 @@ abbrev pub IsBarredStep : Running → ℕ → PendingCall → ℕ → Step → T
 IsBarredStep m t entered number step =
     (st : State) → Refines m st → barred_entry t number (answer_in m.input st (process_in st t) entered.call entered.regs) ≡ step_entry m.input st t step
 
--- the step of a call that is held under this number
+-- the step of a call that is held under this drawing
 abbrev pub IsHeldStep : Running → ℕ → ℕ → Step → Type 0
 IsHeldStep m t drawing step = (st : State) → Refines m st → held_entry m.input st t drawing (st.messages drawing).fault ≡ step_entry m.input st t step
 

@@ -8,24 +8,26 @@ use Rattle.st_calls.specs.declared.judged.Verdict.TheVariants.{Unmatched}
 use Rattle.st_filter.specs.Judging.{verdict_from}
 use Rattle.st_messages.specs.declared.message.MsgState.{MsgState}
 use Rattle.st_messages.specs.declared.message.MsgState.TheVariants.{Answered}
+use Rattle.st_messages.specs.Messages.{message_state}
+use Rattle.st_workers.specs.Refinement.{HasAnswer}
 use Rattle.st_law.specs.declared.input.Input.{Input}
 use Rattle.st_learn.specs.Deciding.{lesser}
 use Rattle.st_learn.specs.Operator.{answers}
 use Rattle.st_law.specs.Machine.{least_question}
 use Rattle.st_law.specs.Sessions.{session_filters}
 use Rattle.st_filter.specs.Policies.{read_filters}
-use Rattle.st_law.specs.State.{State, is_live, is_question, is_undecided, snapshot_in}
+use Rattle.st_law.specs.State.{State, is_live, is_question, is_undecided}
 use Rattle.st_decide.specs.Machine.{Refines, Running}
-use Rattle.st_threads.specs.Thread.{ThreadRow, number_held}
+use Rattle.st_threads.specs.Thread.{ThreadRow, drawing_held}
 
 -- whether a message was answered, and no filter that was read decides
 abbrev pub is_unmatched : Option MsgState → Bool
 is_unmatched (Some (Answered Unmatched)) = true
 is_unmatched _ = false
 
--- the least number that a thread holds, if any thread holds one
+-- the least drawing that a thread holds, if any thread holds one
 abbrev pub least_held : List ThreadRow → Option ℕ
-least_held rows = fold (λ least row. lesser least (number_held row)) None rows
+least_held rows = fold (λ least row. lesser least (drawing_held row)) None rows
 
 -- the verdict of the session's filters on copies; the filters are numbered on after those that were read
 abbrev pub session_verdict : Running → Snapshot → Verdict
@@ -36,42 +38,37 @@ session_verdict m s = verdict_from (suc (length (read_filters m.input.policies s
 abbrev pub later_decision : Running → Snapshot → Option Verdict
 later_decision m s = if is_undecided (session_verdict m s) && answers m.input m.operator s then None else Some (session_verdict m s)
 
--- a number is a question with these copies, or it is no question
-abbrev pub IsQuestion : Running → ℕ → Option Snapshot → Type 0
-IsQuestion m drawing None = (st : State) → Refines m st → is_question m.input st drawing ≡ false
-IsQuestion m drawing (Some copies) = (st : State) → Refines m st → (is_question m.input st drawing ≡ true) × (snapshot_in st drawing ≡ Some copies)
+-- a drawing that was found is an answered question
+abbrev pub IsFound : Running → Option ℕ → Type 0
+IsFound m None = Unit {0}
+IsFound m (Some q) = HasAnswer (message_state m.workers.calls q) × ((st : State) → Refines m st → is_question m.input st q ≡ true)
 
--- these are the copies of a question, if there are any
-abbrev pub AreQuestionCopies : Running → Option Snapshot → Type 0
-AreQuestionCopies m None = Unit {0}
-AreQuestionCopies m (Some copies) = (st : State) → Refines m st → (is_question m.input st copies.seq ≡ true) × (snapshot_in st copies.seq ≡ Some copies)
-
--- a question was found, with this number or a smaller one
-abbrev pub IsAtMost : Option Snapshot → ℕ → Type 0
+-- a question was found, with this drawing or a smaller one
+abbrev pub IsAtMost : Option ℕ → ℕ → Type 0
 IsAtMost None drawing = ⊥
-IsAtMost (Some copies) drawing = copies.seq ≤ drawing
+IsAtMost (Some q) drawing = q ≤ drawing
 
--- whether a question was found, with this number or a smaller one
-abbrev pub is_at_most : Option Snapshot → ℕ → Bool
+-- whether a question was found, with this drawing or a smaller one
+abbrev pub is_at_most : Option ℕ → ℕ → Bool
 is_at_most None drawing = false
-is_at_most (Some copies) drawing = nat_le copies.seq drawing
+is_at_most (Some q) drawing = nat_le q drawing
 
--- the lesser of two questions: the question that was found before, and this number if it is a question
-pub record IsLeastWith (m : Running) (least : Option Snapshot) (drawing : ℕ) (found : Option Snapshot) : Type 0 where
-  pub question : AreQuestionCopies m least → AreQuestionCopies m found
+-- the lesser of two questions: the question that was found before, and this drawing if it is a question
+pub record IsLeastWith (m : Running) (least : Option ℕ) (drawing : ℕ) (found : Option ℕ) : Type 0 where
+  pub question : IsFound m least → IsFound m found
   pub before : (st : State) → Refines m st → (other : ℕ) → IsAtMost least other → IsAtMost found other
   pub this : (st : State) → Refines m st → is_question m.input st drawing ≡ true → IsAtMost found drawing
 
 -- the least of the questions that the first so many threads hold
-pub record IsLeastAmong (m : Running) (count : ℕ) (found : Option Snapshot) : Type 0 where
-  pub question : AreQuestionCopies m found
-  pub least : (t drawing : ℕ) (row : ThreadRow) → t ≤ count → item_at_number m.threads t ≡ Some row → number_held row ≡ Some drawing → (st : State) → Refines m st → is_question m.input st drawing ≡ true → IsAtMost found drawing
+pub record IsLeastAmong (m : Running) (count : ℕ) (found : Option ℕ) : Type 0 where
+  pub question : IsFound m found
+  pub least : (t drawing : ℕ) (row : ThreadRow) → t ≤ count → item_at_number m.threads t ≡ Some row → drawing_held row ≡ Some drawing → (st : State) → Refines m st → is_question m.input st drawing ≡ true → IsAtMost found drawing
 
--- the least question, or none
-abbrev pub IsLeastFound : Running → Option Snapshot → Type 0
+-- the least question, which is answered, or none
+abbrev pub IsLeastFound : Running → Option ℕ → Type 0
 IsLeastFound m None = (st : State) → Refines m st → least_question m.input st ≡ None
-IsLeastFound m (Some copies) = (st : State) → Refines m st → (least_question m.input st ≡ Some copies.seq) × (is_question m.input st copies.seq ≡ true) × (snapshot_in st copies.seq ≡ Some copies)
+IsLeastFound m (Some q) = HasAnswer (message_state m.workers.calls q) × ((st : State) → Refines m st → (least_question m.input st ≡ Some q) × (is_question m.input st q ≡ true))
 
--- whether the call of a live number can be made or denied: its message was faulted or answered, and is no question
+-- whether the call of a live drawing can be made or denied: its message was faulted or answered, and is no question
 abbrev pub CanBeMadeOrDenied : Input → State → ℕ → Bool → Type 0
 CanBeMadeOrDenied i st drawing over = is_live st drawing ≡ true → over ≡ ((is_some (st.messages drawing).fault || (st.messages drawing).answered) && not (is_question i st drawing))

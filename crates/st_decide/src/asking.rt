@@ -1,14 +1,16 @@
 // Finds the questions that the operator can answer.
-ghost use Rattle.std.specs.Prelude.{◌≡◌, Some, is_some, option_copied, IfSome};
+ghost use Rattle.std.specs.Prelude.{◌≡◌, true, Some, is_some, IfSome};
 ghost use Rattle.st_law.specs.Machine.{entry_of};
-ghost use Rattle.st_law.specs.State.{State, is_undecided};
+ghost use Rattle.st_law.specs.State.{State, is_question, is_undecided};
+ghost use Rattle.st_messages.specs.Messages.{message_state};
+ghost use Rattle.st_workers.specs.Refinement.{HasAnswer};
 ghost use Rattle.st_decide.specs.Machine.{Refines};
 ghost use Rattle.st_learn.specs.Deciding.{lesser};
-ghost use Rattle.st_decide.specs.Questions.{is_at_most, is_unmatched, later_decision, least_held, session_verdict, IsLeastFound, IsLeastWith, IsQuestion};
+ghost use Rattle.st_decide.specs.Questions.{is_at_most, is_unmatched, later_decision, least_held, session_verdict, IsLeastFound, IsLeastWith};
 ghost use Rattle.st_trace.specs.declared.entry.Choice.TheVariants.{Operator};
 
 use crate::view::View;
-use st_base::{Drawing, Shared};
+use st_base::Drawing;
 use st_calls::{Snapshot, Verdict};
 use st_messages::MsgState;
 
@@ -26,18 +28,18 @@ fn is_undecided(verdict: Verdict) -> bool
     matches!(verdict, Verdict::Unmatched)
 }
 
-// Whether a question was found with this number or a smaller one.
-fn is_at_most(least: Option<&Shared<Snapshot>>, drawing: Drawing) -> bool
-    ensures { result ≡ is_at_most (option_copied least.entry) drawing }
+// Whether a question was found with this drawing or a smaller one.
+fn is_at_most(least: Option<Drawing>, drawing: Drawing) -> bool
+    ensures { result ≡ is_at_most least drawing }
 {
     match least {
-        Some(copies) => copies.get().seq <= drawing,
+        Some(found) => found <= drawing,
         None => false,
     }
 }
 
-// The lesser of two numbers, or the only one that exists.
-fn lesser_number(one: Option<Drawing>, other: Option<Drawing>) -> Option<Drawing>
+// The lesser of two drawings, or the only one that exists.
+fn lesser_drawing(one: Option<Drawing>, other: Option<Drawing>) -> Option<Drawing>
     ensures { result ≡ lesser one other }
 {
     match (one, other) {
@@ -66,58 +68,61 @@ impl<'v, 'a> View<'v, 'a> {
         Some(verdict)
     }
 
-    // The copies of a number if it is a question: it is answered, no filter decides it, and the operator would answer it.
-    pub(crate) fn question(&self, drawing: Drawing) -> Option<&'v Shared<Snapshot>>
-        ensures { IsQuestion self.now drawing (option_copied result) }
+    // Whether a drawing is a question: it is answered, no filter decides it, and the operator would answer it.
+    pub(crate) fn is_question(&self, drawing: Drawing) -> bool
+        ensures question { (st : State) → Refines self.now st → is_question self.now.input st drawing ≡ result }
+        ensures answered { result ≡ true → HasAnswer (message_state self.now.workers.calls drawing) }
     {
         if !is_unmatched(self.workers.state(drawing)) {
-            return None;
+            return false;
         }
         let copies = self.workers.snapshot(drawing);
-        if self.later_decision(copies.get()).is_some() {
-            return None;
+        match self.later_decision(copies.get()) {
+            None => true,
+            Some(_) => false,
         }
-        Some(copies)
     }
 
-    // The lesser of two questions: the question that was found before, and this number if it is a question.
-    fn lesser(
-        &self,
-        least: Option<&'v Shared<Snapshot>>,
-        drawing: Drawing,
-    ) -> Option<&'v Shared<Snapshot>>
-        ensures { IsLeastWith self.now (option_copied least.entry) drawing (option_copied result) }
+    // The lesser of two questions: the question that was found before, and this drawing if it is a question.
+    fn lesser(&self, least: Option<Drawing>, drawing: Drawing) -> Option<Drawing>
+        ensures { IsLeastWith self.now least drawing result }
     {
         if is_at_most(least, drawing) {
             return least;
         }
-        match self.question(drawing) {
-            Some(copies) => Some(copies),
-            None => least,
+        if self.is_question(drawing) {
+            Some(drawing)
+        } else {
+            least
         }
     }
 
-    // The least number of a call that a thread holds.
+    // The least drawing of a call that a thread holds.
     fn least_held(&self) -> Option<Drawing>
         ensures { result ≡ least_held self.now.threads }
     {
         let mut least = None;
         for thread in self.threads {
-            least = lesser_number(least, thread.drawing_held());
+            least = lesser_drawing(least, thread.drawing_held());
         }
         least
     }
 
-    // The copies of the least number that is held, if it is a question. Then it is the least question.
-    fn first_held_question(&self) -> Option<&'v Shared<Snapshot>>
-        ensures { IfSome (option_copied result) (λ copies. IsLeastFound self.now (Some copies)) }
+    // The least drawing that is held, if it is a question. Then it is the least question.
+    fn first_held_question(&self) -> Option<Drawing>
+        ensures { IfSome result (λ drawing. IsLeastFound self.now (Some drawing)) }
     {
-        self.question(self.least_held()?)
+        let drawing = self.least_held()?;
+        if self.is_question(drawing) {
+            Some(drawing)
+        } else {
+            None
+        }
     }
 
-    // The copies of the least question, by a look at each call that is held.
-    fn least_held_question(&self) -> Option<&'v Shared<Snapshot>>
-        ensures { IsLeastFound self.now (option_copied result) }
+    // The least question, by a look at each call that is held.
+    fn least_held_question(&self) -> Option<Drawing>
+        ensures { IsLeastFound self.now result }
     {
         let mut least = None;
         for thread in self.threads {
@@ -128,12 +133,12 @@ impl<'v, 'a> View<'v, 'a> {
         least
     }
 
-    /// The copies of the least question. Usually it is the least number that is held, and then no other call is looked at.
-    pub fn least_question(&self) -> Option<&'v Shared<Snapshot>>
-        ensures { IsLeastFound self.now (option_copied result) }
+    /// The least question. Usually it is the least drawing that is held, and then no other call is looked at.
+    pub fn least_question(&self) -> Option<Drawing>
+        ensures { IsLeastFound self.now result }
     {
         match self.first_held_question() {
-            Some(copies) => Some(copies),
+            Some(drawing) => Some(drawing),
             None => self.least_held_question(),
         }
     }

@@ -2,7 +2,7 @@
 ghost use Rattle.std.specs.Prelude.{◌≡◌, Some, IfOk};
 ghost use Rattle.st_calls.specs.declared.judged.Verdict.TheVariants.{Unmatched};
 ghost use Rattle.st_decide.specs.Machine.{Refines, IsNextStep};
-ghost use Rattle.st_decide.specs.NextSteps.{CanBeDone, HasEntered, HasPending, HoldsNumber, IsAnswerOf, IsBarredStep, IsDecidedStep, IsDecision, IsHeldStep, IsInProcess, IsPendingStep, IsPermittedStep, IsUnheldStep};
+ghost use Rattle.st_decide.specs.NextSteps.{CanBeDone, HasEntered, HasPending, HoldsDrawing, IsAnswerOf, IsBarredStep, IsDecidedStep, IsDecision, IsHeldStep, IsInProcess, IsPendingStep, IsPermittedStep, IsUnheldStep};
 ghost use Rattle.st_decide.specs.declared.step.Step.TheVariants as steps;
 ghost use Rattle.st_law.specs.State.{State};
 ghost use Rattle.st_messages.specs.Messages.{message_state};
@@ -16,8 +16,8 @@ use st_arguments::Arguments;
 use st_base::{Drawing, Errno, Ids, Pid, Tid};
 use st_calls::{FastAnswer, Rule, SysCall, Verdict};
 use st_messages::MsgState;
-use st_threads::{CallingThread, PendingCall};
-use st_trace::{CallArgs, Cause, Way};
+use st_threads::{CallWay, CallingThread, PendingCall};
+use st_trace::{CallArgs, Cause};
 use std::alloc::{AllocError, Global};
 
 // A step that denies a held call.
@@ -60,7 +60,7 @@ impl<'v, 'a> View<'v, 'a> {
         }
     }
 
-    // What a thread does next that has entered a call. If the call is held, it has this number.
+    // What a thread does next that has entered a call. If the call is held, it has this drawing.
     fn pending_step(
         &self,
         alloc: Global,
@@ -73,9 +73,9 @@ impl<'v, 'a> View<'v, 'a> {
         ensures can { IfOk result (CanBeDone self.now.system caller.tid) }
     {
         match entered.way {
-            Way::Fast | Way::Untraced => self.unheld_step(alloc, caller, entered),
-            Way::Barred(number) => Ok(self.barred_step(caller, entered, number)),
-            Way::Held(_) => self.held_step(alloc, caller, drawing),
+            CallWay::Fast | CallWay::Untraced => self.unheld_step(alloc, caller, entered),
+            CallWay::Barred(number) => Ok(self.barred_step(caller, entered, number)),
+            CallWay::Held(_) => self.held_step(alloc, caller, drawing),
         }
     }
 
@@ -159,7 +159,7 @@ impl<'v, 'a> View<'v, 'a> {
         caller: CallingThread,
         drawing: Drawing,
     ) -> Result<Step, AllocError>
-        requires { HoldsNumber self.now caller.tid caller.pid drawing }
+        requires { HoldsDrawing self.now caller.tid caller.pid drawing }
         ensures step { IfOk result (IsHeldStep self.now caller.tid drawing) }
         ensures can { IfOk result (CanBeDone self.now.system caller.tid) }
     {

@@ -5,7 +5,7 @@ ghost use Rattle.st_law.specs.State.{State, is_live};
 ghost use Rattle.st_decide.specs.Enabled.{is_faulted_or_answered, is_work};
 ghost use Rattle.st_decide.specs.Machine.{Refines};
 ghost use Rattle.st_decide.specs.Questions.{CanBeMadeOrDenied};
-ghost use Rattle.st_messages.specs.Messages.{thread_of_number, HasWorker};
+ghost use Rattle.st_messages.specs.Messages.{thread_of_drawing, HasWorker};
 ghost use Rattle.st_reached.specs.Waiting.{is_message_by};
 
 use crate::view::View;
@@ -61,19 +61,19 @@ impl<'v, 'a> View<'v, 'a> {
         if !has_come(self.workers.state(drawing)) {
             return false;
         }
-        self.question(drawing).is_none()
+        !self.is_question(drawing)
     }
 
-    /// The thread that holds the call of a number, if the number is live.
+    /// The thread that holds the call of a drawing, if the drawing is live.
     pub fn holder(&self, drawing: Drawing) -> Option<Tid>
-        ensures thread { result ≡ thread_of_number self.now.workers.calls drawing }
+        ensures thread { result ≡ thread_of_drawing self.now.workers.calls drawing }
         ensures law { IfSome result (λ tid. (st : State) → Refines self.now st → (t : ℕ) → is_message_by st t drawing ≡ true → t ≡ tid) }
         ensures live { (st : State) → Refines self.now st → is_some result ≡ is_live st drawing }
     {
         self.workers.thread(drawing)
     }
 
-    /// Whether a worker can move: it is at some number, or a number is waiting.
+    /// Whether a worker can move: it is at some drawing, or a drawing is waiting.
     pub fn can_serve(&self, worker: Worker) -> bool
         requires { HasWorker self.now.workers.calls worker }
         ensures { (st : State) → Refines self.now st → result ≡ is_some (worker_entry self.now.input st worker) }

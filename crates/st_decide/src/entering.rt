@@ -1,40 +1,42 @@
-// How calls are entered: fast, barred, untraced, or held under the next number.
+// How calls are entered: fast, barred, untraced, or held under the next drawing.
 ghost use Rattle.std.specs.Prelude.{IfOk};
 ghost use Rattle.st_model.specs.Processes.{IsPid};
 ghost use Rattle.st_decide.specs.Entering.{IsHeadOf, IsWayOf};
 ghost use Rattle.st_decide.specs.NextSteps.{IsInProcess};
+ghost use Rattle.st_threads.specs.Ways.{drawn_way};
 
 use crate::step::NewCall;
 use crate::view::View;
 use st_base::Tid;
 use st_calls::{FastAnswer, Rule};
 use st_lookaside::Head;
-use st_trace::Way;
+use st_threads::CallWay;
 use std::alloc::{AllocError, Global};
 
 impl<'v, 'a> View<'v, 'a> {
-    /// How a thread's call goes on. A call that has to be judged is held under the next number.
-    pub fn way_of(&self, tid: Tid, new: &NewCall) -> Way
+    /// How a thread's call goes on. A call that has to be judged is held under the next drawing.
+    pub fn way_of(&self, tid: Tid, new: &NewCall) -> CallWay
         requires { IsInProcess self.now.system tid new.now.pid }
-        ensures { IsWayOf self.now tid new.now result }
+        ensures { IsWayOf self.now tid new.now (drawn_way result) }
     {
         if !self.system.traced(new.pid) {
-            return Way::Untraced;
+            return CallWay::Untraced;
         }
         match self.answer(new.pid, new.call, &new.regs) {
-            FastAnswer::Permit => Way::Fast,
-            FastAnswer::Refuse(_) => Way::Barred(1),
-            FastAnswer::Ask => Way::Held(self.workers.next_drawing()),
+            FastAnswer::Permit => CallWay::Fast,
+            FastAnswer::Refuse(_) => CallWay::Barred(1),
+            FastAnswer::Ask => CallWay::Held(self.workers.next_drawing()),
         }
     }
 
-    /// The head of the message of a call that is held under the next number.
+    /// The head of the message of a call that is held under the next drawing.
     pub fn head_of(&self, new: &NewCall) -> Result<Head, AllocError>
         requires { IsPid self.now.system.processes new.now.pid }
         ensures { IfOk result (IsHeadOf self.now new.now) }
     {
         Ok(Head {
             drawing: self.workers.next_drawing(),
+            seq: self.workers.next_seq(),
             pid: new.pid,
             ids: self.system.ids(new.pid),
             cwd: self.system.cwd(new.pid).share()?,

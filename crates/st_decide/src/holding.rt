@@ -7,7 +7,7 @@ use st_base::{Drawing, Tid, is_same_text};
 use st_lookaside::Head;
 
 impl<'v, 'a> View<'v, 'a> {
-    /// The message of a number, if the number is live.
+    /// The message of a drawing, if the drawing is live.
     pub fn message(&self, drawing: Drawing) -> Option<&Head>
         ensures none { result ≡ None → held_head self.now drawing ≡ None }
         ensures some { IfSome result (λ head. held_head self.now drawing ≡ Some head.now) }

@@ -8,7 +8,7 @@ ghost use Rattle.st_system.specs.System.{Parts};
 ghost use Rattle.st_trace.specs.declared.entry.CallResult.TheVariants.{Failed};
 ghost use Rattle.st_trace.specs.declared.entry.Entry.TheVariants.{Denied, Used};
 
-use st_base::{Drawing, Errno, Ids, Pid, Sequence, Tid};
+use st_base::{Drawing, Errno, Ids, Pid, Seq, Sequence, Tid};
 use st_calls::SysCall;
 use st_trace::{CallArgs, CallResult, Cause, Change, Entry, Instr};
 use std::alloc::Global;
@@ -47,7 +47,7 @@ pub struct NewCall {
     pub regs: [u64; 6],
 }
 
-/// How a call is made: by a thread of this process, with these arguments and under these ids. A held call has the number of its message.
+/// How a call is made: by a thread of this process, with these arguments and under these ids. A held call has the drawing of its message.
 #[derive(Debug, Drop)]
 pub struct ReadyCall {
     pub pid: Pid,
@@ -59,13 +59,19 @@ pub struct ReadyCall {
 }
 
 impl ReadyCall {
-    /// The entry of a thread that makes this call, with this result and these changes.
-    pub fn entry(self, tid: Tid, outcome: CallResult, changes: Sequence<Change>) -> Entry
-        ensures { result ≡ Used tid self.drawing self.call self.regs self.args self.ids outcome changes }
+    /// The entry of a thread that makes this call, with the number of its message, this result and these changes.
+    pub fn entry(
+        self,
+        tid: Tid,
+        seq: Option<Seq>,
+        outcome: CallResult,
+        changes: Sequence<Change>,
+    ) -> Entry
+        ensures { result ≡ Used tid seq self.call self.regs self.args self.ids outcome changes }
     {
         let ReadyCall {
             pid: _,
-            drawing,
+            drawing: _,
             call,
             regs,
             args,
@@ -73,7 +79,7 @@ impl ReadyCall {
         } = self;
         Entry::Used {
             tid,
-            seq: drawing,
+            seq,
             call,
             regs,
             args,
@@ -117,7 +123,7 @@ impl FailedCall {
     }
 }
 
-/// A call that is denied. A held call has the number of its message.
+/// A call that is denied. A held call has the drawing of its message.
 #[derive(Debug, Drop)]
 pub struct DeniedCall {
     pub drawing: Option<Drawing>,
@@ -126,18 +132,18 @@ pub struct DeniedCall {
 }
 
 impl DeniedCall {
-    /// The entry of a thread whose call is denied.
-    pub fn entry(self, tid: Tid) -> Entry
-        ensures { result ≡ Denied tid self.drawing self.errno self.cause }
+    /// The entry of a thread whose call is denied, with the number of its message.
+    pub fn entry(self, tid: Tid, seq: Option<Seq>) -> Entry
+        ensures { result ≡ Denied tid seq self.errno self.cause }
     {
         let DeniedCall {
-            drawing,
+            drawing: _,
             errno,
             cause,
         } = self;
         Entry::Denied {
             tid,
-            seq: drawing,
+            seq,
             errno,
             cause,
         }

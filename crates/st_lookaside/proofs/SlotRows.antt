@@ -25,6 +25,7 @@ ids = record { ruid = 3; euid = 4; rgid = 5; egid = 6 }
 abbrev head : Head
 head = record {
   drawing = 1;
+  seq = 11;
   pid = 2;
   ids = ids;
   cwd = components_of (codes "/w");
@@ -68,9 +69,9 @@ texts = refl
 outside : slot_progress (new_slot (record head { regs = 65536 ∷ 8 ∷ 0 ∷ 0 ∷ 0 ∷ 0 ∷ [] })) ≡ Stuck EFAULT
 outside = refl
 
--- the number, ids and directory of a renewal are new, everything else in the message stays, and nothing is copied or seen
-begun_anew : renewed done 9 (identity 7 8) (components_of (codes "/v")) ≡ record {
-  head = record head { drawing = 9; ids = identity 7 8; cwd = components_of (codes "/v") };
+-- the drawing, number, ids and directory of a renewal are new, everything else in the message stays, and nothing is copied or seen
+begun_anew : renewed done 9 19 (identity 7 8) (components_of (codes "/v")) ≡ record {
+  head = record head { drawing = 9; seq = 19; ids = identity 7 8; cwd = components_of (codes "/v") };
   parts = record { words = []; lookups = [] } ∷ record { words = []; lookups = [] } ∷ [];
   is_sealed = false;
 }
@@ -83,12 +84,12 @@ seal_only = refl
 same_parts : (sealed_slot done).parts ≡ done.parts
 same_parts = refl
 
-unsealed_anew : renewed (sealed_slot done) 9 (identity 7 8) (components_of (codes "/v")) ≡ renewed done 9 (identity 7 8) (components_of (codes "/v"))
+unsealed_anew : renewed (sealed_slot done) 9 19 (identity 7 8) (components_of (codes "/v")) ≡ renewed done 9 19 (identity 7 8) (components_of (codes "/v"))
 unsealed_anew = refl
 
 abbrev sealed : Snapshot
 sealed = record {
-  seq = 1;
+  seq = 11;
   pid = 2;
   ids = ids;
   policy = codes "/bin/mv";

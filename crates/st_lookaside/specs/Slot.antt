@@ -107,14 +107,14 @@ after_look slot seen = let j = part_next (slot_progress slot) in with_part slot 
 abbrev pub sealed_slot : Slot → Slot
 sealed_slot slot = record slot { is_sealed = true }
 
--- the message begins anew under this number, with these ids and this directory
-abbrev pub renewed : Slot → ℕ → Ids → Components → Slot
-renewed slot drawing ids cwd = new_slot (record slot.head { drawing = drawing; ids = ids; cwd = cwd })
+-- the message begins anew under this drawing and its number, with these ids and this directory
+abbrev pub renewed : Slot → ℕ → ℕ → Ids → Components → Slot
+renewed slot drawing seq ids cwd = new_slot (record slot.head { drawing = drawing; seq = seq; ids = ids; cwd = cwd })
 
 -- the message with the texts of its arguments
 abbrev pub snapshot_with : Head → List ArgText → Snapshot
 snapshot_with head args = record {
-  seq = head.drawing;
+  seq = head.seq;
   pid = head.pid;
   ids = head.ids;
   policy = head.policy;

@@ -1,4 +1,4 @@
-use st_base::{Drawing, Ids, Pid, Shared, Text};
+use st_base::{Drawing, Ids, Pid, Seq, Shared, Text};
 use st_calls::{Rule, SysCall};
 use st_names::AbsName;
 
@@ -6,6 +6,8 @@ use st_names::AbsName;
 #[derive(Debug, Drop)]
 pub struct Head {
     pub drawing: Drawing,
+    /// The number by which entries name it.
+    pub seq: Seq,
     pub pid: Pid,
     pub ids: Ids,
     /// The directory in which its relative names are resolved. Its name has at most 1,024 bytes.
@@ -16,4 +18,11 @@ pub struct Head {
     pub rule: Rule,
     pub call: SysCall,
     pub regs: [u64; 6],
+}
+
+/// A drawing that a message gets, with its number.
+#[derive(Clone, Copy, Debug)]
+pub struct NewNumber {
+    pub drawing: Drawing,
+    pub seq: Seq,
 }

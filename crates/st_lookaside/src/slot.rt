@@ -11,10 +11,10 @@ ghost use Rattle.st_names.specs.Seen.{seen_text};
 ghost use Rattle.st_names.specs.declared.seen.SeenText.{SeenText};
 ghost use Rattle.st_effects.specs.Progress.{Look, Ready};
 
-use crate::head::Head;
+use crate::head::{Head, NewNumber};
 use crate::need::Need;
 use crate::part::Part;
-use st_base::{Drawing, Errno, Ids, Sequence, Shared};
+use st_base::{Errno, Ids, Sequence, Shared};
 use st_calls::{ArgText, Snapshot, args_of};
 use st_names::{AbsName, Seen};
 use std::alloc::{AllocError, Global};
@@ -211,7 +211,7 @@ impl Slot {
         }
         let head = &self.head;
         Ok(Snapshot {
-            seq: head.drawing,
+            seq: head.seq,
             pid: head.pid,
             ids: head.ids,
             policy: head.policy.share()?,
@@ -252,12 +252,13 @@ impl Slot {
         Ok(copies)
     }
 
-    /// Begins anew under this drawing, with these ids and this directory, in the existing room.
-    pub fn renew(&mut self, drawing: Drawing, ids: Ids, cwd: Shared<AbsName>)
+    /// Begins anew under this drawing and its number, with these ids and this directory, in the existing room.
+    pub fn renew(&mut self, new: NewNumber, ids: Ids, cwd: Shared<AbsName>)
         requires { IsShort cwd }
-        ensures { self.new ≡ renewed self.old drawing ids cwd }
+        ensures { self.new ≡ renewed self.old new.drawing new.seq ids cwd }
     {
-        self.head.drawing = drawing;
+        self.head.drawing = new.drawing;
+        self.head.seq = new.seq;
         self.head.ids = ids;
         self.head.cwd = cwd;
         self.sealed = None;

@@ -8,7 +8,7 @@ ghost use Rattle.st_lookaside.specs.Slots.{key_at, slot_at, AreAscending, Change
 ghost use Rattle.st_names.specs.Seen.{seen_text};
 ghost use Rattle.st_names.specs.declared.seen.SeenText.{SeenText};
 
-use crate::head::Head;
+use crate::head::{Head, NewNumber};
 use crate::slot::{Next, Slot};
 use slab::Slab;
 use st_base::{Drawing, Ids, Shared};
@@ -327,13 +327,13 @@ impl Slots {
         slot.take_back();
     }
 
-    /// Begins a message anew under a drawing that has no slot, with these ids and this directory, in the existing room. Its old drawing
+    /// Begins a message anew under a drawing that has no slot and its number, with these ids and this directory, in the existing room. Its old drawing
     /// then has no slot.
-    pub fn renew(&mut self, old: Drawing, new: Drawing, ids: Ids, cwd: Shared<AbsName>)
+    pub fn renew(&mut self, old: Drawing, new: NewNumber, ids: Ids, cwd: Shared<AbsName>)
         requires slot { IsSome (slot_at self.old old) }
-        requires free { slot_at self.old new ≡ None }
+        requires free { slot_at self.old new.drawing ≡ None }
         requires short { IsShort cwd }
-        ensures { IfSome (slot_at self.old old) (λ slot. RenewsSlot self.old old new (renewed slot new ids cwd) self.new) }
+        ensures { IfSome (slot_at self.old old) (λ slot. RenewsSlot self.old old new.drawing (renewed slot new.drawing new.seq ids cwd) self.new) }
     {
         let Ok(place) = place_of(&self.keys, old) else {
             unreachable!()
@@ -341,8 +341,8 @@ impl Slots {
         let key = take_out(&mut self.keys, place);
         let slot = &mut self.slab[key];
         slot.renew(new, ids, cwd);
-        let place = gap_of(&self.keys, new);
-        put_in(&mut self.keys, place, new, key);
+        let place = gap_of(&self.keys, new.drawing);
+        put_in(&mut self.keys, place, new.drawing, key);
     }
 
     /// Ends the slot of a drawing. It takes no memory.

@@ -6,7 +6,7 @@ use Rattle.std.proofs.lemmas.Option.{none-some}
 use Rattle.st_base.specs.Numbered.{item_at_number}
 use Rattle.st_calls.specs.declared.call.SysCall.{SysCall}
 use Rattle.st_lookaside.specs.declared.head.Head as kept
-use Rattle.st_messages.specs.Messages.{HasNoNumber}
+use Rattle.st_messages.specs.Messages.{HasNoDrawing}
 use Rattle.st_trace.specs.declared.entry.Choice.TheVariants as choice
 use Rattle.st_trace.specs.declared.entry.Entry.TheVariants.{Entered}
 use Rattle.st_trace.specs.declared.entry.Way.{Way}
@@ -21,12 +21,14 @@ use Rattle.st_law.specs.Threads.{child_of_next}
 use Rattle.st_reached.proofs.LifeByEntry.{held_life}
 use Rattle.st_reached.proofs.Owning.{none_pending}
 use Rattle.st_reached.proofs.Reached.{lawful_entry}
+use Rattle.st_law.specs.Numbers.{drawn_as, largest_number}
+use Rattle.st_workers.specs.Numbers.{CarriesEntry, CarriesNumbers, HasNumbers}
 use Rattle.st_workers.specs.Refinement.{head_of, ChangesLife, RepresentsMessages, RepresentsMessagesAfter}
 use Rattle.st_workers.specs.UnderWay.{UnderWay}
-use Rattle.st_workers.proofs.Threads.{others_have_no_number}
+use Rattle.st_workers.proofs.Threads.{others_have_no_drawing}
 use Rattle.st_decide.specs.Entering.{IsUnposted, IsWayOf}
-use Rattle.st_decide.specs.Machine.{Refines, IsNextStep, IsStep, Running}
-use Rattle.st_threads.specs.Thread.{ThreadRow, IsRow, number_held, row_entered}
+use Rattle.st_decide.specs.Machine.{Refines, IsNextStep, IsDrawnStep, Running}
+use Rattle.st_threads.specs.Thread.{ThreadRow, IsRow, drawing_held, row_entered}
 use Rattle.st_decide.specs.declared.step.NewCall.{NewCall}
 use Rattle.st_decide.specs.declared.step.Step.TheVariants as steps
 use Rattle.st_machine.proofs.After.{AreRows, HasComeAsFar, following, rows_changed, with_parts}
@@ -54,7 +56,7 @@ module _ (m : Running) (t : ℕ) (new : NewCall) (next : IsNextStep m t (steps.E
         ended = refl;
       }
 
-  own : (row : ThreadRow) → IsRow row (st.threads t) → ((q : ℕ) → number_held (row_entered row new.call new.regs way) ≡ Some q → (thread_after st (Entered t new.call new.regs way) t).number ≡ q) → IsRow (row_entered row new.call new.regs way) (thread_after st (Entered t new.call new.regs way) t)
+  own : (row : ThreadRow) → IsRow row (st.threads t) → ((q : ℕ) → drawing_held (row_entered row new.call new.regs way) ≡ Some q → (thread_after st (Entered t new.call new.regs way) t).number ≡ q) → IsRow (row_entered row new.call new.regs way) (thread_after st (Entered t new.call new.regs way) t)
   own row its number =
       let here : (t == t) ≡ true = eq-eqb t t refl in
       record {
@@ -66,14 +68,14 @@ module _ (m : Running) (t : ℕ) (new : NewCall) (next : IsNextStep m t (steps.E
         ended = its.ended;
       }
 
-  rows : (row : ThreadRow) → item_at_number m.threads t ≡ Some row → ((u : ℕ) → u ≢ t → (thread_after st (Entered t new.call new.regs way) u).number ≡ (st.threads u).number) → ((q : ℕ) → number_held (row_entered row new.call new.regs way) ≡ Some q → (thread_after st (Entered t new.call new.regs way) t).number ≡ q)
+  rows : (row : ThreadRow) → item_at_number m.threads t ≡ Some row → ((u : ℕ) → u ≢ t → (thread_after st (Entered t new.call new.regs way) u).number ≡ (st.threads u).number) → ((q : ℕ) → drawing_held (row_entered row new.call new.regs way) ≡ Some q → (thread_after st (Entered t new.call new.regs way) t).number ≡ q)
       → AreRows (set m.threads (t - 1) (row_entered row new.call new.regs way)) (thread_after st (Entered t new.call new.regs way))
   rows row row_is same number =
       rows_changed m.threads st.threads (thread_after st (Entered t new.call new.regs way)) t row (row_entered row new.call new.regs way) row_is (others (λ u. u) same) (own row (row_of m st is t row row_is) number) is.threads
 
 -- a call that isn't held
 module _ (m : Running) (t : ℕ) (new : NewCall) (next : IsNextStep m t (steps.Enter new)) (row : ThreadRow) (row_is : item_at_number m.threads t ≡ Some row) where
-  pub unheld_step : (way : Way) → IsWayOf m t new way → IsUnposted way → IsStep m (choice.Thread t) (Some (Entered t new.call new.regs way)) (with_parts m m.system m.workers (set m.threads (t - 1) (row_entered row new.call new.regs way)))
+  pub unheld_step : (way : Way) → IsWayOf m t new way → IsUnposted way → IsDrawnStep m (choice.Thread t) (Entered t new.call new.regs way) (with_parts m m.system m.workers (set m.threads (t - 1) (row_entered row new.call new.regs way)))
   unheld_step Fast goes unposted st is =
       let e = Entered t new.call new.regs Fast in
       let entry = entered_entry_is m t new next Fast goes st is in (
@@ -81,6 +83,7 @@ module _ (m : Running) (t : ℕ) (new : NewCall) (next : IsNextStep m t (steps.E
         following m st is (choice.Thread t) e entry refl refl m.system m.workers (set m.threads (t - 1) (row_entered row new.call new.regs Fast))
             (same_system m.input st (state_after m.input st e) m.system refl refl refl refl refl refl (λ u. refl) (λ u. refl) is.system) is.workers
             (rows m t new next Fast goes st is row row_is (λ u ne. refl) (λ q e. absurd (none-some q (sym (either_none row.dying) ∙ e)))) (length-set m.threads (t - 1) _),
+        (λ ready are numbers has. (numbers.in_use, has)),
       )
   unheld_step (Barred n) goes unposted st is =
       let e = Entered t new.call new.regs (Barred n) in
@@ -89,6 +92,7 @@ module _ (m : Running) (t : ℕ) (new : NewCall) (next : IsNextStep m t (steps.E
         following m st is (choice.Thread t) e entry refl refl m.system m.workers (set m.threads (t - 1) (row_entered row new.call new.regs (Barred n)))
             (same_system m.input st (state_after m.input st e) m.system refl refl refl refl refl refl (λ u. refl) (λ u. refl) is.system) is.workers
             (rows m t new next (Barred n) goes st is row row_is (λ u ne. refl) (λ q e. absurd (none-some q (sym (either_none row.dying) ∙ e)))) (length-set m.threads (t - 1) _),
+        (λ ready are numbers has. (numbers.in_use, has)),
       )
   unheld_step Untraced goes unposted st is =
       let e = Entered t new.call new.regs Untraced in
@@ -97,22 +101,28 @@ module _ (m : Running) (t : ℕ) (new : NewCall) (next : IsNextStep m t (steps.E
         following m st is (choice.Thread t) e entry refl refl m.system m.workers (set m.threads (t - 1) (row_entered row new.call new.regs Untraced))
             (same_system m.input st (state_after m.input st e) m.system refl refl refl refl refl refl (λ u. refl) (λ u. refl) is.system) is.workers
             (rows m t new next Untraced goes st is row row_is (λ u ne. refl) (λ q e. absurd (none-some q (sym (either_none row.dying) ∙ e)))) (length-set m.threads (t - 1) _),
+        (λ ready are numbers has. (numbers.in_use, has)),
       )
   unheld_step (Held q) goes unposted st is = absurd unposted
 
   -- no live number is of a thread that enters a call
-  pub no_number : (way : Way) → IsWayOf m t new way → (st : State) → Refines m st → HasNoNumber m.workers.calls t
+  pub no_number : (way : Way) → IsWayOf m t new way → (st : State) → Refines m st → HasNoDrawing m.workers.calls t
   no_number way goes st is =
       let law = entered_law m t new next way goes st is in
       let owned = (reached_of m.input st is.reached).owned in
-      others_have_no_number m.input st.messages st.turns (is_live st) st.posted m.workers t is.workers (λ q head alive posted same. true≢false (sym alive ∙ none_pending st owned t law.idle q head posted same))
+      others_have_no_drawing m.input st.messages st.turns (is_live st) st.posted m.workers t is.workers (λ q head alive posted same. true≢false (sym alive ∙ none_pending st owned t law.idle q head posted same))
+
+  -- the number of the next drawing is drawn
+  carries_drawn : (q : ℕ) → q ≡ m.workers.calls.next → (workers : UnderWay) → CarriesNumbers (drawn_as largest_number m.workers.calls.next) m.workers.calls workers.calls → CarriesEntry (Entered t new.call new.regs (Held q)) m.workers workers
+  carries_drawn q is workers carries = λ ready are numbers has. ((drawn_as largest_number q numbers).in_use, subst (λ (n : ℕ). HasNumbers (drawn_as largest_number n numbers) workers.calls) (sym is) (carries numbers has))
 
   -- a call that is held under the next number
   pub held_step : (q : ℕ) → IsWayOf m t new (Held q) → (workers : UnderWay) (head : kept.Head) → ((st : State) → Refines m st → head_of t head ≡ new_head m.input t (st.threads t).owner (st.processes (st.threads t).owner) new.call new.regs)
       → ((i : Input) (st : State) (alive later : ℕ → Bool) (ready : SysCall) (registers : List ℕ) → RepresentsMessages i st alive m.workers → head_of t head ≡ new_head i t (st.threads t).owner (st.processes (st.threads t).owner) ready registers
       → ChangesLife alive (suc st.posted) true later → RepresentsMessagesAfter i st (Entered t ready registers (Held (suc st.posted))) later workers)
-      → IsStep m (choice.Thread t) (Some (Entered t new.call new.regs (Held q))) (with_parts m m.system workers (set m.threads (t - 1) (row_entered row new.call new.regs (Held q))))
-  held_step q goes workers head is_head posts st is =
+      → CarriesNumbers (drawn_as largest_number m.workers.calls.next) m.workers.calls workers.calls
+      → IsDrawnStep m (choice.Thread t) (Entered t new.call new.regs (Held q)) (with_parts m m.system workers (set m.threads (t - 1) (row_entered row new.call new.regs (Held q))))
+  held_step q goes workers head is_head posts carries st is =
       let e = Entered t new.call new.regs (Held q) in
       let entry = entered_entry_is m t new next (Held q) goes st is in
       let law = entered_law m t new next (Held q) goes st is in
@@ -125,6 +135,7 @@ module _ (m : Running) (t : ℕ) (new : NewCall) (next : IsNextStep m t (steps.E
             (same_system m.input st (state_after m.input st e) m.system refl refl refl refl refl refl (λ u. refl) (λ u. refl) is.system)
             (subst (λ (n : ℕ). RepresentsMessagesAfter m.input st (Entered t new.call new.regs (Held n)) later workers) (sym drawn) after)
             (rows m t new next (Held q) goes st is row row_is (λ u ne. ap (λ (b : Bool). cond b q (st.threads u).number) (ne_eqb t u (λ e. ne (sym e)))) (λ p e. ap (λ (b : Bool). cond b q (st.threads t).number) (eq-eqb t t refl) ∙ (holds (row_entered row new.call new.regs (Held q)) p e).number)) (length-set m.threads (t - 1) _),
+        carries_drawn q (drawn ∙ sym is.workers.agrees.next) workers carries,
       )
 
 -- the number that a call is held under is the next one

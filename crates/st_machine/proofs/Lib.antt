@@ -1,9 +1,11 @@
 mod After
 mod Answered
 mod Begun
+mod CallsMade
 mod CanMake
 mod Choices
 mod Entered
+mod EntryNumbers
 mod Made
 mod MadeSteps
 mod Moving

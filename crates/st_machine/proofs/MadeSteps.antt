@@ -4,6 +4,7 @@ use Rattle.std.proofs.lemmas.Bool.{cases_eq, eq-eqb, ne_eqb}
 use Rattle.std.proofs.lemmas.List.{length-set}
 use Rattle.std.proofs.lemmas.Option.{none-some, same_Some}
 use Rattle.std.specs.Option.{option_map}
+use Rattle.std.specs.List.{fold}
 use Rattle.std.specs.Prelude.{IfSome}
 use Rattle.st_base.specs.Numbered.{item_at_number}
 use Rattle.st_calls.specs.Call.{sets_ids}
@@ -21,7 +22,7 @@ use Rattle.st_law.specs.State.{State, child_of_pending, is_live, is_live_by, req
 use Rattle.st_law.specs.Threads.{PendingCall}
 use Rattle.st_law.proofs.Invariant as invariant
 use Rattle.st_law.proofs.Invariant.{IfPending}
-use Rattle.st_law.proofs.QuietChanges.{AreMute, mute_of, head_mute, posted_mute, seq_mute}
+use Rattle.st_law.proofs.QuietChanges.{fold_same, head_mute, mute_of, posted_mute, seq_mute, AreMute, IsMute}
 use Rattle.st_law.proofs.Shapes.{Each, Shape, quiet, forked, execed, renewed}
 use Rattle.st_law.proofs.UsedShapes.{used_shape}
 use Rattle.st_messages.specs.Messages as calls
@@ -34,22 +35,25 @@ use Rattle.st_request.specs.declared.outcome.Outcome.{Outcome}
 use Rattle.st_system.specs.Steps.{HasChild, IsCallMade, IsMade, renewals_of, with_renewals}
 use Rattle.st_system.specs.System.{IsSystem, Parts}
 use Rattle.st_trace.specs.declared.entry.Change.{Change}
-use Rattle.st_trace.specs.declared.entry.Change.TheVariants.{Forked}
+use Rattle.st_trace.specs.declared.entry.Change.TheVariants.{Forked, Renewed}
 use Rattle.st_trace.specs.declared.entry.Choice.TheVariants as choice
 use Rattle.st_trace.specs.declared.entry.Entry.{Entry}
 use Rattle.st_trace.specs.declared.entry.Entry.TheVariants.{Used}
 use Rattle.st_trace.specs.declared.entry.Way.{Way}
 use Rattle.st_trace.specs.declared.entry.Way.TheVariants.{Fast, Barred, Held, Untraced}
+use Rattle.st_law.specs.Numbers.{Numbers, largest_number, numbers_after_change}
+use Rattle.st_workers.specs.Numbers.{CarriesEntry, HasNumbers, KeepsNumbers}
+use Rattle.st_workers.proofs.Fewer.{fewer_twice}
 use Rattle.st_workers.specs.Refinement.{RepresentsMachineMessages, RepresentsMessages}
 use Rattle.st_workers.specs.UnderWay.{UnderWay}
 use Rattle.st_workers.proofs.Closing.{closing_is_not_kept}
 use Rattle.st_workers.proofs.Ended.{lives_as}
 use Rattle.st_workers.proofs.Turns.{item_put, number_within}
-use Rattle.st_threads.specs.Ending.{AreLiveNumbersHeld, EndsCall, HasNumber, HaveCalls, HaveEnded, is_ended_by, is_head_among, life_but, life_without_number, row_dying_if}
-use Rattle.st_decide.specs.Machine.{Refines, IsStep, Running}
+use Rattle.st_threads.specs.Ending.{AreLiveDrawingsHeld, EndsCall, HasDrawing, HaveCalls, HaveEnded, is_ended_by, is_head_among, life_but, life_without_number, row_dying_if}
+use Rattle.st_decide.specs.Machine.{Refines, IsDrawnStep, Running}
 use Rattle.st_decide.specs.Making.{child_of_row, request_with}
 use Rattle.st_decide.specs.NextSteps.{CanStep}
-use Rattle.st_threads.specs.Thread.{ThreadRow, IsRow, IsRowOf, number_by_way, number_held, number_pending}
+use Rattle.st_threads.specs.Thread.{ThreadRow, IsRow, IsRowOf, drawing_by_way, drawing_held, drawing_pending}
 use Rattle.st_decide.specs.declared.step.Step.TheVariants as steps
 use Rattle.st_decide.specs.declared.step.ReadyCall.{ReadyCall}
 use Rattle.st_machine.proofs.After.{following, with_parts}
@@ -60,9 +64,9 @@ use Rattle.st_decide.proofs.NextSteps.{owner_is, row_of}
 use Rattle.st_machine.specs.Making.{RenewsNone}
 use Rattle.st_machine.proofs.SettingIds.{changes_none, none_before}
 use Rattle.st_decide.proofs.Reached.{reached_of}
-use Rattle.st_threads.proofs.Rows.{held_number, none_closed, none_dying}
+use Rattle.st_threads.proofs.Rows.{drawing_of_held, none_closed, none_dying}
 
-none_unheld : (n : ℕ) (way : Way) → IsUnheld way → None ≡ number_by_way n way
+none_unheld : (n : ℕ) (way : Way) → IsUnheld way → None ≡ drawing_by_way n way
 none_unheld n Fast x = refl
 none_unheld n Untraced x = refl
 none_unheld n (Barred k) x = absurd x
@@ -71,6 +75,13 @@ none_unheld n (Held first) x = absurd x
 child_by : (i : Input) (call : SysCall) (request : effects.Request) → (call ≡ Fork → inputs.IsThread i request.child) → HasChild i call request
 child_by i Fork request x = x refl
 child_by i _ request x = tt
+
+-- changes that renew nothing draw no number
+pub numbers_mute : (ready : ℕ → Bool) (numbers : Numbers) (changes : List Change) → AreMute changes → fold (numbers_after_change largest_number ready) numbers changes ≡ numbers
+numbers_mute ready numbers changes mute = fold_same (numbers_after_change largest_number ready) IsMute one numbers changes mute where
+  one : (before : Numbers) (c : Change) → IsMute c → numbers_after_change largest_number ready before c ≡ before
+  one before (Renewed old new) x = let up : 1 ≡ 0 = x.posted 0 in absurd (omega (arith, up))
+  one before _ x = refl
 
 -- ---- the call that is made
 
@@ -92,11 +103,11 @@ module _ (m : Running) (st : State) (is : Refines m st) (t : ℕ) (ready : Ready
   request_is = λ k. record { tid = t; pid = sym (owner_is m st is t ready.pid can.can.caller.process) k; ids = ready.ids; regs = ready.regs; args = ready.args; child = child_is k; inherit = i.options.inherit }
 
   -- the number that the call is made under is that of its thread's held call
-  pub drawing_of : (drawing : Option ℕ) (call : SysCall) (regs : List ℕ) (outcome : effects.Outcome) → IsUsed i st t drawing call regs ready.args ready.ids outcome.result outcome.changes → drawing ≡ number_held row
+  pub drawing_of : (drawing : Option ℕ) (call : SysCall) (regs : List ℕ) (outcome : effects.Outcome) → IsUsed i st t drawing call regs ready.args ready.ids outcome.result outcome.changes → drawing ≡ drawing_held row
   drawing_of None call regs outcome x = none_unheld row.number x.way x.unheld
-      ∙ sym (λ k. cond ((sym its.dying ∙ x.running.undying) k) None (number_pending row.number ((sym its.pending ∙ x.entered.1) k)))
+      ∙ sym (λ k. cond ((sym its.dying ∙ x.running.undying) k) None (drawing_pending row.number ((sym its.pending ∙ x.entered.1) k)))
   drawing_of (Some q) call regs outcome x =
-      let mine : number_held row ≡ Some row.number = held_number row (sym its.dying ∙ x.running.undying) (record { call = call; regs = regs; way = Held x.held.first; child = x.held.entered.0 }) (sym its.pending ∙ x.held.entered.1) x.held.first refl in
+      let mine : drawing_held row ≡ Some row.number = drawing_of_held row (sym its.dying ∙ x.running.undying) (record { call = call; regs = regs; way = Held x.held.first; child = x.held.entered.0 }) (sym its.pending ∙ x.held.entered.1) x.held.first refl in
       ap Some (sym x.held.number ∙ its.number row.number mine) ∙ sym mine
 
   -- a fork starts a thread of the script
@@ -117,26 +128,26 @@ module _ (m : Running) (st : State) (is : Refines m st) (t : ℕ) (ready : Ready
   pub used : IsUsed m.input st t ready.drawing ready.call ready.regs ready.args ready.ids now.result now.changes
   used = lawful_entry m.input st (reached_of m.input st is.reached) (choice.Thread t) (Used t ready.drawing ready.call ready.regs ready.args ready.ids now.result now.changes) (can.next st is)
 
-  pub drawing_is : ready.drawing ≡ number_held row
+  pub drawing_is : ready.drawing ≡ drawing_held row
   drawing_is = drawing_of m st is t ready can row row_is ready.drawing ready.call ready.regs now used
 
   -- the rows after the thread's own call has ended
   abbrev closed : List ThreadRow
   closed = set m.threads (t - 1) (record row { pending = None })
 
-  pub are_closed : AreLiveNumbersHeld st (life_without_number (is_live st) ready.drawing) closed
-  are_closed = subst (λ (drawing : Option ℕ). AreLiveNumbersHeld st (life_without_number (is_live st) drawing) closed) (sym drawing_is) (closed_held st (is_live st) m.threads (are_held m st is) t row row_is)
+  pub are_closed : AreLiveDrawingsHeld st (life_without_number (is_live st) ready.drawing) closed
+  are_closed = subst (λ (drawing : Option ℕ). AreLiveDrawingsHeld st (life_without_number (is_live st) drawing) closed) (sym drawing_is) (closed_held st (is_live st) m.threads (are_held m st is) t row row_is)
 
   pub drawing_lives : IfSome ready.drawing (λ q. is_live st q ≡ true)
   drawing_lives = by ready.drawing drawing_is where
-    by : (drawing : Option ℕ) → drawing ≡ number_held row → IfSome drawing (λ q. is_live st q ≡ true)
+    by : (drawing : Option ℕ) → drawing ≡ drawing_held row → IfSome drawing (λ q. is_live st q ≡ true)
     by None e = tt
     by (Some q) e = ((are_held m st is).lives t row q row_is (sym e)).lives
 
   -- the number of the call is live among the messages, too
-  pub drawing_there : IfSome ready.drawing (λ q. calls.is_live_number m.workers.calls q ≡ true)
+  pub drawing_there : IfSome ready.drawing (λ q. calls.is_live_drawing m.workers.calls q ≡ true)
   drawing_there = by ready.drawing drawing_lives where
-    by : (drawing : Option ℕ) → IfSome drawing (λ q. is_live st q ≡ true) → IfSome drawing (λ q. calls.is_live_number m.workers.calls q ≡ true)
+    by : (drawing : Option ℕ) → IfSome drawing (λ q. is_live st q ≡ true) → IfSome drawing (λ q. calls.is_live_drawing m.workers.calls q ≡ true)
     by None x = tt
     by (Some q) x = lives_as m.input st (is_live st) m.workers q is.workers ∙ x
 
@@ -203,19 +214,19 @@ module _ (m : Running) (st : State) (is : Refines m st) (t : ℕ) (ready : Ready
     headless other (Some head) posted live = (head, posted)
 
     -- a number that a row still holds isn't the caller's
-    not_mine : (other : ℕ) (head : Head) → HasNumber (item_at_number closed head.tid) other → head.tid ≢ t
+    not_mine : (other : ℕ) (head : Head) → HasDrawing (item_at_number closed head.tid) other → head.tid ≢ t
     not_mine other head has same =
         let within = number_within m.threads t row row_is in
         let here : item_at_number closed head.tid ≡ Some (record row { pending = None }) = ap (item_at_number closed) same ∙ item_put m.threads t (record row { pending = None }) within.0 within.1 t
         ∙ ap (λ (b : Bool). cond b (Some (record row { pending = None })) (item_at_number m.threads t)) (eq-eqb t t refl) in
-        none-some other (sym (none_closed row) ∙ subst (λ (o : Option ThreadRow). HasNumber o other) here has)
+        none-some other (sym (none_closed row) ∙ subst (λ (o : Option ThreadRow). HasDrawing o other) here has)
 
     -- a number that is still live is another thread's
     mine : (other : ℕ) → alive other ≡ true → (head : Head) × ((st.messages other).head ≡ Some head) × (head.tid ≢ 0) × (head.tid ≢ t)
     mine other e =
         let found = headless other (st.messages other).head refl (not_dead (is_number other ready.drawing) (is_live st other) e).1 in
-        let has : HasNumber (item_at_number closed found.0.tid) other = are_closed.own other found.0 e found.1 in
-        (found.0, found.1, (λ none. subst (λ (n : ℕ). HasNumber (item_at_number closed n) other) none has), not_mine other found.0 has)
+        let has : HasDrawing (item_at_number closed found.0.tid) other = are_closed.own other found.0 e found.1 in
+        (found.0, found.1, (λ none. subst (λ (n : ℕ). HasDrawing (item_at_number closed n) other) none has), not_mine other found.0 has)
 
     own_pid : ready.pid ≡ (st.threads t).owner
     own_pid = sym (owner_is m st is t ready.pid can.can.caller.process)
@@ -258,7 +269,7 @@ module _ (m : Running) (st : State) (is : Refines m st) (t : ℕ) (ready : Ready
 
     -- ---- the rows
 
-    module _ (u : ℕ) (there : u ≢ 0) (r : ThreadRow) (left : (st.threads u).left ≡ r.left) (pending : cond (t == u) None (st.threads u).pending ≡ r.pending) (number : (q : ℕ) → number_held r ≡ Some q → (st.threads u).number ≡ q)
+    module _ (u : ℕ) (there : u ≢ 0) (r : ThreadRow) (left : (st.threads u).left ≡ r.left) (pending : cond (t == u) None (st.threads u).pending ≡ r.pending) (number : (q : ℕ) → drawing_held r ≡ Some q → (st.threads u).number ≡ q)
         (dying : (st.threads u).dying ≡ r.dying) (over : (st.threads u).ended ≡ r.ended) where
       always : (b : Bool) → (b || true) ≡ true
       always true = refl
@@ -320,13 +331,26 @@ module _ (m : Running) (st : State) (is : Refines m st) (t : ℕ) (ready : Ready
         (λ u. subst (λ (o : Option ThreadRow). IsRowOf o (thread_after st entry u)) (sym (over.rows u)) (row_then u (item_at_number closed u) refl))
         (over.count ∙ length-set m.threads (t - 1) _)
 
+    -- the call draws no number
+    pub made_numbers : (between left : UnderWay) (new : List ThreadRow) → KeepsNumbers m.workers.calls between.calls → HaveEnded ended closed between new left → CarriesEntry entry m.workers left
+    made_numbers between left new fewer over = λ ready are numbers has.
+        subst (λ (after : Numbers). (in_use : ℕ → Bool) × HasNumbers (record after { in_use = in_use }) left.calls) (sym (numbers_mute ready numbers changes ends.mute))
+        (fewer_twice m.workers.calls between.calls left.calls fewer over.numbers numbers has)
+
+    -- and it renews nothing
+    pub made_mute : AreMute changes
+    made_mute = ends.mute
+
     pub made_entry : entry_of input st (choice.Thread t) ≡ Some entry
     made_entry = entry_is
 
 -- a call that renews no held calls is made, in each state that the machine represents
 pub making : (m : Running) (t : ℕ) (ready : ReadyCall) → CanStep m t (steps.Make ready) → (row : ThreadRow) → item_at_number m.threads t ≡ Some row → RenewsNone ready
-    → (outcome : Outcome) (parts : Parts) → IsCallMade ready.call (request_with m t ready) outcome m.system parts → (between left : UnderWay) (new : List ThreadRow) → EndsCall ready.drawing m.workers between
+    → (outcome : Outcome) (parts : Parts) → IsCallMade ready.call (request_with m t ready) outcome m.system parts → (between left : UnderWay) (new : List ThreadRow) → EndsCall ready.drawing m.workers between → KeepsNumbers m.workers.calls between.calls
     → HaveEnded (is_ended_by parts.processes t ready.pid outcome.changes) (set m.threads (t - 1) (record row { pending = None })) between new left
-    → IsStep m (choice.Thread t) (Some (Used t ready.drawing ready.call ready.regs ready.args ready.ids outcome.result outcome.changes)) (with_parts m parts left new)
-making m t ready can row row_is renews_none outcome parts done between left new closes over = λ st is.
-    (made_entry m st is t ready can row row_is renews_none outcome parts done, made_step m st is t ready can row row_is renews_none outcome parts done between left new closes over)
+    → IsDrawnStep m (choice.Thread t) (Used t ready.drawing ready.call ready.regs ready.args ready.ids outcome.result outcome.changes) (with_parts m parts left new)
+making m t ready can row row_is renews_none outcome parts done between left new closes fewer over = λ st is. (
+  made_entry m st is t ready can row row_is renews_none outcome parts done,
+  made_step m st is t ready can row row_is renews_none outcome parts done between left new closes over,
+  made_numbers m st is t ready can row row_is renews_none outcome parts done between left new fewer over,
+)

@@ -7,7 +7,7 @@ use Rattle.std.specs.List.{All}
 use Rattle.std.specs.Prelude.{IfSome, IsSome, slice_get}
 use Rattle.st_base.specs.Numbered.{item_at_number}
 use Rattle.st_base.specs.declared.errno.Errno.{Errno}
-use Rattle.st_messages.specs.Messages.{is_live_number}
+use Rattle.st_messages.specs.Messages.{is_live_drawing}
 use Rattle.st_model.specs.Processes.{pid_of}
 use Rattle.st_trace.specs.declared.entry.CallResult.TheVariants.{Failed}
 use Rattle.st_trace.specs.declared.entry.Cause.{Cause}
@@ -32,13 +32,14 @@ use Rattle.st_reached.proofs.LifeByEntry.{denied_life}
 use Rattle.st_reached.proofs.Reached.{lawful_entry}
 use Rattle.st_reached.specs.Scripts.{IsInMemory, StoresInMemory}
 use Rattle.st_system.specs.System.{IsSystem, Parts}
+use Rattle.st_workers.specs.Numbers.{KeepsNumbers}
 use Rattle.st_workers.specs.Refinement.{RepresentsMessages}
 use Rattle.st_workers.specs.UnderWay.{UnderWay}
 use Rattle.st_workers.proofs.Closing.{closing_is_not_kept}
 use Rattle.st_workers.proofs.Ended.{lives_as}
 use Rattle.st_workers.proofs.Turns.{number_within}
 use Rattle.st_threads.specs.Ending.{EndsCall, life_without_number}
-use Rattle.st_decide.specs.Machine.{Refines, IsNextStep, RefinesSomeState, IsStep, Running}
+use Rattle.st_decide.specs.Machine.{Refines, IsNextStep, RefinesSomeState, IsDrawnStep, Running}
 use Rattle.st_decide.specs.Step.{step_entry}
 use Rattle.st_threads.specs.Thread.{ThreadRow, IsRow}
 use Rattle.st_decide.specs.declared.step.Step.{Step}
@@ -61,13 +62,13 @@ module _ (m : Running) (t : ℕ) (next : IsNextStep m t steps.End) where
   ends st is = let law = lawful_entry m.input st (reached_of m.input st is.reached) (choice.Thread t) (Ended t) (next st is) in (law.started, law.unended)
 
   pub ended_step : (system : Parts) (row : ThreadRow) → item_at_number m.threads t ≡ Some row → ((i : Input) (st : State) → IsSystem i st m.system → IsSystem i (state_after i st (Ended t)) system)
-      → IsStep m (choice.Thread t) (Some (Ended t)) (with_parts m system m.workers (set m.threads (t - 1) (record row { ended = true })))
+      → IsDrawnStep m (choice.Thread t) (Ended t) (with_parts m system m.workers (set m.threads (t - 1) (record row { ended = true })))
   ended_step system row row_is moves st is =
       let its : IsRow row (st.threads t) = row_of m st is t row row_is in
       let rows = rows_changed m.threads st.threads (thread_after st (Ended t)) t row (record row { ended = true }) row_is
       (λ u ne. record { left = refl; pending = refl; number = refl; dying = refl; ended = ap (λ (b : Bool). b || (st.threads u).ended) (ne_eqb t u (λ e. ne (sym e))) })
       (record { left = its.left; pending = its.pending; number = its.number; dying = its.dying; ended = ap (λ (b : Bool). b || (st.threads t).ended) (eq-eqb t t refl) }) is.threads in
-      (next st is, following m st is (choice.Thread t) (Ended t) (next st is) refl refl system m.workers (set m.threads (t - 1) (record row { ended = true })) (moves m.input st is.system) is.workers rows (length-set m.threads (t - 1) _))
+      (next st is, following m st is (choice.Thread t) (Ended t) (next st is) refl refl system m.workers (set m.threads (t - 1) (record row { ended = true })) (moves m.input st is.system) is.workers rows (length-set m.threads (t - 1) _), (λ ready are numbers has. (numbers.in_use, has)))
 
 -- ---- a thread stores a word
 
@@ -108,13 +109,13 @@ module _ (m : Running) (t : ℕ) (stored : StoredWord) (next : IsNextStep m t (s
   stored_started st is = pid_there m st is t (stores_law st is).running.started
 
   pub stored_step : (system : Parts) (row : ThreadRow) → item_at_number m.threads t ≡ Some row → ((i : Input) (st : State) → IsSystem i st m.system → IsSystem i (state_after i st (Stored t stored.place stored.word)) system)
-      → IsStep m (choice.Thread t) (Some (Stored t stored.place stored.word)) (with_parts m system m.workers (set m.threads (t - 1) (record row { left = drop 1 row.left })))
+      → IsDrawnStep m (choice.Thread t) (Stored t stored.place stored.word) (with_parts m system m.workers (set m.threads (t - 1) (record row { left = drop 1 row.left })))
   stored_step system row row_is moves st is =
       let its : IsRow row (st.threads t) = row_of m st is t row row_is in
       let rows = rows_changed m.threads st.threads (thread_after st (Stored t stored.place stored.word)) t row (record row { left = drop 1 row.left }) row_is
       (λ u ne. record { left = ap (λ (b : Bool). cond b (drop 1 (st.threads u).left) (st.threads u).left) (ne_eqb t u (λ e. ne (sym e))); pending = refl; number = refl; dying = refl; ended = refl })
       (record { left = ap (λ (b : Bool). cond b (drop 1 (st.threads t).left) (st.threads t).left) (eq-eqb t t refl) ∙ ap (drop 1) its.left; pending = its.pending; number = its.number; dying = its.dying; ended = its.ended }) is.threads in
-      (next st is, following m st is (choice.Thread t) (Stored t stored.place stored.word) (next st is) refl refl system m.workers (set m.threads (t - 1) (record row { left = drop 1 row.left })) (moves m.input st is.system) is.workers rows (length-set m.threads (t - 1) _))
+      (next st is, following m st is (choice.Thread t) (Stored t stored.place stored.word) (next st is) refl refl system m.workers (set m.threads (t - 1) (record row { left = drop 1 row.left })) (moves m.input st is.system) is.workers rows (length-set m.threads (t - 1) _), (λ ready are numbers has. (numbers.in_use, has)))
 
 -- ---- a call is over
 
@@ -131,7 +132,7 @@ module _ (m : Running) (t : ℕ) (call : FailedCall) (next : IsNextStep m t (ste
   abbrev failed : Entry
   failed = entry_failed t call
 
-  pub failed_step : (row : ThreadRow) → item_at_number m.threads t ≡ Some row → IsStep m (choice.Thread t) (Some failed) (with_parts m m.system m.workers (set m.threads (t - 1) (record row { pending = None })))
+  pub failed_step : (row : ThreadRow) → item_at_number m.threads t ≡ Some row → IsDrawnStep m (choice.Thread t) failed (with_parts m m.system m.workers (set m.threads (t - 1) (record row { pending = None })))
   failed_step row row_is st is =
       let its : IsRow row (st.threads t) = row_of m st is t row row_is in
       let rows = closed_rows m st is t row row_is failed
@@ -140,6 +141,7 @@ module _ (m : Running) (t : ℕ) (call : FailedCall) (next : IsNextStep m t (ste
         next st is,
         following m st is (choice.Thread t) failed (next st is) refl refl m.system m.workers (set m.threads (t - 1) (record row { pending = None }))
             (same_system m.input st (state_after m.input st failed) m.system refl refl refl refl refl refl (λ u. refl) (λ u. refl) is.system) is.workers rows (length-set m.threads (t - 1) _),
+        (λ ready are numbers has. (numbers.in_use, has)),
       )
 
 -- ---- a call is denied
@@ -157,20 +159,21 @@ module _ (m : Running) (t : ℕ) (errno : Errno) (why : Cause) where
   IsDeniedNext drawing = (st : State) → Refines m st → entry_of m.input st (choice.Thread t) ≡ Some (Denied t drawing errno why)
 
   -- the number of a held call that is denied is live
-  pub denied_lives : (drawing : Option ℕ) → IsDeniedNext drawing → (st : State) → Refines m st → IfSome drawing (λ q. is_live_number m.workers.calls q ≡ true)
+  pub denied_lives : (drawing : Option ℕ) → IsDeniedNext drawing → (st : State) → Refines m st → IfSome drawing (λ q. is_live_drawing m.workers.calls q ≡ true)
   denied_lives None next st is = tt
   denied_lives (Some q) next st is = lives_as m.input st (is_live st) m.workers q is.workers ∙ (lawful_entry m.input st (reached_of m.input st is.reached) (choice.Thread t) (Denied t (Some q) errno why) (next st is)).held.live
 
   -- a barred call has no message, and the number of a held call ends
-  pub denied_step : (drawing : Option ℕ) → IsDeniedNext drawing → (workers : UnderWay) (row : ThreadRow) → item_at_number m.threads t ≡ Some row → EndsCall drawing m.workers workers
-      → IsStep m (choice.Thread t) (Some (Denied t drawing errno why)) (with_parts m m.system workers (set m.threads (t - 1) (record row { pending = None })))
-  denied_step None next workers row row_is ends st is = (
+  pub denied_step : (drawing : Option ℕ) → IsDeniedNext drawing → (workers : UnderWay) (row : ThreadRow) → item_at_number m.threads t ≡ Some row → EndsCall drawing m.workers workers → KeepsNumbers m.workers.calls workers.calls
+      → IsDrawnStep m (choice.Thread t) (Denied t drawing errno why) (with_parts m m.system workers (set m.threads (t - 1) (record row { pending = None })))
+  denied_step None next workers row row_is ends fewer st is = (
     next st is,
     following m st is (choice.Thread t) (Denied t None errno why) (next st is) refl refl m.system workers (set m.threads (t - 1) (record row { pending = None }))
         (same_system m.input st (state_after m.input st (Denied t None errno why)) m.system refl refl refl refl refl refl (λ u. refl) (λ u. refl) is.system) (ends m.input st (is_live st) is.workers)
         (denied_rows m st is t None errno why row row_is) (length-set m.threads (t - 1) _),
+    (λ ready are. fewer),
   )
-  denied_step (Some q) next workers row row_is ends st is =
+  denied_step (Some q) next workers row row_is ends fewer st is =
       let e = Denied t (Some q) errno why in
       let later : ℕ → Bool = is_live (state_after m.input st e) in
       let lives : later ≡ life_without_number (is_live st) (Some q) = λ k other. (denied_life m.input st t q errno why other ∙ ap (λ (b : Bool). cond b false (is_live st other)) (eqb-sym other q)) k in
@@ -179,6 +182,7 @@ module _ (m : Running) (t : ℕ) (errno : Errno) (why : Cause) where
         following m st is (choice.Thread t) e (next st is) refl refl m.system workers (set m.threads (t - 1) (record row { pending = None }))
             (same_system m.input st (state_after m.input st e) m.system refl refl refl refl refl refl (λ u. refl) (λ u. refl) is.system)
             (closing_is_not_kept m.input st.messages (state_after m.input st e).messages st.turns later st.posted workers kept (λ p. refl)) (denied_rows m st is t (Some q) errno why row row_is) (length-set m.threads (t - 1) _),
+        (λ ready are. fewer),
       )
 
 -- ---- the row of a thread exists

@@ -1,6 +1,6 @@
 -- The caller's own call while the other held calls of its process are renewed: it is live all the while, and ends afterwards.
 use native.Mathlib.Omega.{arith}
-use Rattle.std.proofs.Common.{◌≡◌, ◌<◌, ◌∙◌, ℕ, suc, ◌==◌, Bool, true, false, cond, List, [], ◌∷◌, Option, Some, None, refl, ap, sym}
+use Rattle.std.proofs.Common.{◌≡◌, ◌<◌, ◌-◌, ◌∙◌, ℕ, suc, ◌==◌, Bool, true, false, cond, get_or, set, List, [], ◌∷◌, Option, Some, None, refl, ap, sym}
 use Rattle.std.proofs.lemmas.Bool.{eqb-true, ne_eqb, true≢false}
 use Rattle.std.specs.Prelude.{IfSome}
 use Rattle.st_law.specs.State.{State}
@@ -8,6 +8,9 @@ use Rattle.st_reached.specs.Reached.{life_after_change, life_after_changes}
 use Rattle.st_trace.specs.declared.entry.Change.TheVariants.{Renewed}
 use Rattle.st_threads.specs.Ending.{life_without_number}
 use Rattle.st_threads.specs.Renewing.{AreLiveAndDistinct, AreOthers, renewals_from}
+use Rattle.st_threads.specs.Thread.{ThreadRow}
+use Rattle.st_workers.proofs.Turns.{read_is}
+use Rattle.st_machine.specs.Making.{IsClosed}
 
 -- numbers that are live by one test are live by another
 pub more_live : (a b : ℕ → Bool) → ((q : ℕ) → a q ≡ true → b q ≡ true) → (numbers : List ℕ) → AreLiveAndDistinct a numbers → AreLiveAndDistinct b numbers
@@ -51,3 +54,7 @@ pub ends_after : (st : State) (m : ℕ) (drawing : Option ℕ) (numbers : List �
     → life_without_number (life_after_changes st m alive (renewals_from next numbers)) drawing ≡ life_after_changes st m (life_without_number alive drawing) (renewals_from next numbers)
 ends_after st m None numbers next alive low = refl
 ends_after st m (Some q) numbers next alive low = ends_later st m q numbers next alive low
+
+-- the threads once the call of one of them is closed
+pub closed_is : (rows : List ThreadRow) (t : ℕ) (read shut : ThreadRow) (now closed : List ThreadRow) → IsClosed rows t closed → read ≡ get_or rows (t - 1) read → shut ≡ record read { pending = None } → now ≡ set rows (t - 1) shut → now ≡ closed
+closed_is rows t read shut now closed x here shuts put = put ∙ ap (set rows (t - 1)) (shuts ∙ ap (λ (r : ThreadRow). record r { pending = None }) (read_is rows t x.0 read x.1 here)) ∙ sym x.2

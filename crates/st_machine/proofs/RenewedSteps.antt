@@ -36,15 +36,16 @@ use Rattle.st_trace.specs.declared.entry.Change.TheVariants.{SetIds}
 use Rattle.st_trace.specs.declared.entry.Choice.TheVariants as choice
 use Rattle.st_trace.specs.declared.entry.Entry.{Entry}
 use Rattle.st_trace.specs.declared.entry.Entry.TheVariants.{Used}
+use Rattle.st_workers.specs.Numbers.{CarriesEntry, CarriesNumbers, KeepsNumbers}
 use Rattle.st_workers.specs.Refinement.{RepresentsMachineMessages, RepresentsMessages}
 use Rattle.st_workers.specs.UnderWay.{UnderWay}
 use Rattle.st_workers.proofs.Closing.{closing_is_not_kept}
 use Rattle.st_workers.proofs.Ended.{lives_as}
 use Rattle.st_threads.specs.Ending.{EndsCall, life_without_number}
-use Rattle.st_decide.specs.Machine.{Refines, IsStep, Running}
+use Rattle.st_decide.specs.Machine.{Refines, IsDrawnStep, Running}
 use Rattle.st_decide.specs.Making.{request_with}
 use Rattle.st_decide.specs.NextSteps.{CanStep}
-use Rattle.st_threads.specs.Renewing.{CanRenew, HaveRenewed, AreLiveAndDistinct, AreOthers, RenewsAll, numbers_from, renewals_from, rows_renewed}
+use Rattle.st_threads.specs.Renewing.{CanRenew, HaveRenewed, AreLiveAndDistinct, AreOthers, RenewsAll, numbers_after_renewals, drawings_from, renewals_from, rows_renewed}
 use Rattle.st_threads.specs.Thread.{ThreadRow, IsRow}
 use Rattle.st_decide.specs.declared.step.Step.TheVariants as steps
 use Rattle.st_decide.specs.declared.step.ReadyCall.{ReadyCall}
@@ -118,7 +119,7 @@ module _ (m : Running) (st : State) (is : Refines m st) (t : ℕ) (ready : Ready
   module _ (outcome : Outcome) (parts : Parts) (done_is : IsCallMade ready.call (request_with m t ready) outcome m.system parts) (given : Ids)
       (effect_is : (effect (system_of m.input st) ready.call (request_of m.input st t ready.regs ready.args ready.ids)).changes ≡ SetIds given ∷ renewals (st.threads t).owner t (suc st.posted) (held_from st 1 (thread_count m.input))) where
     abbrev ns : List ℕ
-    ns = numbers_from m.system.processes ready.pid t 1 m.threads
+    ns = drawings_from m.system.processes ready.pid t 1 m.threads
 
     abbrev known : List Change
     known = SetIds given ∷ renewals_from (suc st.posted) ns
@@ -141,9 +142,9 @@ module _ (m : Running) (st : State) (is : Refines m st) (t : ℕ) (ready : Ready
         ∙ renewals_leave (owner_after_change u) (λ o old fresh. refl) (st.threads u).owner (suc st.posted) ns
 
     -- the numbers that are renewed are those that were planned
-    pub numbers_stay : numbers_from parts.processes ready.pid t 1 closed ≡ ns
+    pub numbers_stay : drawings_from parts.processes ready.pid t 1 closed ≡ ns
     numbers_stay = place t refl ∙ same_numbers parts.processes m.system.processes ready.pid t (λ u. owners_then u ∙ sym (owners u)) m.threads 1 where
-      place : (n : ℕ) → t ≡ n → numbers_from parts.processes ready.pid t 1 closed ≡ numbers_from parts.processes ready.pid t 1 m.threads
+      place : (n : ℕ) → t ≡ n → drawings_from parts.processes ready.pid t 1 closed ≡ drawings_from parts.processes ready.pid t 1 m.threads
       place zero e = absurd (none-some row (ap (item_at_number m.threads) (sym e) ∙ row_is))
       place (suc k) e = set_numbers parts.processes ready.pid t m.threads 1 (t - 1) (record row { pending = None }) (omega (arith, e))
 
@@ -179,19 +180,19 @@ module _ (m : Running) (st : State) (is : Refines m st) (t : ℕ) (ready : Ready
           let low = (is.workers.agrees.given q (still q x.lives)).1 in
           record { live = x.lives; tid = ap tid_of x.posted ∙ x.tid_is; below = omega (arith, low) })
 
-      live_then : AreLiveAndDistinct alive (numbers_from parts.processes ready.pid t 1 closed)
+      live_then : AreLiveAndDistinct alive (drawings_from parts.processes ready.pid t 1 closed)
       live_then = live_apart parts.processes ready.pid t owner alive (suc st.posted) closed 1 tags
 
       -- the numbers can be renewed
-      pub can_renew : CanRenew m.workers (numbers_from parts.processes ready.pid t 1 closed)
-      can_renew = record { input = input; state = st; alive = is_live st; kept = is.workers; live = more_live alive (is_live st) still (numbers_from parts.processes ready.pid t 1 closed) live_then }
+      pub can_renew : CanRenew m.workers (drawings_from parts.processes ready.pid t 1 closed)
+      can_renew = record { input = input; state = st; alive = is_live st; kept = is.workers; live = more_live alive (is_live st) still (drawings_from parts.processes ready.pid t 1 closed) live_then }
 
       have_heads : (numbers : List ℕ) → AreLiveAndDistinct alive numbers → HaveHeads (λ p. (st.messages p).head) st.posted st.messages numbers
       have_heads [] x = tt
       have_heads (q ∷ numbers) x = (refl, (is.workers.agrees.given q (still q x.0)).1, have_heads numbers x.2)
 
       -- the caller's own number was given before
-      own_low : IfSome ready.drawing (λ q. q < suc st.posted)
+      pub own_low : IfSome ready.drawing (λ q. q < suc st.posted)
       own_low = by ready.drawing (drawing_lives m st is t ready can row row_is) where
         by : (drawing : Option ℕ) → IfSome drawing (λ q. is_live st q ≡ true) → IfSome drawing (λ q. q < suc st.posted)
         by None x = tt
@@ -226,13 +227,13 @@ module _ (m : Running) (st : State) (is : Refines m st) (t : ℕ) (ready : Ready
         kept_renewed = kept_all input st.turns row_then st (st.threads t).owner ns st.messages (is_live st) st.posted m.workers between is.workers renewed
 
         -- the caller's own call can end
-        pub own_there : IfSome ready.drawing (λ q. calls.is_live_number between.calls q ≡ true)
+        pub own_there : IfSome ready.drawing (λ q. calls.is_live_drawing between.calls q ≡ true)
         own_there = by ready.drawing refl (drawing_lives m st is t ready can row row_is) where
-          by : (drawing : Option ℕ) → ready.drawing ≡ drawing → IfSome drawing (λ q. is_live st q ≡ true) → IfSome drawing (λ q. calls.is_live_number between.calls q ≡ true)
+          by : (drawing : Option ℕ) → ready.drawing ≡ drawing → IfSome drawing (λ q. is_live st q ≡ true) → IfSome drawing (λ q. calls.is_live_drawing between.calls q ≡ true)
           by None own x = tt
           by (Some q) own x =
               let dead : alive q ≡ false = ap (λ (o : Option ℕ). life_without_number (is_live st) o q) own ∙ ap (λ (b : Bool). cond b false (is_live st q)) (eq-eqb q q refl) in
-              let others : AreOthers q ns = subst (AreOthers q) numbers_stay (none_of_live alive q dead (numbers_from parts.processes ready.pid t 1 closed) live_then) in
+              let others : AreOthers q ns = subst (AreOthers q) numbers_stay (none_of_live alive q dead (drawings_from parts.processes ready.pid t 1 closed) live_then) in
               let low = (is.workers.agrees.given q x).1 in
               lives_as input renewed_state renewed_life between q kept_renewed ∙ lives_on st (st.threads t).owner q ns (suc st.posted) (is_live st) (omega (arith, low)) others ∙ x
 
@@ -244,7 +245,7 @@ module _ (m : Running) (st : State) (is : Refines m st) (t : ℕ) (ready : Ready
           messages_then : (q : ℕ) → then.messages q ≡ record (messages_after row_then ns st.posted st.messages q) { closed = (then.messages q).closed }
           messages_then q =
               (λ k. record (then.messages q) { head = fold (head_after_change heads (row_is_then k) q) (heads q) (renewals_from (suc st.posted) ns) })
-              ∙ ap (λ (message : Message). record message { closed = (then.messages q).closed }) (sym (message_is heads row_then st.posted ns st.posted st.messages (omega arith) (subst (HaveHeads heads st.posted st.messages) numbers_stay (have_heads (numbers_from parts.processes ready.pid t 1 closed) live_then)) q))
+              ∙ ap (λ (message : Message). record message { closed = (then.messages q).closed }) (sym (message_is heads row_then st.posted ns st.posted st.messages (omega arith) (subst (HaveHeads heads st.posted st.messages) numbers_stay (have_heads (drawings_from parts.processes ready.pid t 1 closed) live_then)) q))
 
           is_kept : RepresentsMessages input then (is_live then) left
           is_kept = closing_is_not_kept input (messages_after row_then ns st.posted st.messages) then.messages st.turns (is_live then) then.posted left
@@ -272,6 +273,14 @@ module _ (m : Running) (st : State) (is : Refines m st) (t : ℕ) (ready : Ready
           set_here = following m st is (choice.Thread t) entry_set (entry_is outcome parts done_is known known_is) refl refl parts left new system_then is_kept rows_are
               (ap length have.rows_are ∙ count_renewed parts.processes ready.pid t closed 1 m.workers.calls.next ∙ length-set m.threads (t - 1) _)
 
+    -- the renewals draw numbers as the law says, while the caller's own is in use
+    pub numbers_here : (new : List ThreadRow) (between left : UnderWay) → HaveRenewed parts.processes ready.pid t closed m.workers new between → KeepsNumbers between.calls left.calls → CarriesEntry entry_set m.workers left
+    numbers_here new between left have fewer = λ ready_with are numbers has.
+        let drawn : CarriesNumbers (numbers_after_renewals ready_with (renewals_from (suc st.posted) ns)) m.workers.calls between.calls =
+        subst (λ (n : ℕ). CarriesNumbers (numbers_after_renewals ready_with (renewals_from n ns)) m.workers.calls between.calls) is.workers.agrees.next
+        (subst (λ (numbers : List ℕ). CarriesNumbers (numbers_after_renewals ready_with (renewals_from m.workers.calls.next numbers)) m.workers.calls between.calls) numbers_stay (have.numbers ready_with are)) in
+        fewer (numbers_after_renewals ready_with (renewals_from (suc st.posted) ns) numbers) (drawn numbers has)
+
     pub entry_here : entry_of m.input st (choice.Thread t) ≡ Some entry_set
     entry_here = entry_is outcome parts done_is known known_is
 
@@ -286,7 +295,7 @@ module _ (m : Running) (st : State) (is : Refines m st) (t : ℕ) (ready : Ready
         (there.0, omega (arith, low, old, new, same))
 
     -- as many copies of the directory were made as numbers are renewed
-    pub copies_stay : replicate (length ns) (process_at m.system.processes ready.pid).cwd ≡ replicate (length (numbers_from parts.processes ready.pid t 1 closed)) (process_at parts.processes ready.pid).cwd
+    pub copies_stay : replicate (length ns) (process_at m.system.processes ready.pid).cwd ≡ replicate (length (drawings_from parts.processes ready.pid t 1 closed)) (process_at parts.processes ready.pid).cwd
     copies_stay = λ k. replicate (length (sym numbers_stay k)) (sym cwd_stays k)
 
 -- ---- in each state that the machine represents
@@ -312,10 +321,10 @@ module _ (m : Running) (t : ℕ) (ready : ReadyCall) (can : CanStep m t (steps.M
     effect_given st = changes_set ready.call sets (system_of m.input st) (request_of m.input st t ready.regs ready.args ready.ids) well ∙ ap (λ (ids : Ids). SetIds ids ∷ renewals (st.threads t).owner t (suc st.posted) (held_from st 1 (thread_count m.input))) given_is
 
     -- the other held calls of its process can be renewed, with as many copies of its directory
-    pub can_set : (st : State) → Refines m st → CanRenew m.workers (numbers_from parts.processes ready.pid t 1 shut)
+    pub can_set : (st : State) → Refines m st → CanRenew m.workers (drawings_from parts.processes ready.pid t 1 shut)
     can_set st is = can_renew m st is t ready can row row_is outcome parts done_is given (effect_given st)
 
-    pub copies_set : (st : State) → Refines m st → replicate (length (numbers_from m.system.processes ready.pid t 1 m.threads)) (process_at m.system.processes ready.pid).cwd ≡ replicate (length (numbers_from parts.processes ready.pid t 1 shut)) (process_at parts.processes ready.pid).cwd
+    pub copies_set : (st : State) → Refines m st → replicate (length (drawings_from m.system.processes ready.pid t 1 m.threads)) (process_at m.system.processes ready.pid).cwd ≡ replicate (length (drawings_from parts.processes ready.pid t 1 shut)) (process_at parts.processes ready.pid).cwd
     copies_set st is = copies_stay m st is t ready can row row_is outcome parts done_is given (effect_given st)
 
     pub cwd_set : (st : State) → Refines m st → (process_at m.system.processes ready.pid).cwd ≡ (process_at parts.processes ready.pid).cwd
@@ -330,17 +339,26 @@ module _ (m : Running) (t : ℕ) (ready : ReadyCall) (can : CanStep m t (steps.M
         let same = length-set m.threads (t - 1) (record row { pending = None }) in
         omega (arith, room, same)
 
+    -- the numbers that are renewed are those that the law's machine renews
+    pub numbers_set : (st : State) → Refines m st → drawings_from parts.processes ready.pid t 1 shut ≡ drawings_from m.system.processes ready.pid t 1 m.threads
+    numbers_set st is = numbers_stay m st is t ready can row row_is outcome parts done_is given (effect_given st)
+
+    -- the caller's own number was given before
+    pub low_set : (st : State) → Refines m st → IfSome ready.drawing (λ q. q < m.workers.calls.next)
+    low_set st is = subst (λ (n : ℕ). IfSome ready.drawing (λ q. q < n)) (sym is.workers.agrees.next) (own_low m st is t ready can row row_is outcome parts done_is given (effect_given st))
+
     -- the caller's own call can end after the renewals
-    pub own_set : (between : UnderWay) (rows : List ThreadRow) → HaveRenewed parts.processes ready.pid t shut m.workers rows between → (st : State) → Refines m st → IfSome ready.drawing (λ q. calls.is_live_number between.calls q ≡ true)
+    pub own_set : (between : UnderWay) (rows : List ThreadRow) → HaveRenewed parts.processes ready.pid t shut m.workers rows between → (st : State) → Refines m st → IfSome ready.drawing (λ q. calls.is_live_drawing between.calls q ≡ true)
     own_set between rows have st is = own_there m st is t ready can row row_is outcome parts done_is given (effect_given st) rows between have
 
     -- a call that sets ids is made, and the other held calls of its process are renewed
-    pub setting : (between left : UnderWay) (rows : List ThreadRow) → HaveRenewed parts.processes ready.pid t shut m.workers rows between → EndsCall ready.drawing between left
-        → IsStep m (choice.Thread t) (Some (Used t ready.drawing ready.call ready.regs ready.args ready.ids outcome.result (SetIds given ∷ renewals_from m.workers.calls.next (numbers_from m.system.processes ready.pid t 1 m.threads)))) (with_parts m parts left rows)
-    setting between left rows have closes = λ st is.
+    pub setting : (between left : UnderWay) (rows : List ThreadRow) → HaveRenewed parts.processes ready.pid t shut m.workers rows between → EndsCall ready.drawing between left → KeepsNumbers between.calls left.calls
+        → IsDrawnStep m (choice.Thread t) (Used t ready.drawing ready.call ready.regs ready.args ready.ids outcome.result (SetIds given ∷ renewals_from m.workers.calls.next (drawings_from m.system.processes ready.pid t 1 m.threads))) (with_parts m parts left rows)
+    setting between left rows have closes fewer = λ st is.
         let given_here = effect_given st in
-        let entry_by : ℕ → Entry = λ n. Used t ready.drawing ready.call ready.regs ready.args ready.ids outcome.result (SetIds given ∷ renewals_from n (numbers_from m.system.processes ready.pid t 1 m.threads)) in
-        subst (λ (n : ℕ). (entry_of m.input st (choice.Thread t) ≡ Some (entry_by n)) × Refines (with_parts m parts left rows) (state_after m.input st (entry_by n))) (sym is.workers.agrees.next) (
+        let entry_by : ℕ → Entry = λ n. Used t ready.drawing ready.call ready.regs ready.args ready.ids outcome.result (SetIds given ∷ renewals_from n (drawings_from m.system.processes ready.pid t 1 m.threads)) in
+        subst (λ (n : ℕ). (entry_of m.input st (choice.Thread t) ≡ Some (entry_by n)) × Refines (with_parts m parts left rows) (state_after m.input st (entry_by n)) × CarriesEntry (entry_by n) m.workers left) (sym is.workers.agrees.next) (
           entry_here m st is t ready can row row_is outcome parts done_is given given_here,
           set_here m st is t ready can row row_is outcome parts done_is given given_here rows between have left closes,
+          numbers_here m st is t ready can row row_is outcome parts done_is given given_here rows between left have fewer,
         )

@@ -7,7 +7,7 @@ use Rattle.st_calls.specs.declared.judged.Snapshot.{Snapshot}
 use Rattle.st_calls.specs.declared.judged.Verdict.{Verdict}
 use Rattle.st_filter.specs.Judging.{verdict}
 use Rattle.st_filter.specs.Policies.{filters_of, policy_of}
-use Rattle.st_messages.specs.Messages.{is_live_number}
+use Rattle.st_messages.specs.Messages.{is_live_drawing}
 use Rattle.st_messages.specs.declared.message.Delivered.{Delivered}
 use Rattle.st_messages.specs.declared.message.Delivered.TheVariants.{Applied, Stale}
 use Rattle.st_model.specs.Memory.{word_of}
@@ -27,7 +27,8 @@ use Rattle.st_law.specs.State.{State, ThreadState, space_of_head, word_for}
 use Rattle.st_base.specs.declared.errno.Errno.{Errno}
 use Rattle.st_model.specs.Processes.{StartedThread, thread_at as started_at}
 use Rattle.st_system.specs.System.{IsSystem, IsThreadState, Parts}
-use Rattle.st_workers.specs.Refinement.{RepresentsAfterEntry, RepresentsMessages, RepresentsMessagesAfter, SameWorkersState}
+use Rattle.st_workers.specs.Numbers.{CarriesEntry, KeepsNumbers, IsNumbered}
+use Rattle.st_workers.specs.Refinement.{drawn_copies, RepresentsAfterEntry, RepresentsMessages, RepresentsMessagesAfter, SameWorkersState}
 use Rattle.st_workers.specs.Tasks.{IsOfProcess}
 use Rattle.st_workers.specs.UnderWay.{turn_of_worker, UnderWay}
 use Rattle.st_workers.specs.declared.task.Task.TheVariants as tasks
@@ -35,7 +36,7 @@ use Rattle.st_workers.specs.declared.turn.Turn.{Turn}
 use Rattle.st_workers.specs.declared.turn.Turn.TheVariants.{Idle, Working, Ready}
 use Rattle.st_decide.specs.Machine as machine
 use Rattle.st_machine.specs.Serving.{is_applied}
-use Rattle.st_decide.specs.Machine.{HasTask, Refines, RefinesSomeState, IsStep, Running}
+use Rattle.st_decide.specs.Machine.{HasTask, Refines, RefinesSomeState, IsDrawnStep, IsStep, Running}
 use Rattle.st_reached.proofs.Owning.{own_process}
 use Rattle.st_workers.proofs.Ended.{lives_as}
 use Rattle.st_decide.proofs.Reached.{reached_of}
@@ -48,19 +49,21 @@ abbrev pub with_workers : Running → UnderWay → Running
 with_workers m workers = with_parts m m.system workers m.threads
 
 -- the machine represents the same state as before if its messages do
-pub stands_so : (m : Running) (new : UnderWay) → SameWorkersState m.workers new → machine.SameState m (with_workers m new)
-stands_so m new stands st is = record {
-  reached = is.reached;
-  bounded = is.bounded;
-  ungranted = is.ungranted;
-  replies = is.replies;
-  system = is.system;
-  workers = stands m.input st.messages st.turns (law.is_live st) st.posted is.workers;
-  threads = is.threads;
-  count = is.count;
-  answers = is.answers;
-  operator = is.operator;
-}
+pub stands_so : (m : Running) (new : UnderWay) → SameWorkersState m.workers new → new.calls ≡ m.workers.calls → machine.SameState m (with_workers m new)
+stands_so m new stands same st is = (stood, same) where
+  stood : Refines (with_workers m new) st
+  stood = record {
+    reached = is.reached;
+    bounded = is.bounded;
+    ungranted = is.ungranted;
+    replies = is.replies;
+    system = is.system;
+    workers = stands m.input st.messages st.turns (law.is_live st) st.posted is.workers;
+    threads = is.threads;
+    count = is.count;
+    answers = is.answers;
+    operator = is.operator;
+  }
 
 above_none : (n : ℕ) → n ≢ 0 → 0 < n
 above_none zero ne = absurd (ne refl)
@@ -177,49 +180,61 @@ module _ (m : Running) (w : ℕ) (new : UnderWay) where
   abbrev HasEntry : Entry → Type 0
   HasEntry e = (i : Input) (st : State) → RepresentsMessages i st (law.is_live st) m.workers → worker_entry i st w ≡ Some e
 
-  pub claimed : (q : ℕ) → HasEntry (entry.Claimed w q) → RepresentsAfterEntry m.workers (entry.Claimed w q) new → IsStep m (choice.Worker w) (Some (entry.Claimed w q)) (with_workers m new)
-  claimed q its follows = λ st is. claimed_step m st is w new w q (its m.input st is.workers) (follows m.input st (law.is_live st) is.workers)
+  -- the step of a worker draws no number
+  with_numbers : (st : State) (e : Entry) → (worker_entry m.input st w ≡ Some e) × Refines (with_workers m new) (state_after m.input st e) → CarriesEntry e m.workers new
+      → (worker_entry m.input st w ≡ Some e) × Refines (with_workers m new) (state_after m.input st e) × CarriesEntry e m.workers new
+  with_numbers st e step carries = (step.0, step.1, carries)
 
-  pub faulted : (q : ℕ) (errno : Errno) → HasTask m w (tasks.Fault q errno) → RepresentsAfterEntry m.workers (entry.Faulted q errno) new → IsStep m (choice.Worker w) (Some (entry.Faulted q errno)) (with_workers m new)
-  faulted q errno task follows = λ st is. faulted_step m st is w new q errno (task.law m.input st is.workers) (follows m.input st (law.is_live st) is.workers)
+  pub claimed : (q : ℕ) → HasEntry (entry.Claimed w q) → RepresentsAfterEntry m.workers (entry.Claimed w q) new → KeepsNumbers m.workers.calls new.calls → IsDrawnStep m (choice.Worker w) (entry.Claimed w q) (with_workers m new)
+  claimed q its follows fewer = λ st is. with_numbers st (entry.Claimed w q) (claimed_step m st is w new w q (its m.input st is.workers) (follows m.input st (law.is_live st) is.workers)) (λ ready are. fewer)
+
+  pub faulted : (q : ℕ) (errno : Errno) → HasTask m w (tasks.Fault q errno) → RepresentsAfterEntry m.workers (entry.Faulted q errno) new → KeepsNumbers m.workers.calls new.calls → IsDrawnStep m (choice.Worker w) (entry.Faulted q errno) (with_workers m new)
+  faulted q errno task follows fewer = λ st is. with_numbers st (entry.Faulted q errno) (faulted_step m st is w new q errno (task.law m.input st is.workers) (follows m.input st (law.is_live st) is.workers)) (λ ready are. fewer)
 
   -- a worker that copies the word that its message's memory has
   pub copied : (q pid part place word : ℕ) → HasTask m w (tasks.Copy q pid part place)
       → ((i : Input) (st : State) → IsSystem i st m.system → word ≡ word_of (st.memory (st.processes pid).space) place)
-      → RepresentsAfterEntry m.workers (entry.Copied q part place word) new → IsStep m (choice.Worker w) (Some (entry.Copied q part place word)) (with_workers m new)
-  copied q pid part place word task is_word follows = λ st is.
+      → RepresentsAfterEntry m.workers (entry.Copied q part place word) new → KeepsNumbers m.workers.calls new.calls → IsDrawnStep m (choice.Worker w) (entry.Copied q part place word) (with_workers m new)
+  copied q pid part place word task is_word follows fewer = λ st is.
       let own = task.law m.input st is.workers in
+      with_numbers st (entry.Copied q part place word) (
       copied_step m st is w new q part place word
       (own.0 ∙ ap (λ (v : ℕ). Some (entry.Copied q part place v)) (word_is st q place pid own.1 ∙ sym (is_word m.input st is.system)))
       (follows m.input st (law.is_live st) is.workers)
+      ) (λ ready are. fewer)
 
   -- a worker that looks at a name, and sees what the tree has under it
   pub looked : (readied : UnderWay) (q part : ℕ) (name : Components) (seen : SeenText) → seen ≡ look m.system.tree name → SameWorkersState m.workers readied
       → ((i : Input) (st : State) → RepresentsMessages i st (law.is_live st) m.workers → worker_entry i st w ≡ Some (entry.Looked q part name (look st.tree name)))
-      → RepresentsAfterEntry readied (entry.Looked q part name seen) new → IsStep m (choice.Worker w) (Some (entry.Looked q part name seen)) (with_workers m new)
-  looked readied q part name seen is_seen stands its follows = λ st is.
+      → RepresentsAfterEntry readied (entry.Looked q part name seen) new → KeepsNumbers m.workers.calls new.calls → IsDrawnStep m (choice.Worker w) (entry.Looked q part name seen) (with_workers m new)
+  looked readied q part name seen is_seen stands its follows fewer = λ st is.
+      with_numbers st (entry.Looked q part name seen) (
       looked_step m st is w new q part name seen
       (its m.input st is.workers ∙ ap (λ (tree : Tree). Some (entry.Looked q part name (look tree name))) is.system.tree ∙ ap (λ (x : SeenText). Some (entry.Looked q part name x)) (sym is_seen))
       (follows m.input st (law.is_live st) (stands m.input st.messages st.turns (law.is_live st) st.posted is.workers))
+      ) (λ ready are. fewer)
 
   -- a ready worker answers
   pub answered : (q : ℕ) (s : Snapshot) (v : Verdict) (applied : Bool) → turn_of_worker m.workers w ≡ Some (Ready q s) → v ≡ verdict (filters_of s.rule (policy_of m.input.policies s.policy)) s
       → ((i : Input) (st : State) (alive : ℕ → Bool) → RepresentsMessages i st alive m.workers → applied ≡ alive q) → HasTask m w tasks.Answer
-      → ((i : Input) (st : State) (alive : ℕ → Bool) → RepresentsMessages i st alive m.workers → v ≡ verdict (filters_of s.rule (policy_of i.policies s.policy)) s → RepresentsMessagesAfter i st (entry.Answered w s v (alive q)) alive new)
-      → IsStep m (choice.Worker w) (Some (entry.Answered w s v applied)) (with_workers m new)
-  answered q s v applied ready judged lives task after = λ st is.
+      → ((i : Input) (st : State) (alive : ℕ → Bool) → RepresentsMessages i st alive m.workers → v ≡ verdict (filters_of s.rule (policy_of i.policies s.policy)) s → RepresentsMessagesAfter i st (entry.Answered w (drawn_copies q s) v (alive q)) alive new)
+      → KeepsNumbers m.workers.calls new.calls
+      → IsDrawnStep m (choice.Worker w) (entry.Answered w (drawn_copies q s) v applied) (with_workers m new)
+  answered q s v applied ready judged lives task after fewer = λ st is.
       let own = task.law m.input st is.workers in
       let here : own.1 ≡ s = same_copies m.workers w own.0 q own.1 s own.2 ready in
       let there : own.0 ≡ q = same_drawing m.workers w own.0 q own.1 s own.2 ready in
       let applies : applied ≡ law.is_live st q = lives m.input st (law.is_live st) is.workers in
-      answered_step m st is w new w s v applied
-      (own.3 ∙ ap (λ (x : Snapshot). Some (entry.Answered w x (verdict (filters_of x.rule (policy_of m.input.policies x.policy)) x) (law.is_live st own.0))) here
-      ∙ ap (λ (n : ℕ). Some (entry.Answered w s (verdict (filters_of s.rule (policy_of m.input.policies s.policy)) s) (law.is_live st n))) there
-      ∙ ap (λ (x : Verdict). Some (entry.Answered w s x (law.is_live st q))) (sym judged) ∙ ap (λ (b : Bool). Some (entry.Answered w s v b)) (sym applies))
-      (subst (λ (b : Bool). RepresentsMessagesAfter m.input st (entry.Answered w s v b) (law.is_live st) new) (sym applies) (after m.input st (law.is_live st) is.workers judged))
+      with_numbers st (entry.Answered w (drawn_copies q s) v applied) (
+      answered_step m st is w new w (drawn_copies q s) v applied
+      (own.3 ∙ ap (λ (x : Snapshot). Some (entry.Answered w (drawn_copies own.0 x) (verdict (filters_of x.rule (policy_of m.input.policies x.policy)) x) (law.is_live st own.0))) here
+      ∙ ap (λ (n : ℕ). Some (entry.Answered w (drawn_copies n s) (verdict (filters_of s.rule (policy_of m.input.policies s.policy)) s) (law.is_live st n))) there
+      ∙ ap (λ (x : Verdict). Some (entry.Answered w (drawn_copies q s) x (law.is_live st q))) (sym judged) ∙ ap (λ (b : Bool). Some (entry.Answered w (drawn_copies q s) v b)) (sym applies))
+      (subst (λ (b : Bool). RepresentsMessagesAfter m.input st (entry.Answered w (drawn_copies q s) v b) (law.is_live st) new) (sym applies) (after m.input st (law.is_live st) is.workers judged))
+      ) (λ ready are. fewer)
 
 -- the process of a live message exists
-pub process_there : (m : Running) → RefinesSomeState m → (q pid : ℕ) → is_live_number m.workers.calls q ≡ true
+pub process_there : (m : Running) → RefinesSomeState m → (q pid : ℕ) → is_live_drawing m.workers.calls q ≡ true
     → ((i : Input) (st : State) → RepresentsMessages i st (law.is_live st) m.workers → IsOfProcess st q pid) → IsPid m.system.processes pid
 process_there m run q pid live of_process =
     let st = run.state in
@@ -238,9 +253,9 @@ pub on_err : {A E P : Type 0} (result : Result A E) → P → OnErr result P
 on_err (Ok a) x = tt
 on_err (Err e) x = x
 
--- the entry that is stored for the caller is that of the step
-pub left_as : (old new : Running) (c : Choice) (added : Option Entry) (e : Entry) → added ≡ Some e → IsStep old c (Some e) new → IsStep old c added new
-left_as old new c added e is step = subst (λ (o : Option Entry). IsStep old c o new) (sym is) step
+-- the entry that is stored for the caller is that of the step, with its numbers
+pub left_as : (old seen new : Running) → old ≡ seen → (c : Choice) (added : Option Entry) (e given : Entry) → added ≡ Some given → IsDrawnStep old c e new → IsNumbered e given old.workers → IsStep seen c added new
+left_as old seen new same c added e given is step numbered = subst (λ (o : Option Entry). IsStep seen c o new) (sym is) (subst (λ (m : Running). IsStep m c (Some given) new) same (e, step, numbered))
 
 -- representing the same state as before is transitive
 pub stands_on : (a b d : UnderWay) → SameWorkersState a b → SameWorkersState b d → SameWorkersState a d
@@ -248,8 +263,8 @@ stands_on a b d first second = λ i messages turns alive posted kept. second i m
 
 -- ---- the machine that runs, after a step
 
-pub running_step : (m new : Running) (c : Choice) (e : Entry) → RefinesSomeState m → IsStep m c (Some e) new → RefinesSomeState new
+pub running_step : (m new : Running) (c : Choice) (e : Entry) → RefinesSomeState m → IsDrawnStep m c e new → RefinesSomeState new
 running_step m new c e run step = record { state = state_after m.input run.state e; is = (step run.state run.is).1 }
 
 pub running_stands : (m new : Running) → RefinesSomeState m → machine.SameState m new → RefinesSomeState new
-running_stands m new run stands = record { state = run.state; is = stands run.state run.is }
+running_stands m new run stands = record { state = run.state; is = (stands run.state run.is).0 }

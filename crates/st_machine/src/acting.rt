@@ -57,15 +57,16 @@ impl<'a> Machine<'a> {
         leave(added, failed.entry(alloc, tid));
     }
 
-    // Denies a thread's call. The number of a held call ends.
+    // Denies a thread's call. The drawing of a held call ends.
     fn deny(&mut self, tid: Tid, denied: DeniedCall, added: &mut Option<Entry>)
         requires { IsNextStep self.old tid (steps.Deny denied) }
         ensures step { IsStep self.old (Thread tid) added.new self.new }
         ensures input { self.new.input ≡ self.old.input }
     {
         self.threads[tid as usize - 1].close();
+        let seq = self.workers.seq_if(denied.drawing);
         end_call(&mut self.workers, denied.drawing);
-        leave(added, denied.entry(tid));
+        leave(added, denied.entry(tid, seq));
     }
 
     // Does a thread's next step. A step that waits adds no entry. If memory runs out, the abstract state is unchanged.

@@ -17,11 +17,11 @@ impl<'a> Machine<'a> {
         ensures place { OnErr result (added.new ≡ added.old) }
         ensures input { self.new.input ≡ self.old.input }
     {
-        let Some(copies) = self.view().least_question() else {
+        let Some(drawing) = self.view().least_question() else {
             leave_none(added);
             return Ok(());
         };
-        let copies = copies.share()?;
+        let copies = self.workers.snapshot(drawing).share()?;
         let entry = self
             .operator
             .answer(alloc, self.input, &mut self.answers, copies.get())?;

@@ -1,9 +1,10 @@
-// Enters calls: fast, barred, untraced, or held under the next number.
+// Enters calls: fast, barred, untraced, or held under the next drawing.
 ghost use Rattle.std.specs.Prelude.{◌≡◌, OnOk, OnErr};
 ghost use Rattle.st_decide.specs.Entering.{IsUnposted, IsWayOf};
 ghost use Rattle.st_decide.specs.Machine.{IsNextStep, IsStep, SameState};
 ghost use Rattle.st_decide.specs.NextSteps.{CanStep};
 ghost use Rattle.st_decide.specs.declared.step.Step.TheVariants as steps;
+ghost use Rattle.st_threads.specs.Ways.{drawn_way};
 ghost use Rattle.st_trace.specs.declared.entry.Choice.TheVariants.{Thread};
 ghost use Rattle.st_trace.specs.declared.entry.Way.TheVariants.{Held};
 
@@ -11,31 +12,46 @@ use crate::machine::Machine;
 use crate::placing::leave;
 use st_base::Tid;
 use st_decide::NewCall;
+use st_threads::CallWay;
 use st_trace::{Entry, Way};
 use std::alloc::{AllocError, Global};
 
+// The way of a call that isn't held, as its entry has it.
+fn way_unheld(way: CallWay) -> Way
+    requires { IsUnposted (drawn_way way) }
+    ensures { result ≡ drawn_way way }
+{
+    match way {
+        CallWay::Fast => Way::Fast,
+        CallWay::Barred(number) => Way::Barred(number),
+        CallWay::Held(_) => unreachable!(),
+        CallWay::Untraced => Way::Untraced,
+    }
+}
+
 impl<'a> Machine<'a> {
     // Enters a thread's call that isn't held.
-    fn enter_unheld(&mut self, tid: Tid, new: &NewCall, way: Way, added: &mut Option<Entry>)
+    fn enter_unheld(&mut self, tid: Tid, new: &NewCall, way: CallWay, added: &mut Option<Entry>)
         requires next { IsNextStep self.old tid (steps.Enter new.now) }
-        requires way { IsWayOf self.old tid new.now way }
-        requires unposted { IsUnposted way }
+        requires way { IsWayOf self.old tid new.now (drawn_way way) }
+        requires unposted { IsUnposted (drawn_way way) }
         ensures step { IsStep self.old (Thread tid) added.new self.new }
         ensures input { self.new.input ≡ self.old.input }
     {
         self.threads[tid as usize - 1].enter(new.call, new.regs, way);
+        let entered = way_unheld(way);
         leave(
             added,
             Entry::Entered {
                 tid,
                 call: new.call,
                 regs: new.regs,
-                way,
+                way: entered,
             },
         );
     }
 
-    // Enters a thread's call that is held under the next number, and posts its message. If memory runs out, the abstract state is
+    // Enters a thread's call that is held under the next drawing, and posts its message. If memory runs out, the abstract state is
     // unchanged.
     fn enter_held(
         &mut self,
@@ -52,16 +68,17 @@ impl<'a> Machine<'a> {
         ensures input { self.new.input ≡ self.old.input }
     {
         let head = self.view().head_of(new)?;
-        let way = Way::Held(head.drawing);
+        let drawing = head.drawing;
+        let seq = head.seq;
         self.workers.post(alloc, tid, head)?;
-        self.threads[tid as usize - 1].enter(new.call, new.regs, way);
+        self.threads[tid as usize - 1].enter(new.call, new.regs, CallWay::Held(drawing));
         leave(
             added,
             Entry::Entered {
                 tid,
                 call: new.call,
                 regs: new.regs,
-                way,
+                way: Way::Held(seq),
             },
         );
         Ok(())
@@ -83,8 +100,8 @@ impl<'a> Machine<'a> {
     {
         let way = self.view().way_of(tid, new);
         match way {
-            Way::Held(_) => self.enter_held(alloc, tid, new, added),
-            Way::Fast | Way::Barred(_) | Way::Untraced => {
+            CallWay::Held(_) => self.enter_held(alloc, tid, new, added),
+            CallWay::Fast | CallWay::Barred(_) | CallWay::Untraced => {
                 self.enter_unheld(tid, new, way, added);
                 Ok(())
             }

@@ -7,6 +7,7 @@ mod choosing;
 mod entering;
 pub mod machine;
 mod making;
+mod own_call;
 mod placing;
 mod renewing;
 mod serving;

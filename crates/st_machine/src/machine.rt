@@ -3,6 +3,8 @@ ghost use Rattle.st_law.specs.Machine.{first_state};
 ghost use Rattle.st_law.specs.State.{State, is_live};
 ghost use Rattle.st_learn.specs.Answers.{AreAnswersIn};
 ghost use Rattle.st_learn.specs.Operator.{IsAdded};
+ghost use Rattle.st_law.specs.Numbers.{in_use_now, no_numbers};
+ghost use Rattle.st_workers.specs.Numbers.{HasNumbers};
 ghost use Rattle.st_workers.specs.Refinement.{RepresentsMessages};
 ghost use Rattle.st_decide.specs.Machine.{Refines};
 ghost use Rattle.st_threads.specs.Thread.{first_row};
@@ -21,7 +23,6 @@ use std::marker::Model;
 
 /// The machine that runs: the modelled system, the messages under way with the workers that serve them, how far each thread has come, what
 /// answers calls, and what the operator has added.
-#[derive(Debug)]
 pub struct Machine<'a> {
     pub(crate) input: &'a Input,
     pub(crate) system: System,
@@ -75,6 +76,7 @@ fn workers_and_threads<'a>(
     input: &'a Input,
 ) -> Result<(Workers, Vec<Thread<'a>>), AllocError>
     ensures workers { IfOk result (λ both. RepresentsMessages input.now (first_state input.now) (is_live (first_state input.now)) both.0) }
+    ensures numbers { IfOk result (λ both. HasNumbers no_numbers both.0.calls) }
     ensures threads { IfOk result (λ both. both.1.items ≡ map (λ row. first_row row.body) input.now.start.threads) }
 {
     let threads = threads_of(alloc, input.start.threads.as_slice())?;
@@ -104,6 +106,7 @@ struct Parts<'a> {
 
 fn parts_of<'a>(alloc: Global, input: &'a Input) -> Result<Parts<'a>, AllocError>
     ensures workers { IfOk result (λ parts. RepresentsMessages input.now (first_state input.now) (is_live (first_state input.now)) parts.workers) }
+    ensures numbers { IfOk result (λ parts. HasNumbers no_numbers parts.workers.calls) }
     ensures threads { IfOk result (λ parts. parts.threads.items ≡ map (λ row. first_row row.body) input.now.start.threads) }
     ensures answers { IfOk result (λ parts. AreAnswersIn input.now (first_state input.now) parts.answers) }
     ensures operator { IfOk result (λ parts. IsAdded input.now (first_state input.now) parts.operator) }
@@ -124,6 +127,7 @@ impl<'a> Machine<'a> {
         requires { CanRun input.now }
         ensures input { IfOk result (λ machine. machine.input ≡ input.now) }
         ensures first { IfOk result (λ machine. Refines machine (first_state input.now)) }
+        ensures numbers { IfOk result (λ machine. HasNumbers (in_use_now input.now (first_state input.now) no_numbers) machine.workers.calls) }
     {
         let system = System::start(alloc, input)?;
         let parts = parts_of(alloc, input)?;

@@ -7,12 +7,13 @@ ghost use Rattle.st_decide.specs.declared.step.Step.TheVariants as steps;
 ghost use Rattle.st_trace.specs.declared.entry.Choice.TheVariants.{Thread};
 
 use crate::machine::Machine;
+use crate::own_call::{OwnCall, end_made};
 use crate::placing::leave;
 use st_base::Tid;
 use st_decide::ReadyCall;
 use st_procs::ids_after;
 use st_request::Outcome;
-use st_threads::{CallingThread, end_by_all, end_call};
+use st_threads::CallingThread;
 use st_trace::Entry;
 use std::alloc::{AllocError, Global};
 
@@ -27,23 +28,25 @@ impl<'a> Machine<'a> {
     {
         let request = self.view().request_with(tid, ready);
         let outcome = self.system.execute(alloc, ready.call, &request)?;
-        self.threads[tid as usize - 1].close();
-        end_call(&mut self.workers, ready.drawing);
-        let changes = outcome.changes.as_slice();
-        end_by_all(
-            &mut self.threads,
-            &mut self.workers,
-            &self.system,
-            CallingThread {
+        let own = OwnCall {
+            caller: CallingThread {
                 pid: ready.pid,
                 tid,
             },
+            drawing: ready.drawing,
+        };
+        let changes = outcome.changes.as_slice();
+        end_made(
+            &mut self.threads,
+            &mut self.workers,
+            &self.system,
+            own,
             changes,
         );
         Ok(outcome)
     }
 
-    // Makes any call of a thread. Unless a call that sets ids is refused, each other held call of its process gets a new number, in the
+    // Makes any call of a thread. Unless a call that sets ids is refused, each other held call of its process gets a new drawing, in the
     // order of threads. If memory runs out, the abstract state is unchanged.
     fn make_any(
         &mut self,
@@ -79,8 +82,12 @@ impl<'a> Machine<'a> {
         ensures place { OnErr result (added.new ≡ added.old) }
         ensures input { self.new.input ≡ self.old.input }
     {
+        let seq = self.workers.seq_if(ready.drawing);
         let outcome = self.make_any(alloc, tid, &ready)?;
-        leave(added, ready.entry(tid, outcome.result, outcome.changes));
+        leave(
+            added,
+            ready.entry(tid, seq, outcome.result, outcome.changes),
+        );
         Ok(())
     }
 }

@@ -1,5 +1,5 @@
-// Gives held calls new numbers after a call that sets the ids of their process.
-ghost use Rattle.std.specs.Prelude.{◌≡◌, ◌≢◌, ◌<◌, ◌+◌, ◌-◌, ◌^◌, true, [], ◌∷◌, ◌++◌, length, replicate, slice_index_or, Some, None, IfSome, IfOk, OnErr};
+// Gives held calls new drawings after a call that sets the ids of their process.
+ghost use Rattle.std.specs.Prelude.{◌≡◌, true, slice_index_or, None, IfOk, OnErr};
 ghost use Rattle.st_machine.specs.Making.{MakesCall};
 ghost use Rattle.st_decide.specs.Machine.{SameState};
 ghost use Rattle.st_decide.specs.NextSteps.{CanStep};
@@ -8,14 +8,15 @@ ghost use Rattle.st_calls.specs.Call.{sets_ids};
 ghost use Rattle.st_model.specs.Identity.{ids_after_set, set_refused};
 
 use crate::machine::Machine;
+use crate::own_call::{OwnCall, renew_others};
 use st_base::{Ids, Tid};
 use st_decide::ReadyCall;
 use st_request::Outcome;
-use st_threads::{CallingThread, NewIds, end_call, plan_renewals, renew_all};
+use st_threads::{CallingThread, NewIds, plan_renewals};
 use std::alloc::{AllocError, Global};
 
 impl<'a> Machine<'a> {
-    // Makes a thread's call that sets these ids, and gives the other held calls of its process new numbers. The number of its own call is
+    // Makes a thread's call that sets these ids, and gives the other held calls of its process new drawings. The drawing of its own call is
     // in use until then. If memory runs out, the abstract state is unchanged.
     pub(crate) fn set_ids(
         &mut self,
@@ -41,22 +42,23 @@ impl<'a> Machine<'a> {
             &self.threads,
             &self.system,
             NewIds { caller, ids: set },
-            self.workers.next_drawing(),
         )?;
         let request = self.view().request_with(tid, ready);
         let outcome = self.system.execute(alloc, ready.call, &request)?;
-        self.threads[tid as usize - 1].close();
-        renew_all(
+        let own = OwnCall {
+            caller,
+            drawing: ready.drawing,
+        };
+        let changes = renew_others(
             &mut self.threads,
             &mut self.workers,
             &self.system,
-            caller,
-            plan.cwds,
+            own,
+            plan,
         );
-        end_call(&mut self.workers, ready.drawing);
         Ok(Outcome {
             result: outcome.result,
-            changes: plan.changes,
+            changes,
         })
     }
 }

@@ -93,7 +93,7 @@ impl<'a> Machine<'a> {
         }
     }
 
-    // Lets an idle worker claim the least waiting number.
+    // Lets an idle worker claim the least waiting drawing.
     fn claim(
         &mut self,
         alloc: Global,
@@ -107,13 +107,8 @@ impl<'a> Machine<'a> {
         ensures input { self.new.input ≡ self.old.input }
     {
         let drawing = self.workers.claim(alloc, worker)?;
-        leave(
-            added,
-            Entry::Claimed {
-                worker,
-                seq: drawing,
-            },
-        );
+        let seq = self.workers.seq(drawing);
+        leave(added, Entry::Claimed { worker, seq });
         Ok(())
     }
 
@@ -132,11 +127,12 @@ impl<'a> Machine<'a> {
         ensures input { self.new.input ≡ self.old.input }
     {
         let word = self.system.word(asked.pid, asked.place);
+        let seq = self.workers.seq(asked.drawing);
         self.workers.copy(alloc, worker, word)?;
         leave(
             added,
             Entry::Copied {
-                seq: asked.drawing,
+                seq,
                 part: asked.part,
                 place: asked.place,
                 word,
@@ -159,6 +155,7 @@ impl<'a> Machine<'a> {
         ensures place { OnErr result (added.new ≡ added.old) }
         ensures input { self.new.input ≡ self.old.input }
     {
+        let seq = self.workers.seq(asked.drawing);
         let name = self.workers.look_name(alloc, worker)?;
         let seen = self.system.look(&name);
         let text = seen.copy(alloc)?;
@@ -166,7 +163,7 @@ impl<'a> Machine<'a> {
         leave(
             added,
             Entry::Looked {
-                seq: asked.drawing,
+                seq,
                 part: asked.part,
                 name,
                 seen: text,
@@ -181,14 +178,9 @@ impl<'a> Machine<'a> {
         ensures step { IsStep self.old (Worker worker) added.new self.new }
         ensures input { self.new.input ≡ self.old.input }
     {
+        let seq = self.workers.seq(drawing);
         self.workers.fault(worker);
-        leave(
-            added,
-            Entry::Faulted {
-                seq: drawing,
-                errno,
-            },
-        );
+        leave(added, Entry::Faulted { seq, errno });
     }
 
     // Lets a ready worker answer with the verdict of the filters that were read on its copies.

@@ -3,7 +3,7 @@ use Rattle.std.proofs.Common.{◌≡◌, ℕ, ◌<◌, ◌≤◌, Bool, true, So
 use Rattle.st_messages.specs.Circle.{AreFreeAhead}
 use Rattle.st_messages.specs.declared.message.Message.{Message}
 use Rattle.st_messages.specs.declared.message.MsgState.{MsgState}
-use Rattle.st_messages.specs.Messages.{HeldCalls, calls_after_cancel, calls_after_let_go, calls_after_post_as, calls_after_renew, calls_after_renew_of, is_kept, message_of_number, next_seq, seq_of, seqs_in_use, with_state, AreValidCalls}
+use Rattle.st_messages.specs.Messages.{HeldCalls, calls_after_cancel, calls_after_let_go, calls_after_post_as, calls_after_renew, calls_after_renew_of, is_kept, message_of_drawing, next_seq, seq_of, seqs_in_use, with_state, AreValidCalls}
 use Rattle.st_messages.proofs.CircleSearch.{at, not_back}
 use Rattle.st_messages.proofs.OwnValues.{had_with, had_without}
 use Rattle.st_messages.proofs.Seqs.{seqs_in-moved, seqs_let_go, seqs_posted, stays_free}
@@ -25,7 +25,7 @@ module _ (calls : HeldCalls) (ahead : ℕ) where
   pub ahead_moved : (drawing : ℕ) (state : MsgState) → AreAhead ahead calls → AreAhead ahead (with_state calls drawing state)
   ahead_moved drawing state free = subst (λ used. AreFreeAhead calls.greatest used calls.last ahead) (sym (seqs_in-moved calls.live calls.kept drawing state)) free
 
-  pub ahead_cancelled : (drawing : ℕ) (keeps : Bool) (m : Message) (last : ℕ) → AreValidCalls calls → message_of_number calls drawing ≡ Some m
+  pub ahead_cancelled : (drawing : ℕ) (keeps : Bool) (m : Message) (last : ℕ) → AreValidCalls calls → message_of_drawing calls drawing ≡ Some m
       → AreFreeAhead calls.greatest (seqs_in_use calls) last ahead → AreFreeAhead calls.greatest (seqs_in_use (calls_after_cancel calls drawing keeps)) last ahead
   ahead_cancelled drawing keeps m last whole is =
       ahead_stays calls (calls_after_cancel calls drawing keeps) last ahead (whole-cancelled calls drawing keeps m whole is) (λ other steps below. had_seq calls drawing keeps m whole is other (at calls.greatest last steps))
@@ -42,7 +42,7 @@ module _ (calls : HeldCalls) (ahead : ℕ) where
         | inr old ↦ old
       ]) free
 
-pub ahead_renewed : (calls : HeldCalls) (ahead drawing : ℕ) (keeps : Bool) (m : Message) → AreValidCalls calls → AreValidCalls (calls_after_renew calls drawing keeps) → message_of_number calls drawing ≡ Some m → next_seq calls ≤ calls.greatest
+pub ahead_renewed : (calls : HeldCalls) (ahead drawing : ℕ) (keeps : Bool) (m : Message) → AreValidCalls calls → AreValidCalls (calls_after_renew calls drawing keeps) → message_of_drawing calls drawing ≡ Some m → next_seq calls ≤ calls.greatest
     → AreFreeAhead calls.greatest (seqs_in_use calls) (next_seq calls) ahead → AreAhead ahead (calls_after_renew calls drawing keeps)
 ahead_renewed calls ahead drawing keeps m whole whole_new is within free =
     let renewed = ap (calls_after_renew_of calls drawing keeps) is in

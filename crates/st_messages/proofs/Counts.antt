@@ -8,17 +8,17 @@ use Rattle.std.specs.Prelude.{is_some}
 use Rattle.st_messages.specs.Circle.{is_among}
 use Rattle.st_messages.specs.declared.kept.KeptNumber.{KeptNumber}
 use Rattle.st_messages.specs.declared.message.Message.{Message}
-use Rattle.st_messages.specs.Messages.{HeldCalls, count_in_use, is_kept, is_kept_of, kept_in, thread_of_number, waiting_message, AreKeptOnce, AreValidCalls}
+use Rattle.st_messages.specs.Messages.{HeldCalls, count_in_use, is_kept, is_kept_of, kept_in, thread_of_drawing, waiting_message, AreKeptOnce, AreValidCalls}
 use Rattle.st_messages.proofs.CircleSearch.{covered}
 use Rattle.st_messages.proofs.Lookups.{found_there}
-use Rattle.st_messages.proofs.Ordered.{numbers_go_up}
+use Rattle.st_messages.proofs.Ordered.{drawings_go_up}
 use Rattle.st_messages.proofs.Seqs.{some_any}
 
-module _ (calls : HeldCalls) (whole : AreValidCalls calls) (tids : List ℕ) (has : (drawing tid : ℕ) → thread_of_number calls drawing ≡ Some tid → is_among tids tid ≡ true) where
+module _ (calls : HeldCalls) (whole : AreValidCalls calls) (tids : List ℕ) (has : (drawing tid : ℕ) → thread_of_drawing calls drawing ≡ Some tid → is_among tids tid ≡ true) where
   abbrev message_at : ℕ → Message
   message_at k = get_or calls.live k (waiting_message 0 0 0)
 
-  thread_at : (k : ℕ) → k < length calls.live → thread_of_number calls (message_at k).drawing ≡ Some (message_at k).tid
+  thread_at : (k : ℕ) → k < length calls.live → thread_of_drawing calls (message_at k).drawing ≡ Some (message_at k).tid
   thread_at k inside =
       ap (option_map (λ (message : Message). message.tid)) (found_there calls.live 1 calls.next k (message_at k) whole.ordered inside (get_or_default calls.live k (waiting_message 0 0 0) (message_at k) inside))
 
@@ -27,7 +27,7 @@ module _ (calls : HeldCalls) (whole : AreValidCalls calls) (tids : List ℕ) (ha
       covered (λ k. (message_at k).tid) (length calls.live) tids
       (λ i k less inside same.
       let one = whole.threads (message_at i).drawing (message_at k).drawing (message_at k).tid (thread_at i (omega (arith, less, inside)) ∙ ap Some same) (thread_at k inside) in
-      omega (arith, one, numbers_go_up calls.live 1 calls.next k i (waiting_message 0 0 0) whole.ordered inside less)
+      omega (arith, one, drawings_go_up calls.live 1 calls.next k i (waiting_message 0 0 0) whole.ordered inside less)
       )
       (λ k inside. has (message_at k).drawing (message_at k).tid (thread_at k inside))
 
@@ -53,6 +53,6 @@ module _ (calls : HeldCalls) (whole : AreValidCalls calls) (drawings : List ℕ)
       (λ k inside. has (get_or calls.kept k none).drawing (kept_at calls.kept k inside))
 
 -- no more numbers are in use than there are threads with live messages and drawings whose numbers are kept, by any lists of these
-pub count_at_most : (calls : HeldCalls) → AreValidCalls calls → (tids drawings : List ℕ) → ((drawing tid : ℕ) → thread_of_number calls drawing ≡ Some tid → is_among tids tid ≡ true)
+pub count_at_most : (calls : HeldCalls) → AreValidCalls calls → (tids drawings : List ℕ) → ((drawing tid : ℕ) → thread_of_drawing calls drawing ≡ Some tid → is_among tids tid ≡ true)
     → ((drawing : ℕ) → is_kept calls drawing ≡ true → is_among drawings drawing ≡ true) → count_in_use calls ≤ length tids + length drawings
 count_at_most calls whole tids drawings threads kept = omega (arith, live_count calls whole tids threads, kept_count calls whole drawings kept)

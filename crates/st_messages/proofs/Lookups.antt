@@ -12,8 +12,8 @@ use Rattle.std.specs.Prelude.{nat_lt, slice_get}
 use Rattle.st_messages.specs.declared.kept.KeptNumber.{KeptNumber}
 use Rattle.st_messages.specs.declared.message.MsgState.{MsgState}
 use Rattle.st_messages.specs.declared.message.Message.{Message}
-use Rattle.st_messages.proofs.Ordered.{numbers_go_up}
-use Rattle.st_messages.specs.Messages.{AreBetween, is_message_of, kept_in, message_in, waiting_message, with_state_in, without_kept, without_number}
+use Rattle.st_messages.proofs.Ordered.{drawings_go_up}
+use Rattle.st_messages.specs.Messages.{AreBetween, is_message_of, kept_in, message_in, waiting_message, with_state_in, without_kept, without_drawing}
 
 cond_none : {X : Type 0} (b : Bool) → cond {A = Option X} b None None ≡ None
 cond_none true = refl
@@ -80,7 +80,7 @@ module _ (live : List Message) (from to i : ℕ) (m : Message) (are : AreBetween
 
   before : (k : ℕ) → k < i → is_message_of m.drawing (get_or live k m) ≡ false
   before k below =
-      let less : (get_or live k m).drawing < m.drawing = subst (λ (x : Message). (get_or live k m).drawing < x.drawing) (sym m_is) (numbers_go_up live from to i k m are inside below) in
+      let less : (get_or live k m).drawing < m.drawing = subst (λ (x : Message). (get_or live k m).drawing < x.drawing) (sym m_is) (drawings_go_up live from to i k m are inside below) in
       ne_eqb (get_or live k m).drawing m.drawing (λ e. omega (arith, e, less))
 
   -- a message is found at its index
@@ -101,7 +101,7 @@ module _ (live : List Message) (from to drawing : ℕ) (are : AreBetween from li
   -- no smaller number comes after a greater one
   pub parted : IsPartitionedBy (λ (m : Message). nat_lt m.drawing drawing) live
   parted i j d le inside passes = elim (cases_lt i j) [
-    | inl lt ↦ (let less = numbers_go_up live from to j i d are inside lt in let top = ltb-true (get_or live j d).drawing drawing passes in lt-ltb (get_or live i d).drawing drawing (omega (arith, less, top)))
+    | inl lt ↦ (let less = drawings_go_up live from to j i d are inside lt in let top = ltb-true (get_or live j d).drawing drawing passes in lt-ltb (get_or live i d).drawing drawing (omega (arith, less, top)))
     | inr ge ↦ (let same : i ≡ j = omega (arith, le, ge) in ap (λ (n : ℕ). nat_lt (get_or live n d).drawing drawing) same ∙ passes)
   ]
 
@@ -111,7 +111,7 @@ module _ (live : List Message) (from to drawing : ℕ) (are : AreBetween from li
   -- a message with the number is at its index
   pub position_there : (i : ℕ) (d : Message) → i < length live → (get_or live i d).drawing ≡ drawing → position (is_message_of drawing) live ≡ Some i
   position_there i d inside is =
-      let at = position_or_len_is (is_message_of drawing) live i d (omega (arith, inside)) (λ k below. ne_eqb (get_or live k d).drawing drawing (λ e. omega (arith, e, is, numbers_go_up live from to i k d are inside below))) (λ _. eq-eqb (get_or live i d).drawing drawing is) in
+      let at = position_or_len_is (is_message_of drawing) live i d (omega (arith, inside)) (λ k below. ne_eqb (get_or live k d).drawing drawing (λ e. omega (arith, e, is, drawings_go_up live from to i k d are inside below))) (λ _. eq-eqb (get_or live i d).drawing drawing is) in
       ap index at ∙ rw (lt-ltb i (length live) inside) refl
 
   -- no message has the number
@@ -134,24 +134,24 @@ module _ (live : List Message) (from to drawing : ℕ) (are : AreBetween from li
       | inl lt ↦ less k d lt
       | inr ge ↦ (let least = ltb-false (get_or live i d).drawing drawing (point.1 i d (omega arith) inside) in elim (cases_eq k i) [
         | inl e ↦ (λ same. apart (ap (λ (n : ℕ). (get_or live n d).drawing) (sym e) ∙ same))
-        | inr ne ↦ (let more = numbers_go_up live from to k i d are within (omega (arith, ge, ne)) in λ same. omega (arith, more, least, same))
+        | inr ne ↦ (let more = drawings_go_up live from to k i d are within (omega (arith, ge, ne)) in λ same. omega (arith, more, least, same))
       ])
     ])
 
 -- ---- a message is removed
 
-none_without : (live : List Message) (from to drawing : ℕ) → AreBetween from live to → drawing < from → without_number live drawing ≡ live
+none_without : (live : List Message) (from to drawing : ℕ) → AreBetween from live to → drawing < from → without_drawing live drawing ≡ live
 none_without [] from to drawing are below = refl
 none_without (m ∷ live) from to drawing are below =
     rw (ne_eqb m.drawing drawing (λ e. omega (arith, e, are.0))) (ap (λ (ms : List Message). m ∷ ms) (none_without live (suc m.drawing) to drawing are.1 (omega (arith, are.0))))
 
 -- the message of a number is removed at its index
-pub removed-at : (live : List Message) (from to drawing i : ℕ) (d : Message) → AreBetween from live to → i < length live → (get_or live i d).drawing ≡ drawing → remove live i ≡ without_number live drawing
+pub removed-at : (live : List Message) (from to drawing i : ℕ) (d : Message) → AreBetween from live to → i < length live → (get_or live i d).drawing ≡ drawing → remove live i ≡ without_drawing live drawing
 removed-at [] from to drawing i d are inside is = absurd (omega (arith, inside))
 removed-at (m ∷ live) from to drawing zero d are inside is =
     rw (eq-eqb m.drawing drawing is) (sym (none_without live (suc m.drawing) to drawing are.1 (omega (arith, is))))
 removed-at (m ∷ live) from to drawing (suc i) d are inside is =
-    let less = numbers_go_up (m ∷ live) from to (suc i) 0 d are inside (omega arith) in
+    let less = drawings_go_up (m ∷ live) from to (suc i) 0 d are inside (omega arith) in
     rw (ne_eqb m.drawing drawing (λ e. omega (arith, e, is, less))) (ap (λ (ms : List Message). m ∷ ms) (removed-at live (suc m.drawing) to drawing i d are.1 (omega (arith, inside)) is))
 
 found_without-by : {X : Type 0} (key : X → ℕ) (x : X) (xs : List X) (q other : ℕ) (a b : Bool) → (key x == q) ≡ a → (key x == other) ≡ b
@@ -174,7 +174,7 @@ found_without_key key [] q other = sym (cond_none (other == q))
 found_without_key key (x ∷ xs) q other = found_without-by key x xs q other (key x == q) (key x == other) refl refl (found_without_key key xs q other)
 
 -- no message is found under that drawing, and each other is unchanged
-pub found_without : (live : List Message) (drawing other : ℕ) → message_in (without_number live drawing) other ≡ cond (other == drawing) None (message_in live other)
+pub found_without : (live : List Message) (drawing other : ℕ) → message_in (without_drawing live drawing) other ≡ cond (other == drawing) None (message_in live other)
 found_without live drawing other = found_without_key (λ (message : Message). message.drawing) live drawing other
 
 -- the same of kept numbers

@@ -7,7 +7,7 @@ use Rattle.std.specs.Option.{option_map}
 use Rattle.st_messages.specs.declared.message.MsgState.{MsgState}
 use Rattle.st_messages.specs.declared.message.MsgState.TheVariants.{Waiting, Claimed, Answered, Faulted}
 use Rattle.st_messages.specs.declared.message.Message.{Message}
-use Rattle.st_messages.specs.Messages.{AreBetween, is_unclaimed, is_waiting_state, message_in, waiting_message, with_state_in, without_number}
+use Rattle.st_messages.specs.Messages.{AreBetween, is_unclaimed, is_waiting_state, message_in, waiting_message, with_state_in, without_drawing}
 
 -- ---- the order stays
 
@@ -22,7 +22,7 @@ between-moved (m ∷ live) drawing state from to are = elim (cases_eq m.drawing 
   | inr ne ↦ rw (ne_eqb m.drawing drawing ne) (are.0, between-moved live drawing state (suc m.drawing) to are.1)
 ]
 
-pub between-without : (live : List Message) (drawing from to : ℕ) → AreBetween from live to → AreBetween from (without_number live drawing) to
+pub between-without : (live : List Message) (drawing from to : ℕ) → AreBetween from live to → AreBetween from (without_drawing live drawing) to
 between-without [] drawing from to are = are
 between-without (m ∷ live) drawing from to are = elim (cases_eq m.drawing drawing) [
   | inl e ↦ rw (eq-eqb m.drawing drawing e) (between-without live drawing from to (between-weaken live from (suc m.drawing) to (omega (arith, are.0)) are.1))
@@ -81,11 +81,11 @@ no_less_at (m ∷ live) from to zero d are inside = are.0
 no_less_at (m ∷ live) from to (suc i) d are inside = omega (arith, are.0, no_less_at live (suc m.drawing) to i d are.1 (omega (arith, inside)))
 
 -- earlier messages have smaller numbers
-pub numbers_go_up : (live : List Message) (from to i k : ℕ) (d : Message) → AreBetween from live to → i < length live → k < i → (get_or live k d).drawing < (get_or live i d).drawing
-numbers_go_up [] from to i k d are inside below = absurd (omega (arith, inside))
-numbers_go_up (m ∷ live) from to zero k d are inside below = absurd (omega (arith, below))
-numbers_go_up (m ∷ live) from to (suc i) zero d are inside below = no_less_at live (suc m.drawing) to i d are.1 (omega (arith, inside))
-numbers_go_up (m ∷ live) from to (suc i) (suc k) d are inside below = numbers_go_up live (suc m.drawing) to i k d are.1 (omega (arith, inside)) (omega (arith, below))
+pub drawings_go_up : (live : List Message) (from to i k : ℕ) (d : Message) → AreBetween from live to → i < length live → k < i → (get_or live k d).drawing < (get_or live i d).drawing
+drawings_go_up [] from to i k d are inside below = absurd (omega (arith, inside))
+drawings_go_up (m ∷ live) from to zero k d are inside below = absurd (omega (arith, below))
+drawings_go_up (m ∷ live) from to (suc i) zero d are inside below = no_less_at live (suc m.drawing) to i d are.1 (omega (arith, inside))
+drawings_go_up (m ∷ live) from to (suc i) (suc k) d are inside below = drawings_go_up live (suc m.drawing) to i k d are.1 (omega (arith, inside)) (omega (arith, below))
 
 -- ---- which waiting message is first
 

@@ -5,8 +5,8 @@ use Rattle.std.proofs.lemmas.Option.{same_Some}
 use Rattle.std.specs.Option.{option_map}
 use Rattle.st_messages.specs.declared.message.MsgState.TheVariants.{Waiting, Claimed}
 use Rattle.st_messages.specs.declared.message.Message.{Message}
-use Rattle.st_messages.specs.Laws.{ClaimsGoUp, DeadNumbersStay, KeptAreStale, LeadsTo, Stays, Posts, Moves, Renews, Cancels, LetsGo, RenewedAreStale}
-use Rattle.st_messages.specs.Messages.{HeldCalls, is_claimed_state, message_of_number, next_seq, calls_after_cancel, calls_after_renew_of, HasEnded}
+use Rattle.st_messages.specs.Laws.{ClaimsGoUp, DeadDrawingsStay, KeptAreStale, LeadsTo, Stays, Posts, Moves, Renews, Cancels, LetsGo, RenewedAreStale}
+use Rattle.st_messages.specs.Messages.{HeldCalls, is_claimed_state, message_of_drawing, next_seq, calls_after_cancel, calls_after_renew_of, HasEnded}
 use Rattle.st_messages.proofs.Whole.{ended-cancelled, ended-moved, ended-posted, has_ended, states_moved, waiting_live}
 
 ended-renewed : (calls : HeldCalls) (other : ℕ) (keeps : Bool) (o : Option Message) (drawing : ℕ) → HasEnded calls drawing → HasEnded (calls_after_renew_of calls other keeps o) drawing
@@ -17,7 +17,7 @@ stays_ended : (drawing : ℕ) (old new : HeldCalls) → HasEnded old drawing →
 stays_ended drawing old new ended Stays = ended
 stays_ended drawing old new ended (Posts {calls = calls} tid before) = ended-posted calls tid (next_seq calls) drawing (stays_ended drawing old calls ended before)
 stays_ended drawing old new ended (Moves {calls = calls} other state before) = ended-moved calls other state drawing (stays_ended drawing old calls ended before)
-stays_ended drawing old new ended (Renews {calls = calls} other keeps before) = ended-renewed calls other keeps (message_of_number calls other) drawing (stays_ended drawing old calls ended before)
+stays_ended drawing old new ended (Renews {calls = calls} other keeps before) = ended-renewed calls other keeps (message_of_drawing calls other) drawing (stays_ended drawing old calls ended before)
 stays_ended drawing old new ended (Cancels {calls = calls} other keeps before) = ended-cancelled calls other keeps drawing (stays_ended drawing old calls ended before)
 stays_ended drawing old new ended (LetsGo {calls = calls} other before) = stays_ended drawing old calls ended before
 
@@ -25,16 +25,16 @@ no_message : (o : Option Message) → option_map (λ (message : Message). messag
 no_message None is = refl
 no_message (Some m) is = cc
 
-pub dead_numbers_stay : DeadNumbersStay
-dead_numbers_stay old new drawing given none leads =
-    ap (option_map (λ (message : Message). message.state)) (stays_ended drawing old new (given, no_message (message_of_number old drawing) none) leads).1
+pub dead_drawings_stay : DeadDrawingsStay
+dead_drawings_stay old new drawing given none leads =
+    ap (option_map (λ (message : Message). message.state)) (stays_ended drawing old new (given, no_message (message_of_drawing old drawing) none) leads).1
 
-renewed_stale : (calls : HeldCalls) (drawing : ℕ) (keeps : Bool) (o : Option Message) → message_of_number calls drawing ≡ o → drawing < calls.next → message_of_number (calls_after_renew_of calls drawing keeps o) drawing ≡ None
+renewed_stale : (calls : HeldCalls) (drawing : ℕ) (keeps : Bool) (o : Option Message) → message_of_drawing calls drawing ≡ o → drawing < calls.next → message_of_drawing (calls_after_renew_of calls drawing keeps o) drawing ≡ None
 renewed_stale calls drawing keeps None is given = is
 renewed_stale calls drawing keeps (Some message) is given = (ended-posted (calls_after_cancel calls drawing keeps) message.tid (next_seq calls) drawing (has_ended calls drawing keeps given)).1
 
 pub renewed_are_stale : RenewedAreStale
-renewed_are_stale calls drawing keeps given = ap (λ (o : Option Message). is_claimed_state (option_map (λ (message : Message). message.state) o)) (renewed_stale calls drawing keeps (message_of_number calls drawing) refl given)
+renewed_are_stale calls drawing keeps given = ap (λ (o : Option Message). is_claimed_state (option_map (λ (message : Message). message.state) o)) (renewed_stale calls drawing keeps (message_of_drawing calls drawing) refl given)
 
 pub kept_are_stale : KeptAreStale
 kept_are_stale calls drawing whole kept = ap (λ (o : Option Message). is_claimed_state (option_map (λ (message : Message). message.state) o)) (whole.ended drawing kept).1

@@ -12,7 +12,7 @@ use Rattle.st_messages.specs.Circle.{is_among}
 use Rattle.st_messages.specs.declared.kept.KeptNumber.{KeptNumber}
 use Rattle.st_messages.specs.declared.message.MsgState.{MsgState}
 use Rattle.st_messages.specs.declared.message.Message.{Message}
-use Rattle.st_messages.specs.Messages.{HeldCalls, calls_after_cancel, calls_after_let_go, calls_after_post_as, drawing_of, has_seq, is_in_use, is_kept, is_kept_of, is_message_of, keeps_seq, kept_in, kept_of_message, message_in, message_of_number, seq_left, seq_of, seqs_in, with_state, with_state_in, without_kept, without_number, AreKeptOnce, AreValidCalls, ChangesSeq, ChangesKept}
+use Rattle.st_messages.specs.Messages.{HeldCalls, calls_after_cancel, calls_after_let_go, calls_after_post_as, drawing_of, has_seq, is_in_use, is_kept, is_kept_of, is_message_of, keeps_seq, kept_in, kept_of_message, message_in, message_of_drawing, seq_left, seq_of, seqs_in, with_state, with_state_in, without_kept, without_drawing, AreKeptOnce, AreValidCalls, ChangesSeq, ChangesKept}
 use Rattle.st_messages.proofs.Lookups.{found_moved, found_posted, found_without, kept_without, moved, option_or_none}
 use Rattle.st_messages.proofs.Ordered.{found_itself, none_later}
 
@@ -67,7 +67,7 @@ once-kept kept false m none once = subst AreKeptOnce (sym (append-nil kept)) onc
 once-kept kept true m none once = once-with kept (record { drawing = m.drawing; seq = m.seq }) none once
 
 -- the number of a live drawing isn't kept
-pub live_not_kept : (calls : HeldCalls) (drawing : ℕ) (m : Message) → AreValidCalls calls → message_of_number calls drawing ≡ Some m → kept_in calls.kept drawing ≡ None
+pub live_not_kept : (calls : HeldCalls) (drawing : ℕ) (m : Message) → AreValidCalls calls → message_of_drawing calls drawing ≡ Some m → kept_in calls.kept drawing ≡ None
 live_not_kept calls drawing m whole is = by (kept_in calls.kept drawing) refl where
   by : (o : Option KeptNumber) → kept_in calls.kept drawing ≡ o → o ≡ None
   by None o_is = refl
@@ -98,7 +98,7 @@ seqs_posted calls tid seq whole other =
       | inr ne ↦ rw (ne_eqb other calls.next ne) refl
     ]
 
-module _ (calls : HeldCalls) (drawing : ℕ) (keeps : Bool) (m : Message) (whole : AreValidCalls calls) (is : message_of_number calls drawing ≡ Some m) where
+module _ (calls : HeldCalls) (drawing : ℕ) (keeps : Bool) (m : Message) (whole : AreValidCalls calls) (is : message_of_drawing calls drawing ≡ Some m) where
   pub number : m.drawing ≡ drawing
   number = eqb-true m.drawing drawing (found_itself (is_message_of drawing) calls.live 1 calls.next m whole.ordered is).1
 
@@ -135,7 +135,7 @@ module _ (calls : HeldCalls) (drawing : ℕ) (keeps : Bool) (m : Message) (whole
 
   pub seqs_cancelled : ChangesSeq calls drawing (seq_left calls drawing keeps) (calls_after_cancel calls drawing keeps)
   seqs_cancelled other =
-      ap (λ o. option_or (seq_in (message_in (without_number calls.live drawing) other)) (kept_seq (kept_in (calls.kept ++ kept_of_message keeps o) other))) is
+      ap (λ o. option_or (seq_in (message_in (without_drawing calls.live drawing) other)) (kept_seq (kept_in (calls.kept ++ kept_of_message keeps o) other))) is
       ∙ ap (λ o. option_or (seq_in o) (kept_seq (kept_in kept_now other))) (found_without calls.live drawing other)
       ∙ elim (cases_eq other drawing) [
         | inl e ↦ rw (eq-eqb other drawing e) (ap (λ q. kept_seq (kept_in kept_now q)) e ∙ left_here keeps refl)

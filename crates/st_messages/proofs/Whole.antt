@@ -9,7 +9,7 @@ use Rattle.std.specs.Prelude.{is_some}
 use Rattle.st_messages.specs.declared.message.MsgState.{MsgState}
 use Rattle.st_messages.specs.declared.message.MsgState.TheVariants.{Waiting, Claimed}
 use Rattle.st_messages.specs.declared.message.Message.{Message}
-use Rattle.st_messages.specs.Messages.{HeldCalls, count_in_use, is_in_use, is_kept, is_kept_of, is_live_number, is_message_of, kept_in, kept_of_message, message_in, message_of_number, message_state, most_in_use, next_seq, seq_of, seqs_in_use, thread_of_number, waiting_message, with_state, calls_after_cancel, calls_after_let_go, calls_after_post_as, calls_after_renew, calls_after_renew_of, is_unclaimed, AreKeptOnce, ChangesState, HasEnded, HasNoNumber, IsInCircle, IsLeastWaiting, IsWaiting, AreValidCalls, HasWorker, RenewsSeq, RenewsState, ChangesKept}
+use Rattle.st_messages.specs.Messages.{HeldCalls, count_in_use, is_in_use, is_kept, is_kept_of, is_live_drawing, is_message_of, kept_in, kept_of_message, message_in, message_of_drawing, message_state, most_in_use, next_seq, seq_of, seqs_in_use, thread_of_drawing, waiting_message, with_state, calls_after_cancel, calls_after_let_go, calls_after_post_as, calls_after_renew, calls_after_renew_of, is_unclaimed, AreKeptOnce, ChangesState, HasEnded, HasNoDrawing, IsInCircle, IsLeastWaiting, IsWaiting, AreValidCalls, HasWorker, RenewsSeq, RenewsState, ChangesKept}
 use Rattle.st_messages.proofs.CircleSearch.{filter_shorter, first_is_free}
 use Rattle.st_messages.proofs.Lookups.{found_moved, found_other, found_posted, found_without, kept_without, moved}
 use Rattle.st_messages.proofs.Ordered.{between-moved, between-posted, between-without, first_waits, found_below, none_later}
@@ -30,9 +30,9 @@ state_moved : (o : Option Message) (state : MsgState) → is_some o ≡ true →
 state_moved None state is = absurd (true≢false (sym is))
 state_moved (Some m) state is = refl
 
-pub live_message : (calls : HeldCalls) (drawing : ℕ) → is_live_number calls drawing ≡ true → (m : Message) × (message_of_number calls drawing ≡ Some m)
-live_message calls drawing live = by (message_of_number calls drawing) refl where
-  by : (o : Option Message) → message_of_number calls drawing ≡ o → (m : Message) × (message_of_number calls drawing ≡ Some m)
+pub live_message : (calls : HeldCalls) (drawing : ℕ) → is_live_drawing calls drawing ≡ true → (m : Message) × (message_of_drawing calls drawing ≡ Some m)
+live_message calls drawing live = by (message_of_drawing calls drawing) refl where
+  by : (o : Option Message) → message_of_drawing calls drawing ≡ o → (m : Message) × (message_of_drawing calls drawing ≡ Some m)
   by None o_is = absurd (true≢false (sym live ∙ ap is_some o_is))
   by (Some m) o_is = (m, o_is)
 
@@ -52,7 +52,7 @@ ended-moved calls other state drawing ended = (
 )
 
 pub ended-cancelled : (calls : HeldCalls) (other : ℕ) (keeps : Bool) (drawing : ℕ) → HasEnded calls drawing → HasEnded (calls_after_cancel calls other keeps) drawing
-ended-cancelled calls other keeps drawing ended = (ended.0, found_without calls.live other drawing ∙ both_none (drawing == other) (message_of_number calls drawing) ended.1)
+ended-cancelled calls other keeps drawing ended = (ended.0, found_without calls.live other drawing ∙ both_none (drawing == other) (message_of_drawing calls drawing) ended.1)
 
 pub ended-posted : (calls : HeldCalls) (tid seq drawing : ℕ) → HasEnded calls drawing → HasEnded (calls_after_post_as calls tid seq) drawing
 ended-posted calls tid seq drawing ended = (omega (arith, ended.0), found_other calls.live calls.next seq tid drawing (λ e. omega (arith, e, ended.0)) ∙ ended.1)
@@ -64,17 +64,17 @@ has_ended calls drawing keeps given = (given, found_without calls.live drawing d
 -- ---- a message has another state
 
 module _ (calls : HeldCalls) (drawing : ℕ) (state : MsgState) where
-  pub states_moved : is_live_number calls drawing ≡ true → ChangesState calls drawing (Some state) (with_state calls drawing state)
+  pub states_moved : is_live_drawing calls drawing ≡ true → ChangesState calls drawing (Some state) (with_state calls drawing state)
   states_moved live other =
-      ap state_of (found_moved calls.live drawing other state) ∙ under_cond state_of (other == drawing) _ _ ∙ ap (λ (s : Option MsgState). cond (other == drawing) s (message_state calls other)) (state_moved (message_of_number calls drawing) state live)
+      ap state_of (found_moved calls.live drawing other state) ∙ under_cond state_of (other == drawing) _ _ ∙ ap (λ (s : Option MsgState). cond (other == drawing) s (message_state calls other)) (state_moved (message_of_drawing calls drawing) state live)
 
-  pub threads_moved : (other : ℕ) → thread_of_number (with_state calls drawing state) other ≡ thread_of_number calls other
+  pub threads_moved : (other : ℕ) → thread_of_drawing (with_state calls drawing state) other ≡ thread_of_drawing calls other
   threads_moved other = field_moved (λ (message : Message). message.tid) (λ m state. refl) calls.live drawing other state
 
-  pub whole-moved : AreValidCalls calls → is_live_number calls drawing ≡ true → ((worker : ℕ) → state ≡ Claimed worker → HasWorker calls worker) → AreValidCalls (with_state calls drawing state)
+  pub whole-moved : AreValidCalls calls → is_live_drawing calls drawing ≡ true → ((worker : ℕ) → state ≡ Claimed worker → HasWorker calls worker) → AreValidCalls (with_state calls drawing state)
   whole-moved whole live worker_is = record {
     ordered = between-moved calls.live drawing state 1 calls.next whole.ordered;
-    threads = own-same (thread_of_number calls) (thread_of_number (with_state calls drawing state)) threads_moved whole.threads;
+    threads = own-same (thread_of_drawing calls) (thread_of_drawing (with_state calls drawing state)) threads_moved whole.threads;
     workers = λ other worker is. elim (cases_eq other drawing) [
       | inl e ↦ worker_is worker (same_Some state (Claimed worker) (sym (states_moved live other ∙ rw (eq-eqb other drawing e) refl) ∙ is))
       | inr ne ↦ whole.workers other worker (sym (states_moved live other ∙ rw (ne_eqb other drawing ne) refl) ∙ is)
@@ -95,18 +95,18 @@ module _ (calls : HeldCalls) (drawing : ℕ) (keeps : Bool) where
   left = calls_after_cancel calls drawing keeps
 
   pub states_cancelled : ChangesState calls drawing None left
-  states_cancelled other = ap state_of (found_without calls.live drawing other) ∙ under_cond state_of (other == drawing) None (message_of_number calls other)
+  states_cancelled other = ap state_of (found_without calls.live drawing other) ∙ under_cond state_of (other == drawing) None (message_of_drawing calls other)
 
-  pub threads_cancelled : (other : ℕ) → thread_of_number left other ≡ cond (other == drawing) None (thread_of_number calls other)
-  threads_cancelled other = ap thread_of (found_without calls.live drawing other) ∙ under_cond thread_of (other == drawing) None (message_of_number calls other)
+  pub threads_cancelled : (other : ℕ) → thread_of_drawing left other ≡ cond (other == drawing) None (thread_of_drawing calls other)
+  threads_cancelled other = ap thread_of (found_without calls.live drawing other) ∙ under_cond thread_of (other == drawing) None (message_of_drawing calls other)
 
   -- the thread has no number left
-  pub cancelled_none : (tid : ℕ) → AreValidCalls calls → thread_of_number calls drawing ≡ Some tid → HasNoNumber left tid
+  pub cancelled_none : (tid : ℕ) → AreValidCalls calls → thread_of_drawing calls drawing ≡ Some tid → HasNoDrawing left tid
   cancelled_none tid whole is other other_is =
       let had = had_without drawing other tid _ _ (threads_cancelled other) other_is in
       had.0 (whole.threads other drawing tid had.1 is)
 
-module _ (calls : HeldCalls) (drawing : ℕ) (keeps : Bool) (m : Message) (whole : AreValidCalls calls) (is : message_of_number calls drawing ≡ Some m) where
+module _ (calls : HeldCalls) (drawing : ℕ) (keeps : Bool) (m : Message) (whole : AreValidCalls calls) (is : message_of_drawing calls drawing ≡ Some m) where
   abbrev left_of : HeldCalls
   left_of = calls_after_cancel calls drawing keeps
 
@@ -137,7 +137,7 @@ module _ (calls : HeldCalls) (drawing : ℕ) (keeps : Bool) (m : Message) (whole
   pub whole-cancelled : AreValidCalls left_of
   whole-cancelled = record {
     ordered = between-without calls.live drawing 1 calls.next whole.ordered;
-    threads = own-without (thread_of_number calls) (thread_of_number left_of) drawing (threads_cancelled calls drawing keeps) whole.threads;
+    threads = own-without (thread_of_drawing calls) (thread_of_drawing left_of) drawing (threads_cancelled calls drawing keeps) whole.threads;
     workers = λ other worker has. whole.workers other worker (had_without drawing other (Claimed worker) _ _ (states_cancelled calls drawing keeps other) has).1;
     seqs = λ a b seq a_is b_is. whole.seqs a b seq (had_seq a seq a_is) (had_seq b seq b_is);
     circle = λ other seq has. whole.circle other seq (had_seq other seq has);
@@ -150,7 +150,7 @@ module _ (calls : HeldCalls) (drawing : ℕ) (keeps : Bool) (m : Message) (whole
 
 -- ---- a message is appended
 
-pub next_none : (calls : HeldCalls) → AreValidCalls calls → message_of_number calls calls.next ≡ None
+pub next_none : (calls : HeldCalls) → AreValidCalls calls → message_of_drawing calls calls.next ≡ None
 next_none calls whole = none_later calls.live 1 calls.next calls.next whole.ordered (omega arith)
 
 -- the number that is drawn next is one of the circle, and no drawing has it
@@ -167,15 +167,15 @@ module _ (calls : HeldCalls) (tid seq : ℕ) (whole : AreValidCalls calls) where
   with_it = calls_after_post_as calls tid seq
 
   pub states_posted : ChangesState calls calls.next (Some Waiting) with_it
-  states_posted other = ap state_of (found_posted calls.live calls.next seq tid other (next_none calls whole)) ∙ under_cond state_of (other == calls.next) (Some (waiting_message calls.next seq tid)) (message_of_number calls other)
+  states_posted other = ap state_of (found_posted calls.live calls.next seq tid other (next_none calls whole)) ∙ under_cond state_of (other == calls.next) (Some (waiting_message calls.next seq tid)) (message_of_drawing calls other)
 
-  pub threads_posted : (other : ℕ) → thread_of_number with_it other ≡ cond (other == calls.next) (Some tid) (thread_of_number calls other)
-  threads_posted other = ap thread_of (found_posted calls.live calls.next seq tid other (next_none calls whole)) ∙ under_cond thread_of (other == calls.next) (Some (waiting_message calls.next seq tid)) (message_of_number calls other)
+  pub threads_posted : (other : ℕ) → thread_of_drawing with_it other ≡ cond (other == calls.next) (Some tid) (thread_of_drawing calls other)
+  threads_posted other = ap thread_of (found_posted calls.live calls.next seq tid other (next_none calls whole)) ∙ under_cond thread_of (other == calls.next) (Some (waiting_message calls.next seq tid)) (message_of_drawing calls other)
 
-  pub whole-posted : HasNoNumber calls tid → IsInCircle calls seq → ((other : ℕ) → seq_of calls other ≢ Some seq) → count_in_use calls ≤ most_in_use → AreValidCalls with_it
+  pub whole-posted : HasNoDrawing calls tid → IsInCircle calls seq → ((other : ℕ) → seq_of calls other ≢ Some seq) → count_in_use calls ≤ most_in_use → AreValidCalls with_it
   whole-posted none circle free few = record {
     ordered = between-posted calls.live seq tid 1 calls.next whole.ordered;
-    threads = own-with (thread_of_number calls) (thread_of_number with_it) calls.next tid threads_posted none whole.threads;
+    threads = own-with (thread_of_drawing calls) (thread_of_drawing with_it) calls.next tid threads_posted none whole.threads;
     workers = λ other worker is. elim (cases_eq other calls.next) [
       | inl e ↦ absurd (apart worker (same_Some Waiting (Claimed worker) (sym (states_posted other ∙ rw (eq-eqb other calls.next e) refl) ∙ is)))
       | inr ne ↦ whole.workers other worker (sym (states_posted other ∙ rw (ne_eqb other calls.next ne) refl) ∙ is)
@@ -196,7 +196,7 @@ module _ (calls : HeldCalls) (tid seq : ℕ) (whole : AreValidCalls calls) where
 
 -- ---- a message is removed, and its call is posted again
 
-module _ (calls : HeldCalls) (drawing : ℕ) (keeps : Bool) (whole : AreValidCalls calls) (few : count_in_use calls ≤ most_in_use) (message : Message) (is : message_of_number calls drawing ≡ Some message) where
+module _ (calls : HeldCalls) (drawing : ℕ) (keeps : Bool) (whole : AreValidCalls calls) (few : count_in_use calls ≤ most_in_use) (message : Message) (is : message_of_drawing calls drawing ≡ Some message) where
   abbrev ended_of : HeldCalls
   ended_of = calls_after_cancel calls drawing keeps
 
@@ -229,9 +229,9 @@ module _ (calls : HeldCalls) (drawing : ℕ) (keeps : Bool) (whole : AreValidCal
   pub kept_renewed : ChangesKept calls drawing keeps (calls_after_renew calls drawing keeps)
   kept_renewed other = ap (λ (new : HeldCalls). is_kept new other) renewed ∙ kept_cancelled calls drawing keeps message whole is other
 
-  pub thread_renewed : thread_of_number (calls_after_renew calls drawing keeps) calls.next ≡ thread_of_number calls drawing
+  pub thread_renewed : thread_of_drawing (calls_after_renew calls drawing keeps) calls.next ≡ thread_of_drawing calls drawing
   thread_renewed =
-      ap (λ (new : HeldCalls). thread_of_number new calls.next) renewed
+      ap (λ (new : HeldCalls). thread_of_drawing new calls.next) renewed
       ∙ threads_posted ended_of message.tid (next_seq calls) whole_ended calls.next
       ∙ rw (eq-eqb calls.next calls.next refl) (sym (ap thread_of is))
 
@@ -268,8 +268,8 @@ least_waiting calls first whole is =
     let least = (first_waits calls.live 1 calls.next first whole.ordered is).1 in
     record { waiting = ap state_of least.found ∙ ap Some least.waits; least = least.least }
 
-pub waiting_live : (calls : HeldCalls) (drawing : ℕ) → IsWaiting calls drawing → is_live_number calls drawing ≡ true
-waiting_live calls drawing is = by (message_of_number calls drawing) is where
+pub waiting_live : (calls : HeldCalls) (drawing : ℕ) → IsWaiting calls drawing → is_live_drawing calls drawing ≡ true
+waiting_live calls drawing is = by (message_of_drawing calls drawing) is where
   by : (o : Option Message) → state_of o ≡ Some Waiting → is_some o ≡ true
   by None is = absurd (none-some Waiting is)
   by (Some m) is = refl

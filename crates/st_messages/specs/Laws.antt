@@ -14,8 +14,8 @@ pub data LeadsTo : HeldCalls → HeldCalls → Type 0 where
   LetsGo : {old calls : HeldCalls} (drawing : ℕ) → LeadsTo old calls → LeadsTo old (calls_after_let_go calls drawing)
 
 -- a drawing that was given and isn't live is never live again
-abbrev pub DeadNumbersStay : Type 0
-DeadNumbersStay = (old new : HeldCalls) (drawing : ℕ) → drawing < old.next → message_state old drawing ≡ None → LeadsTo old new → message_state new drawing ≡ None
+abbrev pub DeadDrawingsStay : Type 0
+DeadDrawingsStay = (old new : HeldCalls) (drawing : ℕ) → drawing < old.next → message_state old drawing ≡ None → LeadsTo old new → message_state new drawing ≡ None
 
 -- an answer to a drawing that was renewed is stale
 abbrev pub RenewedAreStale : Type 0

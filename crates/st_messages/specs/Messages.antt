@@ -24,29 +24,29 @@ pub record HeldCalls : Type 0 where
 
 -- ---- looking up
 
--- whether a message has this number
+-- whether a message has this drawing
 abbrev pub is_message_of : ℕ → Message → Bool
 is_message_of drawing message = message.drawing == drawing
 
--- the message of this number
+-- the message of this drawing
 abbrev pub message_in : List Message → ℕ → Option Message
 message_in live drawing = find (is_message_of drawing) live
 
--- the message of a live number; none if the number isn't live
-abbrev pub message_of_number : HeldCalls → ℕ → Option Message
-message_of_number calls drawing = message_in calls.live drawing
+-- the message of a live drawing; none if the drawing isn't live
+abbrev pub message_of_drawing : HeldCalls → ℕ → Option Message
+message_of_drawing calls drawing = message_in calls.live drawing
 
--- whether a number is live
-abbrev pub is_live_number : HeldCalls → ℕ → Bool
-is_live_number calls drawing = is_some (message_of_number calls drawing)
+-- whether a drawing is live
+abbrev pub is_live_drawing : HeldCalls → ℕ → Bool
+is_live_drawing calls drawing = is_some (message_of_drawing calls drawing)
 
--- how far a live number has come
+-- how far a live drawing has come
 abbrev pub message_state : HeldCalls → ℕ → Option MsgState
-message_state calls drawing = option_map (λ (message : Message). message.state) (message_of_number calls drawing)
+message_state calls drawing = option_map (λ (message : Message). message.state) (message_of_drawing calls drawing)
 
--- the thread of a live number
-abbrev pub thread_of_number : HeldCalls → ℕ → Option ℕ
-thread_of_number calls drawing = option_map (λ (message : Message). message.tid) (message_of_number calls drawing)
+-- the thread of a live drawing
+abbrev pub thread_of_drawing : HeldCalls → ℕ → Option ℕ
+thread_of_drawing calls drawing = option_map (λ (message : Message). message.tid) (message_of_drawing calls drawing)
 
 -- whether a state is that of a message that no worker has claimed
 abbrev pub is_waiting_state : MsgState → Bool
@@ -59,7 +59,7 @@ is_waiting_state (Faulted errno) = false
 abbrev pub is_unclaimed : Message → Bool
 is_unclaimed message = is_waiting_state message.state
 
--- the number of the first waiting message
+-- the drawing of the first waiting message
 abbrev pub first_waiting : HeldCalls → Option ℕ
 first_waiting calls = option_map (λ (message : Message). message.drawing) (find is_unclaimed calls.live)
 
@@ -71,22 +71,22 @@ is_claimed_state (Some (Claimed worker)) = true
 is_claimed_state (Some (Answered verdict)) = false
 is_claimed_state (Some (Faulted errno)) = false
 
--- whether a number is live and claimed, and neither answered nor faulted
+-- whether a drawing is live and claimed, and neither answered nor faulted
 abbrev pub is_claimed : HeldCalls → ℕ → Bool
 is_claimed calls drawing = is_claimed_state (message_state calls drawing)
 
--- a number is live, and no worker has claimed it
+-- a drawing is live, and no worker has claimed it
 abbrev pub IsWaiting : HeldCalls → ℕ → Type 0
 IsWaiting calls drawing = message_state calls drawing ≡ Some Waiting
 
--- this number is waiting, and no smaller number is
+-- this drawing is waiting, and no smaller drawing is
 pub record IsLeastWaiting (calls : HeldCalls) (drawing : ℕ) : Type 0 where
   pub waiting : IsWaiting calls drawing
   pub least : (other : ℕ) → IsWaiting calls other → drawing ≤ other
 
--- no live number is this thread's
-abbrev pub HasNoNumber : HeldCalls → ℕ → Type 0
-HasNoNumber calls tid = (drawing : ℕ) → thread_of_number calls drawing ≢ Some tid
+-- no live drawing is this thread's
+abbrev pub HasNoDrawing : HeldCalls → ℕ → Type 0
+HasNoDrawing calls tid = (drawing : ℕ) → thread_of_drawing calls drawing ≢ Some tid
 
 -- a worker of this number exists
 abbrev pub HasWorker : HeldCalls → ℕ → Type 0
@@ -109,7 +109,7 @@ is_kept calls drawing = is_some (kept_in calls.kept drawing)
 -- the number of a drawing in use, which is live or kept; none of any other
 abbrev pub seq_of : HeldCalls → ℕ → Option ℕ
 seq_of calls drawing =
-    option_or (option_map (λ (message : Message). message.seq) (message_of_number calls drawing))
+    option_or (option_map (λ (message : Message). message.seq) (message_of_drawing calls drawing))
     (option_map (λ (number : KeptNumber). number.seq) (kept_in calls.kept drawing))
 
 -- the numbers in use, of live messages and kept ones
@@ -156,13 +156,13 @@ drawing_of calls seq = drawing_in calls.live calls.kept seq
 
 -- ---- how calls change them
 
--- messages, with another state for that of this number
+-- messages, with another state for that of this drawing
 abbrev pub with_state_in : List Message → ℕ → MsgState → List Message
 with_state_in [] drawing state = []
 with_state_in (message ∷ live) drawing state =
     if is_message_of drawing message then record message { state = state } ∷ live else message ∷ with_state_in live drawing state
 
--- held calls, with another state for a number
+-- held calls, with another state for a drawing
 abbrev pub with_state : HeldCalls → ℕ → MsgState → HeldCalls
 with_state calls drawing state = record calls { live = with_state_in calls.live drawing state }
 
@@ -170,7 +170,7 @@ with_state calls drawing state = record calls { live = with_state_in calls.live 
 abbrev pub waiting_message : ℕ → ℕ → ℕ → Message
 waiting_message drawing seq tid = record { drawing = drawing; seq = seq; tid = tid; state = Waiting }
 
--- the held calls after a call of a thread was posted, and got this number
+-- the held calls after a call of a thread was posted, and got this drawing
 abbrev pub calls_after_post_as : HeldCalls → ℕ → ℕ → HeldCalls
 calls_after_post_as calls tid seq = record calls { next = suc calls.next; last = seq; live = calls.live ++ waiting_message calls.next seq tid ∷ [] }
 
@@ -179,8 +179,8 @@ abbrev pub calls_after_post : HeldCalls → ℕ → HeldCalls
 calls_after_post calls tid = calls_after_post_as calls tid (next_seq calls)
 
 -- messages, without that of this drawing
-abbrev pub without_number : List Message → ℕ → List Message
-without_number live drawing = filter (λ message. not (is_message_of drawing message)) live
+abbrev pub without_drawing : List Message → ℕ → List Message
+without_drawing live drawing = filter (λ message. not (is_message_of drawing message)) live
 
 -- what is kept of a message that ends, if a ready worker keeps its number
 abbrev pub kept_of_message : Bool → Option Message → List KeptNumber
@@ -190,8 +190,8 @@ kept_of_message keeps (Some message) = if keeps then record { drawing = message.
 -- the held calls after a drawing has ended, whose number a ready worker keeps or not
 abbrev pub calls_after_cancel : HeldCalls → ℕ → Bool → HeldCalls
 calls_after_cancel calls drawing keeps = record calls {
-  live = without_number calls.live drawing;
-  kept = calls.kept ++ kept_of_message keeps (message_of_number calls drawing);
+  live = without_drawing calls.live drawing;
+  kept = calls.kept ++ kept_of_message keeps (message_of_drawing calls drawing);
 }
 
 -- the held calls after the message of a drawing was posted again under the next one
@@ -202,7 +202,7 @@ calls_after_renew_of calls drawing keeps (Some message) = calls_after_post_as (c
 -- The held calls after a drawing was renewed: it is no longer live, and its thread has the next drawing, which is waiting. The number of
 -- the old drawing is in use while that of the new one is drawn, and afterwards only if a ready worker keeps it.
 abbrev pub calls_after_renew : HeldCalls → ℕ → Bool → HeldCalls
-calls_after_renew calls drawing keeps = calls_after_renew_of calls drawing keeps (message_of_number calls drawing)
+calls_after_renew calls drawing keeps = calls_after_renew_of calls drawing keeps (message_of_drawing calls drawing)
 
 -- kept numbers, without that of this drawing
 abbrev pub without_kept : List KeptNumber → ℕ → List KeptNumber
@@ -212,11 +212,11 @@ without_kept kept drawing = filter (λ number. not (is_kept_of drawing number)) 
 abbrev pub calls_after_let_go : HeldCalls → ℕ → HeldCalls
 calls_after_let_go calls drawing = record calls { kept = without_kept calls.kept drawing }
 
--- a number has this state now, and each other number is unchanged
+-- a drawing has this state now, and each other drawing is unchanged
 abbrev pub ChangesState : HeldCalls → ℕ → Option MsgState → HeldCalls → Type 0
 ChangesState old drawing state new = (other : ℕ) → message_state new other ≡ (if other == drawing then state else message_state old other)
 
--- a number is no longer live, this new number is waiting, and each other number is unchanged
+-- a drawing is no longer live, this new drawing is waiting, and each other drawing is unchanged
 abbrev pub RenewsState : HeldCalls → ℕ → ℕ → HeldCalls → Type 0
 RenewsState old drawing fresh new =
     (other : ℕ) → message_state new other ≡ (if other == fresh then Some Waiting else if other == drawing then None else message_state old other)
@@ -240,14 +240,14 @@ RenewsSeq old drawing keeps new =
 
 -- ---- the invariants of held calls
 
--- the numbers of messages are ascending, at least `from` and less than `to`
+-- the drawings of messages are ascending, at least `from` and less than `to`
 abbrev pub AreBetween : ℕ → List Message → ℕ → Type 0
 AreBetween from [] to = from ≤ to
 AreBetween from (message ∷ live) to = (from ≤ message.drawing) × AreBetween (suc message.drawing) live to
 
--- each thread has at most one live number
+-- each thread has at most one live drawing
 abbrev pub AreOfOwnThreads : HeldCalls → Type 0
-AreOfOwnThreads calls = (a b tid : ℕ) → thread_of_number calls a ≡ Some tid → thread_of_number calls b ≡ Some tid → a ≡ b
+AreOfOwnThreads calls = (a b tid : ℕ) → thread_of_drawing calls a ≡ Some tid → thread_of_drawing calls b ≡ Some tid → a ≡ b
 
 -- no two drawings in use have the same number
 abbrev pub AreOfOwnDrawings : HeldCalls → Type 0
@@ -264,7 +264,7 @@ AreKeptOnce (number ∷ kept) = (kept_in kept number.drawing ≡ None) × AreKep
 
 -- a drawing was given, and isn't live any more
 abbrev pub HasEnded : HeldCalls → ℕ → Type 0
-HasEnded calls drawing = (drawing < calls.next) × (message_of_number calls drawing ≡ None)
+HasEnded calls drawing = (drawing < calls.next) × (message_of_drawing calls drawing ≡ None)
 
 -- the invariants of held calls
 pub record AreValidCalls (calls : HeldCalls) : Type 0 where

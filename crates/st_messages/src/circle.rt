@@ -4,34 +4,34 @@ ghost use Rattle.st_messages.specs.Messages.{drawing_in, seqs_in};
 
 use crate::kept::KeptNumbers;
 use crate::live;
-use crate::message::{Message, Number};
-use st_base::Drawing;
+use crate::message::Message;
+use st_base::{Drawing, Seq};
 use std::collections::VecDeque;
 
 /// A number that is drawn, and how many after it are known to be free.
 #[derive(Clone, Copy, Debug, PartialEq, Eq)]
 pub struct Drawn {
-    pub seq: Number,
-    pub ahead: Number,
+    pub seq: Seq,
+    pub ahead: Seq,
 }
 
 // The number after this one in the circle.
 #[inline]
-fn number_after(number: Number) -> Number
+fn number_after(number: Seq) -> Seq
     ensures { result ≡ (if nat_lt number 65535 then suc number else 1) }
 {
-    if number < Number::MAX { number + 1 } else { 1 }
+    if number < Seq::MAX { number + 1 } else { 1 }
 }
 
 /// Whether a number is in use.
-pub fn is_in_use(live: &VecDeque<Message>, kept: &KeptNumbers, seq: Number) -> bool
+pub fn is_in_use(live: &VecDeque<Message>, kept: &KeptNumbers, seq: Seq) -> bool
     ensures { result ≡ is_among (seqs_in live.now.items kept.now) seq }
 {
     live::message_with(live, seq).is_some() || kept.with(seq).is_some()
 }
 
 /// The drawing of the live message or the kept number that has this number.
-pub fn drawing_with(live: &VecDeque<Message>, kept: &KeptNumbers, seq: Number) -> Option<Drawing>
+pub fn drawing_with(live: &VecDeque<Message>, kept: &KeptNumbers, seq: Seq) -> Option<Drawing>
     ensures { result ≡ drawing_in live.now.items kept.now seq }
 {
     match live::message_with(live, seq) {
@@ -41,7 +41,7 @@ pub fn drawing_with(live: &VecDeque<Message>, kept: &KeptNumbers, seq: Number) -
 }
 
 /// The first number after this one in the circle that isn't in use. It looks at no more numbers than one more than are in use.
-pub fn first_free(live: &VecDeque<Message>, kept: &KeptNumbers, last: Number) -> Number
+pub fn first_free(live: &VecDeque<Message>, kept: &KeptNumbers, last: Seq) -> Seq
     requires { length live.now.items + length kept.now < 65535 }
     ensures { result ≡ first_free 65535 (seqs_in live.now.items kept.now) last }
 {
@@ -56,19 +56,19 @@ pub fn first_free(live: &VecDeque<Message>, kept: &KeptNumbers, last: Number) ->
 }
 
 /// How many steps of the circle it is from one number to another.
-pub fn steps_to(last: Number, seq: Number) -> Number
+pub fn steps_to(last: Seq, seq: Seq) -> Seq
     ensures { result ≡ distance 65535 last seq }
 {
     if last < seq {
         seq - last
     } else {
-        Number::MAX - last + seq
+        Seq::MAX - last + seq
     }
 }
 
 // Draws a number when none is known to be free.
 #[inline(never)]
-fn search(live: &VecDeque<Message>, kept: &KeptNumbers, last: Number) -> Drawn
+fn search(live: &VecDeque<Message>, kept: &KeptNumbers, last: Seq) -> Drawn
     requires { length live.now.items + length kept.now < 65535 }
     ensures seq { result.seq ≡ first_free 65535 (seqs_in live.now.items kept.now) last }
     ensures ahead { AreFreeAhead 65535 (seqs_in live.now.items kept.now) result.seq result.ahead }
@@ -84,7 +84,7 @@ fn search(live: &VecDeque<Message>, kept: &KeptNumbers, last: Number) -> Drawn
 /// Draws the first number after this one that isn't in use. It looks at those in use only where no more are known to be free: once for each
 /// of them in 65,535 draws at most.
 #[inline]
-pub fn draw(live: &VecDeque<Message>, kept: &KeptNumbers, last: Number, ahead: Number) -> Drawn
+pub fn draw(live: &VecDeque<Message>, kept: &KeptNumbers, last: Seq, ahead: Seq) -> Drawn
     requires few { length live.now.items + length kept.now < 65535 }
     requires ahead { AreFreeAhead 65535 (seqs_in live.now.items kept.now) last ahead }
     ensures seq { result.seq ≡ first_free 65535 (seqs_in live.now.items kept.now) last }

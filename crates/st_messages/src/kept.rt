@@ -4,8 +4,7 @@ ghost use Rattle.st_messages.specs.declared.kept.KeptNumber.{KeptNumber};
 ghost use Rattle.st_messages.specs.Messages.{keeps_seq, kept_in, most_in_use, without_kept};
 
 use crate::circle;
-use crate::message::Number;
-use st_base::Drawing;
+use st_base::{Drawing, Seq};
 use std::alloc::{AllocError, Global};
 use std::marker::Model;
 
@@ -16,7 +15,7 @@ const MOST_IN_USE: usize = 72;
 #[derive(Clone, Copy, Debug, PartialEq, Eq)]
 pub struct KeptNumber {
     pub drawing: Drawing,
-    pub seq: Number,
+    pub seq: Seq,
 }
 
 /// The numbers that ready workers keep. There is room for as many as are ever in use.
@@ -65,7 +64,7 @@ impl KeptNumbers {
     }
 
     /// What is kept with this number.
-    pub fn with(&self, seq: Number) -> Option<KeptNumber>
+    pub fn with(&self, seq: Seq) -> Option<KeptNumber>
         ensures { result ≡ find (keeps_seq seq) self.now }
     {
         self.numbers
@@ -75,10 +74,10 @@ impl KeptNumbers {
     }
 
     /// How many steps of the circle it is from a number to the nearest of these; once round if there is none.
-    pub fn nearest(&self, last: Number) -> Number
+    pub fn nearest(&self, last: Seq) -> Seq
         ensures { result ≡ nearest (λ (number : KeptNumber). number.seq) 65535 last self.now }
     {
-        let mut nearest = Number::MAX;
+        let mut nearest = Seq::MAX;
         for number in &self.numbers {
             nearest = nearest.min(circle::steps_to(last, number.seq));
         }

@@ -1,10 +1,10 @@
-ghost use Rattle.st_messages.specs.Laws.{ClaimsGoUp, DeadNumbersStay, DrawnAreFree, KeptAreStale, RenewedAreStale};
+ghost use Rattle.st_messages.specs.Laws.{ClaimsGoUp, DeadDrawingsStay, DrawnAreFree, KeptAreStale, RenewedAreStale};
 ghost use Rattle.st_messages.specs.Tickets.{TicketsAreTakenOnce};
 
 /// A drawing that isn't live stays so in every run of calls. An answer to a drawing that was renewed is stale. Waiting drawings are claimed
 /// in ascending order.
-pub fn numbers_are_used_once()
-    ensures dead { DeadNumbersStay }
+pub fn drawings_are_used_once()
+    ensures dead { DeadDrawingsStay }
     ensures renewed { RenewedAreStale }
     ensures claims { ClaimsGoUp }
 {}

@@ -12,8 +12,8 @@ pub mod messages;
 pub mod queue;
 pub mod ticket;
 
-pub use laws::{numbers_are_used_once, numbers_come_again, tickets_are_taken_once};
-pub use message::{Delivered, MsgState, Number, seq_of};
+pub use laws::{drawings_are_used_once, numbers_come_again, tickets_are_taken_once};
+pub use message::{Delivered, MsgState};
 pub use messages::Messages;
 pub use queue::{Poster, Taker, tickets};
 pub use ticket::Ticket;

@@ -3,11 +3,11 @@ ghost use Rattle.std.specs.List.{position};
 ghost use Rattle.std.specs.VecDeque.{deque_capacity};
 ghost use Rattle.st_messages.specs.Circle.{nearest};
 ghost use Rattle.st_messages.specs.declared.message.Message.{Message};
-ghost use Rattle.st_messages.specs.Messages.{has_seq, is_message_of, is_unclaimed, message_in, without_number, AreBetween};
+ghost use Rattle.st_messages.specs.Messages.{has_seq, is_message_of, is_unclaimed, message_in, without_drawing, AreBetween};
 
 use crate::circle;
-use crate::message::{Message, MsgState, Number};
-use st_base::Drawing;
+use crate::message::{Message, MsgState};
+use st_base::{Drawing, Seq};
 use std::collections::VecDeque;
 
 // The index of the message of this drawing, if it is its drawing less that of the first message. Calls usually end in the order in which
@@ -86,17 +86,17 @@ pub fn message_of(live: &VecDeque<Message>, drawing: Drawing) -> Option<Message>
 }
 
 /// The message of this number, if it is live.
-pub fn message_with(live: &VecDeque<Message>, seq: Number) -> Option<Message>
+pub fn message_with(live: &VecDeque<Message>, seq: Seq) -> Option<Message>
     ensures { result ≡ find (has_seq seq) live.now.items }
 {
     live.iter().copied().find(|message| message.seq == seq)
 }
 
 /// How many steps of the circle it is from a number to the nearest of a live message; once round if there is none.
-pub fn nearest(live: &VecDeque<Message>, last: Number) -> Number
+pub fn nearest(live: &VecDeque<Message>, last: Seq) -> Seq
     ensures { result ≡ nearest (λ (message : Message). message.seq) 65535 last live.now.items }
 {
-    let mut nearest = Number::MAX;
+    let mut nearest = Seq::MAX;
     for i in 0..live.len() {
         nearest = nearest.min(circle::steps_to(last, live[i].seq));
     }
@@ -130,7 +130,7 @@ pub fn take(live: &mut VecDeque<Message>, drawing: Drawing) -> Message
     requires there { is_some (message_in live.old.items drawing) ≡ true }
     requires ordered { (to : ℕ) × AreBetween 1 live.old.items to }
     ensures message { message_in live.old.items drawing ≡ Some result }
-    ensures others { live.new.items ≡ without_number live.old.items drawing }
+    ensures others { live.new.items ≡ without_drawing live.old.items drawing }
     ensures room { length live.new.items < deque_capacity live.new }
 {
     let Some(place) = place_of(live, drawing) else {

@@ -1,18 +1,5 @@
-ghost use Rattle.std.specs.Prelude.{◌≡◌};
-
 use st_base::{Drawing, Errno, Seq, Tid, Worker};
 use st_calls::Verdict;
-
-/// The number of a message, by which entries name it: from 1 to 65,535, and then again from 1, without those in use.
-pub type Number = u16;
-
-/// The number by which entries name the message of a drawing, while no number comes again: the drawing.
-#[inline]
-pub fn seq_of(drawing: Drawing) -> Seq
-    ensures { result ≡ drawing }
-{
-    drawing
-}
 
 /// How far a message has come.
 #[derive(Clone, Copy, Debug, PartialEq, Eq)]
@@ -40,7 +27,7 @@ pub enum Delivered {
 #[derive(Clone, Copy, Debug, PartialEq, Eq)]
 pub struct Message {
     pub drawing: Drawing,
-    pub seq: Number,
+    pub seq: Seq,
     pub tid: Tid,
     pub state: MsgState,
 }

@@ -2,12 +2,12 @@ ghost use Rattle.std.specs.Prelude.{◌≡◌, ◌≢◌, ℕ, ◌-◌, ◌^◌,
 ghost use Rattle.st_messages.specs.declared.message.Delivered.TheVariants.{Applied, Stale};
 ghost use Rattle.st_messages.specs.declared.message.Message.{Message};
 ghost use Rattle.st_messages.specs.declared.message.MsgState.TheVariants.{Waiting, Claimed, Answered, Faulted};
-ghost use Rattle.st_messages.specs.Messages.{count_in_use, drawing_of, first_waiting, is_claimed, is_in_use, is_kept, is_live_number, message_state, most_in_use, next_seq, seq_left, seq_of, thread_of_number, with_state, calls_after_post, calls_after_cancel, calls_after_let_go, calls_after_renew, AreValidCalls, ChangesKept, ChangesSeq, ChangesState, HasNoNumber, IsInCircle, IsLeastWaiting, HasWorker, RenewsSeq, RenewsState};
+ghost use Rattle.st_messages.specs.Messages.{count_in_use, drawing_of, first_waiting, is_claimed, is_in_use, is_kept, is_live_drawing, message_state, most_in_use, next_seq, seq_left, seq_of, thread_of_drawing, with_state, calls_after_post, calls_after_cancel, calls_after_let_go, calls_after_renew, AreValidCalls, ChangesKept, ChangesSeq, ChangesState, HasNoDrawing, IsInCircle, IsLeastWaiting, HasWorker, RenewsSeq, RenewsState};
 
 use crate::kept::{KeptNumber, KeptNumbers};
-use crate::message::{Delivered, Message, MsgState, Number};
+use crate::message::{Delivered, Message, MsgState};
 use crate::{circle, live};
-use st_base::{Drawing, Errno, Tid, Worker};
+use st_base::{Drawing, Errno, Seq, Tid, Worker};
 use st_calls::Verdict;
 use std::alloc::{AllocError, Global};
 use std::collections::VecDeque;
@@ -19,9 +19,9 @@ use std::marker::Model;
 pub struct Messages {
     workers: u32,
     next: Drawing,
-    last: Number,
+    last: Seq,
     // So many numbers after the last one are known to be free.
-    ahead: Number,
+    ahead: Seq,
     // In the order of their drawings. A thread has at most one, so there are few, however long the run is.
     live: VecDeque<Message>,
     kept: KeptNumbers,
@@ -56,7 +56,7 @@ impl Messages {
             workers,
             next: 1,
             last: 0,
-            ahead: Number::MAX - 1,
+            ahead: Seq::MAX - 1,
             live: VecDeque::new(alloc),
             kept,
         })
@@ -78,7 +78,7 @@ impl Messages {
     }
 
     /// The number that the next call of `post` or `renew` draws.
-    pub fn next_seq(&self) -> Number
+    pub fn next_seq(&self) -> Seq
         requires { count_in_use self.now ≤ most_in_use }
         ensures seq { result ≡ next_seq self.now }
         ensures circle { IsInCircle self.now result }
@@ -88,7 +88,7 @@ impl Messages {
     }
 
     /// Whether a number is in use: that of a live drawing, or one that a ready worker keeps.
-    pub fn in_use(&self, seq: Number) -> bool
+    pub fn in_use(&self, seq: Seq) -> bool
         ensures value { result ≡ is_in_use self.now seq }
         ensures exact { (result ≡ true) ↔ ((drawing : ℕ) × (seq_of self.now drawing ≡ Some seq)) }
     {
@@ -96,7 +96,7 @@ impl Messages {
     }
 
     /// The number of a drawing in use; none if the drawing isn't in use.
-    pub fn seq(&self, drawing: Drawing) -> Option<Number>
+    pub fn seq(&self, drawing: Drawing) -> Option<Seq>
         ensures { result ≡ seq_of self.now drawing }
     {
         match live::message_of(&self.live, drawing) {
@@ -106,7 +106,7 @@ impl Messages {
     }
 
     /// The drawing in use that has this number; none iff the number isn't in use.
-    pub fn drawing(&self, seq: Number) -> Option<Drawing>
+    pub fn drawing(&self, seq: Seq) -> Option<Drawing>
         ensures value { result ≡ drawing_of self.now seq }
         ensures exact { (drawing : ℕ) → (result ≡ Some drawing) ↔ (seq_of self.now drawing ≡ Some seq) }
     {
@@ -126,7 +126,7 @@ impl Messages {
     /// The thread of a live drawing; none if the drawing isn't live.
     #[inline]
     pub fn thread(&self, drawing: Drawing) -> Option<Tid>
-        ensures { result ≡ thread_of_number self.now drawing }
+        ensures { result ≡ thread_of_drawing self.now drawing }
     {
         Some(live::message_of(&self.live, drawing)?.tid)
     }
@@ -146,7 +146,7 @@ impl Messages {
 
     // Changes the state of a live message.
     fn set_state(&mut self, drawing: Drawing, state: MsgState)
-        requires live { is_live_number self.old drawing ≡ true }
+        requires live { is_live_drawing self.old drawing ≡ true }
         requires worker { (worker : ℕ) → state ≡ Claimed worker → HasWorker self.old worker }
         ensures calls { self.new ≡ with_state self.old drawing state }
         ensures states { ChangesState self.old drawing (Some state) self.new }
@@ -158,13 +158,13 @@ impl Messages {
 
     /// Posts the held call of a thread that has none, and returns its drawing. If memory runs out, nothing changes.
     pub fn post(&mut self, tid: Tid) -> Result<Drawing, AllocError>
-        requires thread { HasNoNumber self.old tid }
+        requires thread { HasNoDrawing self.old tid }
         requires room { self.old.next < 2 ^ 64 - 1 }
         requires few { count_in_use self.old ≤ most_in_use }
         ensures drawing { IfOk result (λ drawing. drawing ≡ self.old.next) }
         ensures fresh { message_state self.old self.old.next ≡ None }
         ensures ok { OnOk result (self.new ≡ calls_after_post self.old tid) }
-        ensures thread { OnOk result (thread_of_number self.new self.old.next ≡ Some tid) }
+        ensures thread { OnOk result (thread_of_drawing self.new self.old.next ≡ Some tid) }
         ensures states { OnOk result (ChangesState self.old self.old.next (Some Waiting) self.new) }
         ensures seqs { OnOk result (ChangesSeq self.old self.old.next (Some (next_seq self.old)) self.new) }
         ensures err { OnErr result (self.new ≡ self.old) }
@@ -202,7 +202,7 @@ impl Messages {
         ensures first { result ≡ first_waiting self.now }
         ensures none { IsNone result ↔ ((drawing : ℕ) → message_state self.now drawing ≢ Some Waiting) }
         ensures least { IfSome result (λ drawing. IsLeastWaiting self.now drawing) }
-        ensures live { IfSome result (λ drawing. is_live_number self.now drawing ≡ true) }
+        ensures live { IfSome result (λ drawing. is_live_drawing self.now drawing ≡ true) }
     {
         Some(live::first_waiting(&self.live)?.drawing)
     }
@@ -234,12 +234,12 @@ impl Messages {
     /// Ends a live drawing, and posts its call again under the next drawing, which it returns. If a ready worker keeps the number of the old
     /// drawing, it stays in use. It takes no memory.
     pub fn renew(&mut self, drawing: Drawing, kept: bool) -> Drawing
-        requires live { is_live_number self.old drawing ≡ true }
+        requires live { is_live_drawing self.old drawing ≡ true }
         requires room { self.old.next < 2 ^ 64 - 1 }
         requires few { count_in_use self.old ≤ most_in_use }
         ensures drawing { result ≡ self.old.next }
         ensures calls { self.new ≡ calls_after_renew self.old drawing kept }
-        ensures thread { thread_of_number self.new result ≡ thread_of_number self.old drawing }
+        ensures thread { thread_of_drawing self.new result ≡ thread_of_drawing self.old drawing }
         ensures fresh { message_state self.old self.old.next ≡ None }
         ensures states { RenewsState self.old drawing self.old.next self.new }
         ensures seqs { RenewsSeq self.old drawing kept self.new }
@@ -270,7 +270,7 @@ impl Messages {
     /// Ends a live drawing, because its call is made or denied, or its thread is dying. If a ready worker keeps its number, that stays in
     /// use. It takes no memory.
     pub fn cancel(&mut self, drawing: Drawing, kept: bool)
-        requires { is_live_number self.old drawing ≡ true }
+        requires { is_live_drawing self.old drawing ≡ true }
         ensures calls { self.new ≡ calls_after_cancel self.old drawing kept }
         ensures states { ChangesState self.old drawing None self.new }
         ensures seqs { ChangesSeq self.old drawing (seq_left self.old drawing kept) self.new }

@@ -16,12 +16,14 @@ use Rattle.st_trace.specs.declared.entry.Change.{Change}
 use Rattle.st_trace.specs.declared.entry.Change.TheVariants.{Dying, Execed}
 use Rattle.st_law.specs.Messages.{Head}
 use Rattle.st_law.specs.State.{State}
+use Rattle.st_workers.specs.Numbers.{KeepsNumbers}
 use Rattle.st_workers.specs.Refinement.{RepresentsMessages}
 use Rattle.st_workers.specs.UnderWay.{UnderWay}
 use Rattle.st_workers.proofs.Ended.{lives_as}
+use Rattle.st_workers.proofs.Fewer.{fewer_twice}
 use Rattle.st_workers.proofs.Turns.{item_put, number_within}
-use Rattle.st_threads.specs.Ending.{AreLiveNumbersHeld, EndsCall, HasNumber, HaveCalls, HaveEnded, IsNumberOf, is_end_of, is_ended_by, is_head_among, life_but, life_without_number, row_dying_if}
-use Rattle.st_threads.specs.Thread.{ThreadRow, number_held}
+use Rattle.st_threads.specs.Ending.{AreLiveDrawingsHeld, EndsCall, HasDrawing, HaveCalls, HaveEnded, IsDrawingOf, is_end_of, is_ended_by, is_head_among, life_but, life_without_number, row_dying_if}
+use Rattle.st_threads.specs.Thread.{ThreadRow, drawing_held}
 use Rattle.st_threads.proofs.Rows.{none_closed}
 
 -- ---- a call ends
@@ -31,35 +33,35 @@ not_dead true alive e = cc
 not_dead false alive e = (refl, e)
 
 -- the number that a thread holds is that of its head
-mine_alone : (st : State) (alive : ℕ → Bool) (rows : List ThreadRow) → AreLiveNumbersHeld st alive rows → (t : ℕ) (row : ThreadRow) → item_at_number rows t ≡ Some row → (q : ℕ) (head : Head) → (st.messages q).head ≡ Some head → head.tid ≢ t → is_number q (number_held row) ≡ false
-mine_alone st alive rows are t row row_is q head posted other = by (number_held row) refl where
-  by : (o : Option ℕ) → number_held row ≡ o → is_number q o ≡ false
+mine_alone : (st : State) (alive : ℕ → Bool) (rows : List ThreadRow) → AreLiveDrawingsHeld st alive rows → (t : ℕ) (row : ThreadRow) → item_at_number rows t ≡ Some row → (q : ℕ) (head : Head) → (st.messages q).head ≡ Some head → head.tid ≢ t → is_number q (drawing_held row) ≡ false
+mine_alone st alive rows are t row row_is q head posted other = by (drawing_held row) refl where
+  by : (o : Option ℕ) → drawing_held row ≡ o → is_number q o ≡ false
   by None e = refl
   by (Some p) e = ne_eqb p q (λ same. let x = are.lives t row p row_is e in other (ap (λ (h : Head). h.tid) (same_Some head x.head (sym posted ∙ ap (λ (n : ℕ). (st.messages n).head) (sym same) ∙ x.posted)) ∙ x.tid_is))
 
-module _ (st : State) (alive : ℕ → Bool) (rows : List ThreadRow) (are : AreLiveNumbersHeld st alive rows) (t : ℕ) (row : ThreadRow) (row_is : item_at_number rows t ≡ Some row) where
+module _ (st : State) (alive : ℕ → Bool) (rows : List ThreadRow) (are : AreLiveDrawingsHeld st alive rows) (t : ℕ) (row : ThreadRow) (row_is : item_at_number rows t ≡ Some row) where
   abbrev closed : ThreadRow
   closed = record row { pending = None }
 
   at : (u : ℕ) → item_at_number (set rows (t - 1) closed) u ≡ cond (u == t) (Some closed) (item_at_number rows u)
   at u = let within = number_within rows t row row_is in item_put rows t closed within.0 within.1 u
 
-  closed_own : (q : ℕ) (head : Head) → life_without_number alive (number_held row) q ≡ true → (st.messages q).head ≡ Some head → HasNumber (item_at_number (set rows (t - 1) closed) head.tid) q
+  closed_own : (q : ℕ) (head : Head) → life_without_number alive (drawing_held row) q ≡ true → (st.messages q).head ≡ Some head → HasDrawing (item_at_number (set rows (t - 1) closed) head.tid) q
   closed_own q head life posted =
-      let parts = not_dead (is_number q (number_held row)) (alive q) life in
-      let was : HasNumber (item_at_number rows head.tid) q = are.own q head parts.1 posted in
+      let parts = not_dead (is_number q (drawing_held row)) (alive q) life in
+      let was : HasDrawing (item_at_number rows head.tid) q = are.own q head parts.1 posted in
       elim (cases_eq head.tid t) [
-        | inl e ↦ let mine : number_held row ≡ Some q = subst (λ (o : Option ThreadRow). HasNumber o q) (ap (item_at_number rows) e ∙ row_is) was in
+        | inl e ↦ let mine : drawing_held row ≡ Some q = subst (λ (o : Option ThreadRow). HasDrawing o q) (ap (item_at_number rows) e ∙ row_is) was in
             absurd (true≢false (sym (ap (is_number q) mine ∙ eq-eqb q q refl) ∙ parts.0))
-        | inr ne ↦ subst (λ (o : Option ThreadRow). HasNumber o q) (sym (at head.tid ∙ ap (λ (b : Bool). cond b (Some closed) (item_at_number rows head.tid)) (ne_eqb head.tid t ne))) was
+        | inr ne ↦ subst (λ (o : Option ThreadRow). HasDrawing o q) (sym (at head.tid ∙ ap (λ (b : Bool). cond b (Some closed) (item_at_number rows head.tid)) (ne_eqb head.tid t ne))) was
       ]
 
-  closed_lives : (u : ℕ) (other : ThreadRow) (q : ℕ) → item_at_number (set rows (t - 1) closed) u ≡ Some other → number_held other ≡ Some q → IsNumberOf st (life_without_number alive (number_held row)) u q
+  closed_lives : (u : ℕ) (other : ThreadRow) (q : ℕ) → item_at_number (set rows (t - 1) closed) u ≡ Some other → drawing_held other ≡ Some q → IsDrawingOf st (life_without_number alive (drawing_held row)) u q
   closed_lives u other q there e = elim (cases_eq u t) [
     | inl same ↦ let is : closed ≡ other = same_Some closed other (sym (at u ∙ ap (λ (b : Bool). cond b (Some closed) (item_at_number rows u)) (eq-eqb u t same)) ∙ there) in
-        absurd (none-some q (sym (none_closed row) ∙ ap number_held is ∙ e))
+        absurd (none-some q (sym (none_closed row) ∙ ap drawing_held is ∙ e))
     | inr ne ↦
-        let was : IsNumberOf st alive u q = are.lives u other q (sym (at u ∙ ap (λ (b : Bool). cond b (Some closed) (item_at_number rows u)) (ne_eqb u t ne)) ∙ there) e in
+        let was : IsDrawingOf st alive u q = are.lives u other q (sym (at u ∙ ap (λ (b : Bool). cond b (Some closed) (item_at_number rows u)) (ne_eqb u t ne)) ∙ there) e in
         record {
           lives = ap (λ (b : Bool). cond b false (alive q)) (mine_alone st alive rows are t row row_is q was.head was.posted (λ same. ne (sym was.tid_is ∙ same))) ∙ was.lives;
           head = was.head;
@@ -69,30 +71,30 @@ module _ (st : State) (alive : ℕ → Bool) (rows : List ThreadRow) (are : AreL
   ]
 
   -- each live number is still that of a held call after one call has ended
-  pub closed_held : AreLiveNumbersHeld st (life_without_number alive (number_held row)) (set rows (t - 1) closed)
+  pub closed_held : AreLiveDrawingsHeld st (life_without_number alive (drawing_held row)) (set rows (t - 1) closed)
   closed_held = record { own = closed_own; lives = closed_lives }
 
 -- ---- dying threads
 
-spared : (o : Option ThreadRow) (q : ℕ) → HasNumber o q → HasNumber (option_map (λ (row : ThreadRow). row_dying_if false row) o) q
+spared : (o : Option ThreadRow) (q : ℕ) → HasDrawing o q → HasDrawing (option_map (λ (row : ThreadRow). row_dying_if false row) o) q
 spared None q x = x
 spared (Some row) q x = x
 
-module _ (dies : ℕ → Bool) (rows new : List ThreadRow) (each : (t : ℕ) → item_at_number new t ≡ option_map (λ (row : ThreadRow). row_dying_if (dies t) row) (item_at_number rows t)) (st : State) (alive : ℕ → Bool) (are : AreLiveNumbersHeld st alive rows) where
-  left_own : (q : ℕ) (head : Head) → life_but dies st alive q ≡ true → (st.messages q).head ≡ Some head → HasNumber (item_at_number new head.tid) q
+module _ (dies : ℕ → Bool) (rows new : List ThreadRow) (each : (t : ℕ) → item_at_number new t ≡ option_map (λ (row : ThreadRow). row_dying_if (dies t) row) (item_at_number rows t)) (st : State) (alive : ℕ → Bool) (are : AreLiveDrawingsHeld st alive rows) where
+  left_own : (q : ℕ) (head : Head) → life_but dies st alive q ≡ true → (st.messages q).head ≡ Some head → HasDrawing (item_at_number new head.tid) q
   left_own q head life posted =
       let parts = not_dead (is_head_among dies (st.messages q).head) (alive q) life in
       let goes : dies head.tid ≡ false = ap (is_head_among dies) (sym posted) ∙ parts.0 in
-      subst (λ (o : Option ThreadRow). HasNumber o q) (sym (each head.tid ∙ ap (λ (b : Bool). option_map (λ (row : ThreadRow). row_dying_if b row) (item_at_number rows head.tid)) goes))
+      subst (λ (o : Option ThreadRow). HasDrawing o q) (sym (each head.tid ∙ ap (λ (b : Bool). option_map (λ (row : ThreadRow). row_dying_if b row) (item_at_number rows head.tid)) goes))
       (spared (item_at_number rows head.tid) q (are.own q head parts.1 posted))
 
-  left_lives : (t : ℕ) (other : ThreadRow) (q : ℕ) → item_at_number new t ≡ Some other → number_held other ≡ Some q → IsNumberOf st (life_but dies st alive) t q
+  left_lives : (t : ℕ) (other : ThreadRow) (q : ℕ) → item_at_number new t ≡ Some other → drawing_held other ≡ Some q → IsDrawingOf st (life_but dies st alive) t q
   left_lives t other q there e = by (item_at_number rows t) refl (dies t) refl (sym (each t) ∙ there) where
-    by : (o : Option ThreadRow) → item_at_number rows t ≡ o → (b : Bool) → dies t ≡ b → option_map (λ (row : ThreadRow). row_dying_if b row) o ≡ Some other → IsNumberOf st (life_but dies st alive) t q
+    by : (o : Option ThreadRow) → item_at_number rows t ≡ o → (b : Bool) → dies t ≡ b → option_map (λ (row : ThreadRow). row_dying_if b row) o ≡ Some other → IsDrawingOf st (life_but dies st alive) t q
     by None row_is b goes x = absurd (none-some other x)
-    by (Some row) row_is true goes x = absurd (none-some q (ap number_held (same_Some (record row { dying = true }) other x) ∙ e))
+    by (Some row) row_is true goes x = absurd (none-some q (ap drawing_held (same_Some (record row { dying = true }) other x) ∙ e))
     by (Some row) row_is false goes x =
-        let was : IsNumberOf st alive t q = are.lives t row q row_is (ap number_held (same_Some row other x) ∙ e) in
+        let was : IsDrawingOf st alive t q = are.lives t row q row_is (ap drawing_held (same_Some row other x) ∙ e) in
         record {
           lives = (λ k. cond ((ap (is_head_among dies) was.posted ∙ ap dies was.tid_is ∙ goes) k) false (was.lives k));
           head = was.head;
@@ -101,7 +103,7 @@ module _ (dies : ℕ → Bool) (rows new : List ThreadRow) (each : (t : ℕ) →
         }
 
   -- each live number is still that of a held call after threads have ended with theirs
-  pub left_held : AreLiveNumbersHeld st (life_but dies st alive) new
+  pub left_held : AreLiveDrawingsHeld st (life_but dies st alive) new
   left_held = record { own = left_own; lives = left_lives }
 
 -- ---- one after the other
@@ -119,6 +121,7 @@ pub none_ended : (rows : List ThreadRow) (workers : UnderWay) → HaveEnded (λ 
 none_ended rows workers = record {
   count = refl;
   rows = λ t. all_spared (item_at_number rows t);
+  numbers = λ numbers has. (numbers.in_use, has);
   kept = λ i st alive kept are. subst (λ (live : ℕ → Bool). RepresentsMessages i st live workers) (λ k other. cond (sym (none_among (st.messages other).head) k) false (alive other)) kept;
 }
 
@@ -141,6 +144,7 @@ pub both_ended : (a b : ℕ → Bool) (rows : List ThreadRow) (workers : UnderWa
     → HaveEnded a rows workers mid between → HaveEnded b mid between new left → HaveEnded (λ t. a t || b t) rows workers new left
 both_ended a b rows workers mid between new left first second = record {
   count = second.count ∙ first.count;
+  numbers = fewer_twice workers.calls between.calls left.calls first.numbers second.numbers;
   rows = λ t. second.rows t ∙ ap (option_map (λ (row : ThreadRow). row_dying_if (b t) row)) (first.rows t) ∙ both_die (a t) (b t) (item_at_number rows t);
   kept = λ i st alive kept are. subst (λ (live : ℕ → Bool). RepresentsMessages i st live left) (λ k other. both_among a b (st.messages other).head (alive other) k)
       (second.kept i st (life_but a st alive) (first.kept i st alive kept are) (left_held a rows mid first.rows st alive are));
@@ -152,7 +156,7 @@ ended_as a b same rows workers new left x = subst (λ (dies : ℕ → Bool). Hav
 
 -- ---- one thread
 
-module _ (rows : List ThreadRow) (workers left : UnderWay) (u : ℕ) (row : ThreadRow) (row_is : item_at_number rows u ≡ Some row) (ends : EndsCall (number_held row) workers left) where
+module _ (rows : List ThreadRow) (workers left : UnderWay) (u : ℕ) (row : ThreadRow) (row_is : item_at_number rows u ≡ Some row) (ends : EndsCall (drawing_held row) workers left) (fewer : KeepsNumbers workers.calls left.calls) where
   one_row : (t : ℕ) → item_at_number (set rows (u - 1) (record row { dying = true })) t ≡ option_map (λ (each : ThreadRow). row_dying_if (t == u) each) (item_at_number rows t)
   one_row t =
       let within = number_within rows u row row_is in
@@ -164,21 +168,21 @@ module _ (rows : List ThreadRow) (workers left : UnderWay) (u : ℕ) (row : Thre
             ∙ all_spared (item_at_number rows t) ∙ ap (λ (b : Bool). option_map (λ (each : ThreadRow). row_dying_if b each) (item_at_number rows t)) (sym (ne_eqb t u ne))
       ]
 
-  module _ (st : State) (alive : ℕ → Bool) (are : AreLiveNumbersHeld st alive rows) (other : ℕ) where
-    by_head : (o : Option Head) → (st.messages other).head ≡ o → alive other ≡ true → is_number other (number_held row) ≡ is_head_among (λ t. t == u) o
-    by_head None posted live = by (number_held row) refl where
-      by : (o : Option ℕ) → number_held row ≡ o → is_number other o ≡ false
+  module _ (st : State) (alive : ℕ → Bool) (are : AreLiveDrawingsHeld st alive rows) (other : ℕ) where
+    by_head : (o : Option Head) → (st.messages other).head ≡ o → alive other ≡ true → is_number other (drawing_held row) ≡ is_head_among (λ t. t == u) o
+    by_head None posted live = by (drawing_held row) refl where
+      by : (o : Option ℕ) → drawing_held row ≡ o → is_number other o ≡ false
       by None e = refl
       by (Some p) e = ne_eqb p other (λ same. let x = are.lives u row p row_is e in none-some x.head (sym posted ∙ ap (λ (n : ℕ). (st.messages n).head) (sym same) ∙ x.posted))
     by_head (Some head) posted live = elim (cases_eq head.tid u) [
-      | inl e ↦ let mine : number_held row ≡ Some other = subst (λ (o : Option ThreadRow). HasNumber o other) (ap (item_at_number rows) e ∙ row_is) (are.own other head live posted) in
+      | inl e ↦ let mine : drawing_held row ≡ Some other = subst (λ (o : Option ThreadRow). HasDrawing o other) (ap (item_at_number rows) e ∙ row_is) (are.own other head live posted) in
           ap (is_number other) mine ∙ eq-eqb other other refl ∙ sym (eq-eqb head.tid u e)
       | inr ne ↦ mine_alone st alive rows are u row row_is other head posted ne ∙ sym (ne_eqb head.tid u ne)
     ]
 
-    one_life : (b : Bool) → alive other ≡ b → life_without_number alive (number_held row) other ≡ life_but (λ t. t == u) st alive other
+    one_life : (b : Bool) → alive other ≡ b → life_without_number alive (drawing_held row) other ≡ life_but (λ t. t == u) st alive other
     one_life true live = ap (λ (b : Bool). cond b false (alive other)) (by_head (st.messages other).head refl live)
-    one_life false dead = ap (λ (b : Bool). cond (is_number other (number_held row)) false b) dead ∙ none (is_number other (number_held row)) (is_head_among (λ t. t == u) (st.messages other).head)
+    one_life false dead = ap (λ (b : Bool). cond (is_number other (drawing_held row)) false b) dead ∙ none (is_number other (drawing_held row)) (is_head_among (λ t. t == u) (st.messages other).head)
         ∙ sym (ap (λ (b : Bool). cond (is_head_among (λ t. t == u) (st.messages other).head) false b) dead) where
           none : (x y : Bool) → cond x false false ≡ cond y false false
           none true true = refl
@@ -191,6 +195,7 @@ module _ (rows : List ThreadRow) (workers left : UnderWay) (u : ℕ) (row : Thre
   one_ended = record {
     count = length-set rows (u - 1) _;
     rows = one_row;
+    numbers = fewer;
     kept = λ i st alive kept are. subst (λ (live : ℕ → Bool). RepresentsMessages i st live left) (λ k other. one_life st alive are other (alive other) refl k) (ends i st alive kept);
   }
 
@@ -201,6 +206,7 @@ pub ended_where : (a b : ℕ → Bool) (rows : List ThreadRow) → ((t : ℕ) (r
     → HaveEnded a rows workers new left → HaveEnded b rows workers new left
 ended_where a b rows same workers new left x = record {
   count = x.count;
+  numbers = x.numbers;
   rows = λ t. x.rows t ∙ by_row t (item_at_number rows t) refl;
   kept = λ i st alive kept are. subst (λ (live : ℕ → Bool). RepresentsMessages i st live left) (λ k other. lives st alive are other (alive other) refl k) (x.kept i st alive kept are);
 } where
@@ -214,15 +220,15 @@ ended_where a b rows same workers new left x = record {
   dead false true = refl
   dead false false = refl
 
-  held_by : (t q : ℕ) (o : Option ThreadRow) → item_at_number rows t ≡ o → HasNumber o q → a t ≡ b t
+  held_by : (t q : ℕ) (o : Option ThreadRow) → item_at_number rows t ≡ o → HasDrawing o q → a t ≡ b t
   held_by t q None e x = absurd x
   held_by t q (Some row) e x = same t row e
 
-  among : (st : State) (alive : ℕ → Bool) → AreLiveNumbersHeld st alive rows → (other : ℕ) → alive other ≡ true → (o : Option Head) → (st.messages other).head ≡ o → is_head_among a o ≡ is_head_among b o
+  among : (st : State) (alive : ℕ → Bool) → AreLiveDrawingsHeld st alive rows → (other : ℕ) → alive other ≡ true → (o : Option Head) → (st.messages other).head ≡ o → is_head_among a o ≡ is_head_among b o
   among st alive are other live None posted = refl
   among st alive are other live (Some head) posted = held_by head.tid other (item_at_number rows head.tid) refl (are.own other head live posted)
 
-  lives : (st : State) (alive : ℕ → Bool) → AreLiveNumbersHeld st alive rows → (other : ℕ) (live : Bool) → alive other ≡ live → life_but a st alive other ≡ life_but b st alive other
+  lives : (st : State) (alive : ℕ → Bool) → AreLiveDrawingsHeld st alive rows → (other : ℕ) (live : Bool) → alive other ≡ live → life_but a st alive other ≡ life_but b st alive other
   lives st alive are other false e = ap (λ (x : Bool). cond (is_head_among a (st.messages other).head) false x) e ∙ dead (is_head_among a (st.messages other).head) (is_head_among b (st.messages other).head)
       ∙ ap (λ (x : Bool). cond (is_head_among b (st.messages other).head) false x) (sym e)
   lives st alive are other true e = ap (λ (x : Bool). cond x false (alive other)) (among st alive are other e (st.messages other).head refl)
@@ -271,25 +277,25 @@ no_more n t dies stays = elim (cases_eq t (suc n)) [
 
 module _ (dies : ℕ → Bool) (rows : List ThreadRow) (workers : UnderWay) (now : List ThreadRow) (between : UnderWay) (n : ℕ) (so_far : HaveEnded (λ t. nat_le t n && dies t) rows workers now between) where
   -- the next thread ends, too
-  pub next_ended : dies (suc n) ≡ true → (row : ThreadRow) → item_at_number now (suc n) ≡ Some row → (left : UnderWay) → EndsCall (number_held row) between left
+  pub next_ended : dies (suc n) ≡ true → (row : ThreadRow) → item_at_number now (suc n) ≡ Some row → (left : UnderWay) → EndsCall (drawing_held row) between left → KeepsNumbers between.calls left.calls
       → HaveEnded (λ t. nat_le t (n + 1) && dies t) rows workers (set now n (record row { dying = true })) left
-  next_ended goes row row_is left ends =
+  next_ended goes row row_is left ends fewer =
       let here : suc n - 1 ≡ n = omega arith in
       subst (λ (k : ℕ). HaveEnded (λ t. nat_le t (n + 1) && dies t) rows workers (set now k (record row { dying = true })) left) here
       (ended_as (λ t. (nat_le t n && dies t) || (t == suc n)) (λ t. nat_le t (n + 1) && dies t) (λ t. one_more n t dies goes) rows workers (set now (suc n - 1) (record row { dying = true })) left
-      (both_ended (λ t. nat_le t n && dies t) (λ t. t == suc n) rows workers now between (set now (suc n - 1) (record row { dying = true })) left so_far (one_ended now between left (suc n) row row_is ends)))
+      (both_ended (λ t. nat_le t n && dies t) (λ t. t == suc n) rows workers now between (set now (suc n - 1) (record row { dying = true })) left so_far (one_ended now between left (suc n) row row_is ends fewer)))
 
   -- the next thread goes on
   pub next_spared : dies (suc n) ≡ false → HaveEnded (λ t. nat_le t (n + 1) && dies t) rows workers now between
   next_spared stays = ended_as (λ t. nat_le t n && dies t) (λ t. nat_le t (n + 1) && dies t) (λ t. no_more n t dies stays) rows workers now between so_far
 
   -- the number of its held call is live
-  pub next_lives : HaveCalls rows workers → (row : ThreadRow) → item_at_number now (suc n) ≡ Some row → IfSome (number_held row) (λ q. calls.is_live_number between.calls q ≡ true)
-  next_lives have row row_is = by (number_held row) refl where
-    held : AreLiveNumbersHeld have.state (life_but (λ t. nat_le t n && dies t) have.state have.alive) now
+  pub next_lives : HaveCalls rows workers → (row : ThreadRow) → item_at_number now (suc n) ≡ Some row → IfSome (drawing_held row) (λ q. calls.is_live_drawing between.calls q ≡ true)
+  next_lives have row row_is = by (drawing_held row) refl where
+    held : AreLiveDrawingsHeld have.state (life_but (λ t. nat_le t n && dies t) have.state have.alive) now
     held = left_held (λ t. nat_le t n && dies t) rows now so_far.rows have.state have.alive have.held
 
-    by : (o : Option ℕ) → number_held row ≡ o → IfSome o (λ q. calls.is_live_number between.calls q ≡ true)
+    by : (o : Option ℕ) → drawing_held row ≡ o → IfSome o (λ q. calls.is_live_drawing between.calls q ≡ true)
     by None e = tt
     by (Some q) e = lives_as have.input have.state (life_but (λ t. nat_le t n && dies t) have.state have.alive) between q (so_far.kept have.input have.state have.alive have.kept have.held) ∙ (held.lives (suc n) row q row_is e).lives
 

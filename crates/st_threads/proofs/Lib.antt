@@ -1,5 +1,5 @@
 pub mod HeldEnds
 mod Planned
-mod Renewed
+pub mod Renewed
 pub mod RenewedLaw
 pub mod Rows

@@ -22,8 +22,8 @@ use Rattle.st_trace.specs.declared.entry.Way.{Way}
 use Rattle.st_trace.specs.declared.entry.Way.TheVariants.{Fast, Barred, Held, Untraced}
 use Rattle.st_workers.specs.Refinement.{RepresentsMachineMessages, messages_renewed}
 use Rattle.st_workers.specs.UnderWay.{UnderWay}
-use Rattle.st_threads.specs.Renewing.{AreOthers, AreLiveAndDistinct, RenewsAll, next_after, number_renewed, numbers_from, renewals_from, row_renewed, rows_renewed, with_number}
-use Rattle.st_threads.specs.Thread.{ThreadRow, IsRow, IsRowOf, number_by_way, number_held, number_pending}
+use Rattle.st_threads.specs.Renewing.{AreOthers, AreLiveAndDistinct, RenewsAll, next_after, drawing_renewed, drawings_from, renewals_from, row_renewed, rows_renewed, with_drawing}
+use Rattle.st_threads.specs.Thread.{ThreadRow, IsRow, IsRowOf, drawing_by_way, drawing_held, drawing_pending}
 use Rattle.st_threads.proofs.Rows.{either_none, holds}
 
 -- ---- changes that renewals preserve
@@ -74,13 +74,13 @@ pub record IsTagged (owner : ℕ → ℕ) (alive : ℕ → Bool) (low u q : ℕ)
 -- the numbers that are held from a thread on
 abbrev pub AreTagged : (ℕ → ℕ) → (ℕ → Bool) → ℕ → ℕ → List ThreadRow → Type 0
 AreTagged owner alive low u [] = Unit {0}
-AreTagged owner alive low u (row ∷ rows) = ((q : ℕ) → number_held row ≡ Some q → IsTagged owner alive low u q) × AreTagged owner alive low (suc u) rows
+AreTagged owner alive low u (row ∷ rows) = ((q : ℕ) → drawing_held row ≡ Some q → IsTagged owner alive low u q) × AreTagged owner alive low (suc u) rows
 
-tags_each : (owner : ℕ → ℕ) (alive : ℕ → Bool) (low : ℕ) (rows : List ThreadRow) (u : ℕ) → ((k v : ℕ) (row : ThreadRow) (q : ℕ) → v ≡ k + u → slice_get rows k ≡ Some row → number_held row ≡ Some q → IsTagged owner alive low v q) → AreTagged owner alive low u rows
+tags_each : (owner : ℕ → ℕ) (alive : ℕ → Bool) (low : ℕ) (rows : List ThreadRow) (u : ℕ) → ((k v : ℕ) (row : ThreadRow) (q : ℕ) → v ≡ k + u → slice_get rows k ≡ Some row → drawing_held row ≡ Some q → IsTagged owner alive low v q) → AreTagged owner alive low u rows
 tags_each owner alive low [] u f = tt
 tags_each owner alive low (row ∷ rows) u f = ((λ q e. f 0 u row q (omega arith) refl e), tags_each owner alive low rows (suc u) (λ k v other q e at held. f (suc k) v other q (omega (arith, e)) at held))
 
-pub tags_from : (owner : ℕ → ℕ) (alive : ℕ → Bool) (low : ℕ) (rows : List ThreadRow) → ((u : ℕ) (row : ThreadRow) (q : ℕ) → item_at_number rows u ≡ Some row → number_held row ≡ Some q → IsTagged owner alive low u q) → AreTagged owner alive low 1 rows
+pub tags_from : (owner : ℕ → ℕ) (alive : ℕ → Bool) (low : ℕ) (rows : List ThreadRow) → ((u : ℕ) (row : ThreadRow) (q : ℕ) → item_at_number rows u ≡ Some row → drawing_held row ≡ Some q → IsTagged owner alive low u q) → AreTagged owner alive low 1 rows
 tags_from owner alive low rows f = tags_each owner alive low rows 1 (λ k v row q e at held. let here : suc k ≡ v = omega (arith, e) in subst (λ (n : ℕ). IsTagged owner alive low n q) here (f (suc k) row q at held))
 
 -- ---- the law's renewals
@@ -93,7 +93,7 @@ module _ (st : State) (u : ℕ) (row : ThreadRow) (its : IsRow row (st.threads u
   abbrev p : ℕ
   p = (st.threads u).owner
 
-  by_way : (way : Way) (d : Bool) → row.dying ≡ d → ((q : ℕ) → cond d None (number_by_way row.number way) ≡ Some q → (st.threads u).number ≡ q) → held_by_way st u way ≡ held_list u p (cond d None (number_by_way row.number way))
+  by_way : (way : Way) (d : Bool) → row.dying ≡ d → ((q : ℕ) → cond d None (drawing_by_way row.number way) ≡ Some q → (st.threads u).number ≡ q) → held_by_way st u way ≡ held_list u p (cond d None (drawing_by_way row.number way))
   by_way Fast true e number = refl
   by_way Fast false e number = refl
   by_way (Barred n) true e number = refl
@@ -103,27 +103,27 @@ module _ (st : State) (u : ℕ) (row : ThreadRow) (its : IsRow row (st.threads u
   by_way (Held first) true e number = ap (λ (b : Bool). cond b [] (record { tid = u; pid = p; number = (st.threads u).number } ∷ [])) (its.dying ∙ e)
   by_way (Held first) false e number = (λ k. cond ((its.dying ∙ e) k) [] (record { tid = u; pid = p; number = number row.number refl k } ∷ []))
 
-  by_pending : (o : Option PendingCall) → row.pending ≡ o → held_by_pending st u o ≡ held_list u p (cond row.dying None (number_pending row.number o))
+  by_pending : (o : Option PendingCall) → row.pending ≡ o → held_by_pending st u o ≡ held_list u p (cond row.dying None (drawing_pending row.number o))
   by_pending None e = ap (held_list u p) (sym (either_none row.dying))
-  by_pending (Some entered) e = by_way entered.way row.dying refl (λ q has. its.number q (ap (λ (o : Option PendingCall). cond row.dying None (number_pending row.number o)) e ∙ has))
+  by_pending (Some entered) e = by_way entered.way row.dying refl (λ q has. its.number q (ap (λ (o : Option PendingCall). cond row.dying None (drawing_pending row.number o)) e ∙ has))
 
-  held_is : held_by_pending st u (st.threads u).pending ≡ held_list u p (number_held row)
+  held_is : held_by_pending st u (st.threads u).pending ≡ held_list u p (drawing_held row)
   held_is = ap (held_by_pending st u) its.pending ∙ by_pending row.pending refl
 
 module _ (processes : Processes) (pid caller : ℕ) where
   abbrev numbers : ℕ → List ThreadRow → List ℕ
-  numbers u rows = numbers_from processes pid caller u rows
+  numbers u rows = drawings_from processes pid caller u rows
 
   abbrev number : ℕ → ThreadRow → Option ℕ
-  number u row = number_renewed processes pid caller u row
+  number u row = drawing_renewed processes pid caller u row
 
   one_held : (u q p : ℕ) (b : Bool) → (p == pid && not (u == caller)) ≡ b → (rest : List HeldCall) (ns : List ℕ) → ((n : ℕ) → renewals pid caller n rest ≡ renewals_from n ns) → (next : ℕ)
-      → cond b (Renewed q next ∷ renewals pid caller (next + 1) rest) (renewals pid caller next rest) ≡ renewals_from next (with_number (cond b (Some q) None) ns)
+      → cond b (Renewed q next ∷ renewals pid caller (next + 1) rest) (renewals pid caller next rest) ≡ renewals_from next (with_drawing (cond b (Some q) None) ns)
   one_held u q p true e rest ns later next = let one : next + 1 ≡ suc next = omega arith in ap (λ (cs : List Change). Renewed q next ∷ cs) (later (next + 1) ∙ ap (λ (n : ℕ). renewals_from n ns) one)
   one_held u q p false e rest ns later next = later next
 
   some_held : (u p : ℕ) (o : Option ℕ) (b : Bool) → (p == pid && not (u == caller)) ≡ b → (rest : List HeldCall) (ns : List ℕ) → ((n : ℕ) → renewals pid caller n rest ≡ renewals_from n ns) → (next : ℕ)
-      → renewals pid caller next (held_list u p o ++ rest) ≡ renewals_from next (with_number (cond b o None) ns)
+      → renewals pid caller next (held_list u p o ++ rest) ≡ renewals_from next (with_drawing (cond b o None) ns)
   some_held u p None true e rest ns later next = later next
   some_held u p None false e rest ns later next = later next
   some_held u p (Some q) b e rest ns later next = ap (λ (d : Bool). cond d (Renewed q next ∷ renewals pid caller (next + 1) rest) (renewals pid caller next rest)) e ∙ one_held u q p b e rest ns later next
@@ -133,7 +133,7 @@ module _ (processes : Processes) (pid caller : ℕ) where
   law_renewals st owners [] u next are = refl
   law_renewals st owners (row ∷ rows) u next are =
       ap (λ (some : List HeldCall). renewals pid caller next (some ++ held_from st (suc u) (length rows))) (held_is st u row are.0)
-      ∙ some_held u (st.threads u).owner (number_held row) (owner_of processes u == pid && not (u == caller)) (ap (λ (p : ℕ). p == pid && not (u == caller)) (sym (owners u))) (held_from st (suc u) (length rows)) (numbers (suc u) rows)
+      ∙ some_held u (st.threads u).owner (drawing_held row) (owner_of processes u == pid && not (u == caller)) (ap (λ (p : ℕ). p == pid && not (u == caller)) (sym (owners u))) (held_from st (suc u) (length rows)) (numbers (suc u) rows)
       (λ n. law_renewals st owners rows (suc u) n are.1) next
 
   -- ---- the caller's row, and other processes
@@ -143,14 +143,14 @@ module _ (processes : Processes) (pid caller : ℕ) where
   and_not false = refl
 
   none_own : (u : ℕ) → u ≡ caller → (row : ThreadRow) → number u row ≡ None
-  none_own u same row = ap (λ (b : Bool). cond b (number_held row) None) (ap (λ (b : Bool). owner_of processes u == pid && not b) (eq-eqb u caller same) ∙ and_not (owner_of processes u == pid))
+  none_own u same row = ap (λ (b : Bool). cond b (drawing_held row) None) (ap (λ (b : Bool). owner_of processes u == pid && not b) (eq-eqb u caller same) ∙ and_not (owner_of processes u == pid))
 
   -- the caller's own row makes no difference
   pub set_numbers : (rows : List ThreadRow) (u k : ℕ) (other : ThreadRow) → k + u ≡ caller → numbers u (set rows k other) ≡ numbers u rows
   set_numbers [] u zero other e = refl
   set_numbers [] u (suc k) other e = refl
-  set_numbers (row ∷ rows) u zero other e = let same : u ≡ caller = omega (arith, e) in ap (λ (o : Option ℕ). with_number o (numbers (suc u) rows)) (none_own u same other ∙ sym (none_own u same row))
-  set_numbers (row ∷ rows) u (suc k) other e = ap (with_number (number u row)) (set_numbers rows (suc u) k other (omega (arith, e)))
+  set_numbers (row ∷ rows) u zero other e = let same : u ≡ caller = omega (arith, e) in ap (λ (o : Option ℕ). with_drawing o (numbers (suc u) rows)) (none_own u same other ∙ sym (none_own u same row))
+  set_numbers (row ∷ rows) u (suc k) other e = ap (with_drawing (number u row)) (set_numbers rows (suc u) k other (omega (arith, e)))
 
   pub count_renewed : (rows : List ThreadRow) (u next : ℕ) → length (rows_renewed processes pid caller next u rows) ≡ length rows
   count_renewed [] u next = refl
@@ -158,9 +158,9 @@ module _ (processes : Processes) (pid caller : ℕ) where
 
   -- ---- the numbers differ
 
-  of_held : (u : ℕ) (row : ThreadRow) (q : ℕ) → number u row ≡ Some q → number_held row ≡ Some q
+  of_held : (u : ℕ) (row : ThreadRow) (q : ℕ) → number u row ≡ Some q → drawing_held row ≡ Some q
   of_held u row q e = by (owner_of processes u == pid && not (u == caller)) e where
-    by : (b : Bool) → cond b (number_held row) None ≡ Some q → number_held row ≡ Some q
+    by : (b : Bool) → cond b (drawing_held row) None ≡ Some q → drawing_held row ≡ Some q
     by true e = e
     by false e = absurd (none-some q e)
 
@@ -168,7 +168,7 @@ module _ (processes : Processes) (pid caller : ℕ) where
     abbrev Tagged : ℕ → List ThreadRow → Type 0
     Tagged u rows = AreTagged owner alive low u rows
 
-    one_other : (q u : ℕ) (row : ThreadRow) (ns : List ℕ) (o : Option ℕ) → number u row ≡ o → ((p : ℕ) → number_held row ≡ Some p → p ≢ q) → AreOthers q ns → AreOthers q (with_number o ns)
+    one_other : (q u : ℕ) (row : ThreadRow) (ns : List ℕ) (o : Option ℕ) → number u row ≡ o → ((p : ℕ) → drawing_held row ≡ Some p → p ≢ q) → AreOthers q ns → AreOthers q (with_drawing o ns)
     one_other q u row ns None e apart rest = rest
     one_other q u row ns (Some p) e apart rest = (apart p (of_held u row p e), rest)
 
@@ -186,7 +186,7 @@ module _ (processes : Processes) (pid caller : ℕ) where
         (λ p e same. let below = (tags.0 p e).below in omega (arith, below, same, high))
         (below_fresh n high rows (suc u) tags.1)
 
-    one_live : (u : ℕ) (row : ThreadRow) (rows : List ThreadRow) → Tagged u (row ∷ rows) → (o : Option ℕ) → number u row ≡ o → AreLiveAndDistinct alive (numbers (suc u) rows) → AreLiveAndDistinct alive (with_number o (numbers (suc u) rows))
+    one_live : (u : ℕ) (row : ThreadRow) (rows : List ThreadRow) → Tagged u (row ∷ rows) → (o : Option ℕ) → number u row ≡ o → AreLiveAndDistinct alive (numbers (suc u) rows) → AreLiveAndDistinct alive (with_drawing o (numbers (suc u) rows))
     one_live u row rows tags None e rest = rest
     one_live u row rows tags (Some q) e rest =
         let tag = tags.0 q (of_held u row q e) in
@@ -209,8 +209,8 @@ module _ (processes : Processes) (pid caller : ℕ) where
     number_later next None q = q
     number_later next (Some p) q = next
 
-    here : (u next : ℕ) → low ≤ next → (row : ThreadRow) (rows : List ThreadRow) → Tagged u (row ∷ rows) → (o : Option ℕ) → number u row ≡ o → (q : ℕ) → number_held row ≡ Some q
-        → seq_after q (renewals_from next (with_number o (numbers (suc u) rows))) ≡ number_later next o q
+    here : (u next : ℕ) → low ≤ next → (row : ThreadRow) (rows : List ThreadRow) → Tagged u (row ∷ rows) → (o : Option ℕ) → number u row ≡ o → (q : ℕ) → drawing_held row ≡ Some q
+        → seq_after q (renewals_from next (with_drawing o (numbers (suc u) rows))) ≡ number_later next o q
     here u next high row rows tags None e q held = let tid = (tags.0 q held).tid in drawing_others q next (numbers (suc u) rows) (others q rows (suc u) tags.1 (omega (arith, tid)))
     here u next high row rows tags (Some p) e q held =
         let same : p ≡ q = same_Some p q (sym (of_held u row p e) ∙ held) in
@@ -218,13 +218,13 @@ module _ (processes : Processes) (pid caller : ℕ) where
         ∙ drawing_others next (suc next) (numbers (suc u) rows) (below_fresh next high rows (suc u) tags.1)
 
     later : (u next : ℕ) (row : ThreadRow) (rows : List ThreadRow) → Tagged u (row ∷ rows) → (o : Option ℕ) → number u row ≡ o → (q : ℕ) → suc u ≤ owner q
-        → seq_after q (renewals_from next (with_number o (numbers (suc u) rows))) ≡ seq_after q (renewals_from (next_after next o) (numbers (suc u) rows))
+        → seq_after q (renewals_from next (with_drawing o (numbers (suc u) rows))) ≡ seq_after q (renewals_from (next_after next o) (numbers (suc u) rows))
     later u next row rows tags None e q over = refl
     later u next row rows tags (Some p) e q over =
         let tid = (tags.0 p (of_held u row p e)).tid in
         ap (λ (n : ℕ). seq_after n (renewals_from (suc next) (numbers (suc u) rows))) (ap (λ (b : Bool). cond b next q) (ne_eqb p q (λ same. let eq = ap owner same in omega (arith, tid, eq, over))))
 
-    one_row : (f : ℕ → ℕ) (next : ℕ) (row : ThreadRow) (a b : ThreadState) → SameBut f a b → IsRow row a → (o : Option ℕ) → ((p : ℕ) → o ≡ Some p → number_held row ≡ Some p) → ((q : ℕ) → number_held row ≡ Some q → f q ≡ number_later next o q) → IsRow (row_renewed next o row) b
+    one_row : (f : ℕ → ℕ) (next : ℕ) (row : ThreadRow) (a b : ThreadState) → SameBut f a b → IsRow row a → (o : Option ℕ) → ((p : ℕ) → o ≡ Some p → drawing_held row ≡ Some p) → ((q : ℕ) → drawing_held row ≡ Some q → f q ≡ number_later next o q) → IsRow (row_renewed next o row) b
     one_row f next row a b same its None of drawn = record { left = same.left ∙ its.left; pending = same.pending ∙ its.pending; number = λ q e. same.number_is ∙ ap f (its.number q e) ∙ drawn q e; dying = same.dying ∙ its.dying; ended = same.ended ∙ its.ended }
     one_row f next row a b same its (Some p) of drawn = record {
       left = same.left ∙ its.left;
@@ -250,9 +250,9 @@ module _ (processes : Processes) (pid caller : ℕ) where
     )
 
 -- the numbers are the same by another record of the same processes
-pub same_numbers : (a b : Processes) (pid caller : ℕ) → ((u : ℕ) → owner_of a u ≡ owner_of b u) → (rows : List ThreadRow) (u : ℕ) → numbers_from a pid caller u rows ≡ numbers_from b pid caller u rows
+pub same_numbers : (a b : Processes) (pid caller : ℕ) → ((u : ℕ) → owner_of a u ≡ owner_of b u) → (rows : List ThreadRow) (u : ℕ) → drawings_from a pid caller u rows ≡ drawings_from b pid caller u rows
 same_numbers a b pid caller same [] u = refl
-same_numbers a b pid caller same (row ∷ rows) u = λ k. with_number (cond (same u k == pid && not (u == caller)) (number_held row) None) (same_numbers a b pid caller same rows (suc u) k)
+same_numbers a b pid caller same (row ∷ rows) u = λ k. with_drawing (cond (same u k == pid && not (u == caller)) (drawing_held row) None) (same_numbers a b pid caller same rows (suc u) k)
 
 -- ---- the messages
 

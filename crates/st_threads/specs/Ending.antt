@@ -8,28 +8,29 @@ use Rattle.st_trace.specs.declared.entry.Change.TheVariants.{Dying, Execed}
 use Rattle.st_law.specs.declared.input.Input.{Input}
 use Rattle.st_law.specs.Messages.{Head}
 use Rattle.st_law.specs.State.{State}
+use Rattle.st_workers.specs.Numbers.{KeepsNumbers}
 use Rattle.st_workers.specs.Refinement.{RepresentsMessages}
 use Rattle.st_workers.specs.UnderWay.{UnderWay}
-use Rattle.st_threads.specs.Thread.{ThreadRow, number_held}
+use Rattle.st_threads.specs.Thread.{ThreadRow, drawing_held}
 
--- ---- which numbers are held
+-- ---- which drawings are held
 
--- a thread holds a call under this number, by its row
-abbrev pub HasNumber : Option ThreadRow → ℕ → Type 0
-HasNumber None q = ⊥
-HasNumber (Some row) q = number_held row ≡ Some q
+-- a thread holds a call under this drawing, by its row
+abbrev pub HasDrawing : Option ThreadRow → ℕ → Type 0
+HasDrawing None q = ⊥
+HasDrawing (Some row) q = drawing_held row ≡ Some q
 
--- a number is live, and is this thread's
-pub record IsNumberOf (st : State) (alive : ℕ → Bool) (t q : ℕ) : Type 0 where
+-- a drawing is live, and is this thread's
+pub record IsDrawingOf (st : State) (alive : ℕ → Bool) (t q : ℕ) : Type 0 where
   pub lives : alive q ≡ true
   pub head : Head
   pub posted : (st.messages q).head ≡ Some head
   pub tid_is : head.tid ≡ t
 
--- each live number is that of its thread's held call, and the number of each held call is live
-pub record AreLiveNumbersHeld (st : State) (alive : ℕ → Bool) (rows : List ThreadRow) : Type 0 where
-  pub own : (q : ℕ) (head : Head) → alive q ≡ true → (st.messages q).head ≡ Some head → HasNumber (item_at_number rows head.tid) q
-  pub lives : (t : ℕ) (row : ThreadRow) (q : ℕ) → item_at_number rows t ≡ Some row → number_held row ≡ Some q → IsNumberOf st alive t q
+-- each live drawing is that of its thread's held call, and the drawing of each held call is live
+pub record AreLiveDrawingsHeld (st : State) (alive : ℕ → Bool) (rows : List ThreadRow) : Type 0 where
+  pub own : (q : ℕ) (head : Head) → alive q ≡ true → (st.messages q).head ≡ Some head → HasDrawing (item_at_number rows head.tid) q
+  pub lives : (t : ℕ) (row : ThreadRow) (q : ℕ) → item_at_number rows t ≡ Some row → drawing_held row ≡ Some q → IsDrawingOf st alive t q
 
 -- the messages under way are those of the calls that threads hold, in some state
 pub record HaveCalls (rows : List ThreadRow) (workers : UnderWay) : Type 0 where
@@ -37,11 +38,11 @@ pub record HaveCalls (rows : List ThreadRow) (workers : UnderWay) : Type 0 where
   pub state : State
   pub alive : ℕ → Bool
   pub kept : RepresentsMessages input state alive workers
-  pub held : AreLiveNumbersHeld state alive rows
+  pub held : AreLiveDrawingsHeld state alive rows
 
 -- ---- a call ends
 
--- its number, if it has one, is no longer live
+-- its drawing, if it has one, is no longer live
 abbrev pub life_without_number : (ℕ → Bool) → Option ℕ → ℕ → Bool
 life_without_number alive drawing other = if is_number other drawing then false else alive other
 
@@ -65,15 +66,16 @@ abbrev pub is_head_among : (ℕ → Bool) → Option Head → Bool
 is_head_among dies None = false
 is_head_among dies (Some head) = dies head.tid
 
--- which numbers are live without those of these threads
+-- which drawings are live without those of these threads
 abbrev pub life_but : (ℕ → Bool) → State → (ℕ → Bool) → ℕ → Bool
 life_but dies st alive other = if is_head_among dies (st.messages other).head then false else alive other
 
 -- these threads are dying, and their held calls have ended
 pub record HaveEnded (dies : ℕ → Bool) (before : List ThreadRow) (workers : UnderWay) (new : List ThreadRow) (left : UnderWay) : Type 0 where
   pub count : length new ≡ length before
+  pub numbers : KeepsNumbers workers.calls left.calls
   pub rows : (t : ℕ) → item_at_number new t ≡ option_map (λ row. row_dying_if (dies t) row) (item_at_number before t)
-  pub kept : (i : Input) (st : State) (alive : ℕ → Bool) → RepresentsMessages i st alive workers → AreLiveNumbersHeld st alive before → RepresentsMessages i st (life_but dies st alive) left
+  pub kept : (i : Input) (st : State) (alive : ℕ → Bool) → RepresentsMessages i st alive workers → AreLiveDrawingsHeld st alive before → RepresentsMessages i st (life_but dies st alive) left
 
 -- ---- what changes end
 

@@ -1,3 +1,4 @@
 pub mod Ending
 pub mod Renewing
 pub mod Thread
+pub mod Ways

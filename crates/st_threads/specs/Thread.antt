@@ -12,7 +12,7 @@ pub record ThreadRow : Type 0 where
   -- the instructions left
   pub left : List Instr
   pub pending : Option PendingCall
-  -- the number of its held call
+  -- the drawing of its held call
   pub number : ℕ
   pub dying : Bool
   pub ended : Bool
@@ -21,44 +21,44 @@ pub record ThreadRow : Type 0 where
 abbrev pub first_row : List Instr → ThreadRow
 first_row body = record { left = body; pending = None; number = 0; dying = false; ended = false }
 
--- the number of a thread after it entered a call this way
-abbrev pub number_of_way : Way → ℕ → ℕ
-number_of_way (Held q) before = q
-number_of_way Fast before = before
-number_of_way (Barred n) before = before
-number_of_way Untraced before = before
+-- the drawing of a thread after it entered a call this way
+abbrev pub drawing_of_way : Way → ℕ → ℕ
+drawing_of_way (Held q) before = q
+drawing_of_way Fast before = before
+drawing_of_way (Barred n) before = before
+drawing_of_way Untraced before = before
 
 -- a thread after it entered its next instruction's call this way
 abbrev pub row_entered : ThreadRow → SysCall → List ℕ → Way → ThreadRow
 row_entered row call regs way = record {
   left = drop 1 row.left;
   pending = Some (record { call = call; regs = regs; way = way; child = child_of_next row.left });
-  number = number_of_way way row.number;
+  number = drawing_of_way way row.number;
   dying = row.dying;
   ended = row.ended;
 }
 
--- the number of a call that is held, by its way
-abbrev pub number_by_way : ℕ → Way → Option ℕ
-number_by_way number (Held first) = Some number
-number_by_way number Fast = None
-number_by_way number (Barred n) = None
-number_by_way number Untraced = None
+-- the drawing of a call that is held, by its way
+abbrev pub drawing_by_way : ℕ → Way → Option ℕ
+drawing_by_way number (Held first) = Some number
+drawing_by_way number Fast = None
+drawing_by_way number (Barred n) = None
+drawing_by_way number Untraced = None
 
--- the number of a pending call, if it is held
-abbrev pub number_pending : ℕ → Option PendingCall → Option ℕ
-number_pending number None = None
-number_pending number (Some entered) = number_by_way number entered.way
+-- the drawing of a pending call, if it is held
+abbrev pub drawing_pending : ℕ → Option PendingCall → Option ℕ
+drawing_pending number None = None
+drawing_pending number (Some entered) = drawing_by_way number entered.way
 
--- the number of the call that a thread holds; a dying thread holds none
-abbrev pub number_held : ThreadRow → Option ℕ
-number_held row = if row.dying then None else number_pending row.number row.pending
+-- the drawing of the call that a thread holds; a dying thread holds none
+abbrev pub drawing_held : ThreadRow → Option ℕ
+drawing_held row = if row.dying then None else drawing_pending row.number row.pending
 
--- a row represents a thread's state in the law's machine; its number means something only while it holds a call
+-- a row represents a thread's state in the law's machine; its drawing means something only while it holds a call
 pub record IsRow (row : ThreadRow) (thread : ThreadState) : Type 0 where
   pub left : thread.left ≡ row.left
   pub pending : thread.pending ≡ row.pending
-  pub number : (q : ℕ) → number_held row ≡ Some q → thread.number ≡ q
+  pub number : (q : ℕ) → drawing_held row ≡ Some q → thread.number ≡ q
   pub dying : thread.dying ≡ row.dying
   pub ended : thread.ended ≡ row.ended
 

@@ -1,8 +1,9 @@
 // Ends held calls with their threads.
 ghost use Rattle.std.specs.Prelude.{◌≡◌, ◌<◌, ◌^◌, true, length, IfSome};
 ghost use Rattle.st_threads.specs.Ending.{EndsCall, HaveCalls, HaveEnded, ends_with, is_end_of, is_ended_by, row_dying_if};
-ghost use Rattle.st_threads.specs.Thread.{number_held};
-ghost use Rattle.st_messages.specs.Messages.{is_live_number};
+ghost use Rattle.st_threads.specs.Thread.{drawing_held};
+ghost use Rattle.st_messages.specs.Messages.{is_live_drawing};
+ghost use Rattle.st_workers.specs.Numbers.{KeepsNumbers};
 
 use crate::caller::CallingThread;
 use crate::thread::Thread;
@@ -13,8 +14,9 @@ use st_workers::Workers;
 
 /// Ends the call of this drawing, if there is one.
 pub fn end_call(workers: &mut Workers, drawing: Option<Drawing>)
-    requires { IfSome drawing (λ q. is_live_number workers.old.calls q ≡ true) }
-    ensures { EndsCall drawing workers.old workers.new }
+    requires { IfSome drawing (λ q. is_live_drawing workers.old.calls q ≡ true) }
+    ensures kept { EndsCall drawing workers.old workers.new }
+    ensures numbers { KeepsNumbers workers.old.calls workers.new.calls }
 {
     if let Some(drawing) = drawing {
         workers.cancel(drawing);
@@ -23,9 +25,10 @@ pub fn end_call(workers: &mut Workers, drawing: Option<Drawing>)
 
 // Makes a thread dying, and ends the call that it holds.
 fn make_dying(thread: &mut Thread<'_>, workers: &mut Workers)
-    requires { IfSome (number_held thread.old) (λ q. is_live_number workers.old.calls q ≡ true) }
+    requires { IfSome (drawing_held thread.old) (λ q. is_live_drawing workers.old.calls q ≡ true) }
     ensures thread { thread.new ≡ row_dying_if true thread.old }
-    ensures kept { EndsCall (number_held thread.old) workers.old workers.new }
+    ensures kept { EndsCall (drawing_held thread.old) workers.old workers.new }
+    ensures numbers { KeepsNumbers workers.old.calls workers.new.calls }
 {
     end_call(workers, thread.drawing_held());
     thread.die();

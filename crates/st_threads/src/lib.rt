@@ -5,8 +5,10 @@ mod caller;
 mod ending;
 mod renewing;
 mod thread;
+mod way;
 
 pub use caller::{CallingThread, NewIds};
 pub use ending::{end_by_all, end_call};
 pub use renewing::{RenewalPlan, plan_renewals, renew_all};
 pub use thread::{PendingCall, Thread};
+pub use way::CallWay;

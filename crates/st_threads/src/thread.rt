@@ -1,11 +1,13 @@
 ghost use Rattle.std.specs.Prelude.{◌≡◌, drop, true, None};
 ghost use Rattle.st_law.specs.State.{child_of_pending};
 ghost use Rattle.st_law.specs.Threads.{child_of_next};
-ghost use Rattle.st_threads.specs.Thread.{first_row, number_held, row_entered};
+ghost use Rattle.st_threads.specs.Thread.{first_row, drawing_held, row_entered};
+ghost use Rattle.st_threads.specs.Ways.{drawn_way};
 
+use crate::way::CallWay;
 use st_base::{Drawing, Tid};
 use st_calls::SysCall;
-use st_trace::{Instr, Way};
+use st_trace::Instr;
 use std::marker::Model;
 
 /// A call that a thread has entered, and that is neither made nor denied yet.
@@ -13,19 +15,22 @@ use std::marker::Model;
 pub struct PendingCall {
     pub call: SysCall,
     pub regs: [u64; 6],
-    pub way: Way,
+    pub way: CallWay,
     /// The thread that it starts; 0 if it is no fork of the body.
     pub child: Tid,
 }
 
 impl Model for PendingCall {
     ghost use Rattle.st_law.specs.Threads as law;
+    ghost use Rattle.st_threads.specs.Ways.{drawn_way, way_again, way_in_code};
 
     ghost Value = { law.PendingCall };
 
-    ghost view = { λ p. record { call = p.call; regs = p.regs; way = p.way; child = p.child } };
+    ghost view = { λ p. record { call = p.call; regs = p.regs; way = drawn_way p.way; child = p.child } };
 
-    ghost inverse = { λ p. record { call = p.call; regs = p.regs; way = p.way; child = p.child } };
+    ghost inverse = { λ p. record { call = p.call; regs = p.regs; way = way_in_code p.way; child = p.child } };
+
+    ghost inverse_ok = { λ p _. (λ k. record { call = p.call; regs = p.regs; way = way_again p.way k; child = p.child }) };
 }
 
 /// How far a thread has come. Its process is kept by the system.
@@ -103,14 +108,14 @@ impl<'a> Thread<'a> {
 
     /// The drawing of the call that it holds. A dying thread holds none.
     pub fn drawing_held(&self) -> Option<Drawing>
-        ensures { result ≡ number_held self.now }
+        ensures { result ≡ drawing_held self.now }
     {
         if self.dying {
             return None;
         }
         match self.pending?.way {
-            Way::Held(_) => Some(self.drawing),
-            Way::Fast | Way::Barred(_) | Way::Untraced => None,
+            CallWay::Held(_) => Some(self.drawing),
+            CallWay::Fast | CallWay::Barred(_) | CallWay::Untraced => None,
         }
     }
 
@@ -146,10 +151,10 @@ impl<'a> Thread<'a> {
     }
 
     /// Enters the call of its next instruction, and goes on after it. A held call has the drawing of its message.
-    pub fn enter(&mut self, call: SysCall, regs: [u64; 6], way: Way)
-        ensures { self.new ≡ row_entered self.old call regs way }
+    pub fn enter(&mut self, call: SysCall, regs: [u64; 6], way: CallWay)
+        ensures { self.new ≡ row_entered self.old call regs (drawn_way way) }
     {
-        if let Way::Held(drawing) = way {
+        if let CallWay::Held(drawing) = way {
             self.drawing = drawing;
         }
         self.pending = Some(PendingCall {

@@ -13,23 +13,23 @@ use Rattle.st_messages.specs.declared.message.Delivered.{Delivered}
 use Rattle.st_messages.specs.declared.message.Delivered.TheVariants.{Applied, Stale}
 use Rattle.st_messages.specs.declared.message.MsgState.{MsgState}
 use Rattle.st_messages.specs.declared.message.MsgState.TheVariants.{Answered, Claimed}
-use Rattle.st_messages.specs.Messages.{calls_after_let_go, is_claimed, is_claimed_state, is_kept, is_live_number, kept_in, message_state, thread_of_number, with_state, AreValidCalls, HasWorker, HeldCalls}
+use Rattle.st_messages.specs.Messages.{calls_after_let_go, is_claimed, is_claimed_state, is_kept, is_live_drawing, kept_in, message_state, seq_of, thread_of_drawing, with_state, AreValidCalls, HasWorker, HeldCalls}
 use Rattle.st_messages.proofs.Lookups.{kept_without}
+use Rattle.st_messages.proofs.Seqs.{seqs_let_go, seqs_moved}
 use Rattle.st_messages.proofs.Whole.{states_moved, threads_moved, whole-let_go, whole-moved}
 use Rattle.st_trace.specs.declared.entry.Entry.TheVariants as entry
 use Rattle.st_law.specs.declared.input.Input.{Input}
 use Rattle.st_filter.specs.Policies.{read_filters}
-use Rattle.st_effects.specs.Progress.{Progress, Word, Look, Stuck, Ready as Whole}
-use Rattle.st_law.specs.Messages.{Head}
 use Rattle.st_law.specs.Numbers.{without_replaced}
-use Rattle.st_law.specs.State.{progress_of_message, snapshot_of_message, snapshot_of_progress, Message, State}
+use Rattle.st_law.specs.State.{progress_of_message, snapshot_of_message, Message, State}
 use Rattle.st_workers.specs.Numbers.{AreNumbered, CarriesNumbers, HasNumbers, IsReadyWith}
-use Rattle.st_workers.specs.Refinement.{at_work, AgreesWithMachine, HasMessageFlags, IsDead, RepresentsMessages, RepresentsMessagesAfter, IsLive, IsTurn, AreValidWorkers}
+use Rattle.st_workers.specs.Refinement.{at_work, drawn_copies, AgreesWithMachine, HasMessageFlags, IsDead, RepresentsMessages, RepresentsMessagesAfter, IsLive, IsTurn, AreValidWorkers}
 use Rattle.st_workers.specs.UnderWay.{found_in, turn_of_worker, UnderWay}
 use Rattle.st_workers.specs.declared.turn.Turn.TheVariants.{Idle, Ready}
 use Rattle.st_workers.proofs.Carried.{numbers_let_go, numbers_moved, numbers_still}
 use Rattle.st_workers.proofs.Ended.{dead_not_live, none_live, state_live, turned_claimed}
-use Rattle.st_workers.proofs.Numbered.{idle_no_drawing, numbered_by, ready_before, ready_still, same_life, same_ready, turn_other, turn_same, worked}
+use Rattle.st_workers.proofs.Numbered.{idle_no_drawing, numbered_by, put_count, ready_before, ready_still, same_life, same_ready, turn_other, turn_same, worked}
+use Rattle.st_workers.proofs.Seqs.{left_seqs, let_go_seqs}
 use Rattle.st_workers.proofs.Steps.{all_turned, all_worked, count_kept, message_worked, stepped, verdicts_kept, IsStep}
 use Rattle.st_workers.proofs.Tasks.{sealed_ready}
 use Rattle.st_workers.proofs.Turns.{number_within}
@@ -48,17 +48,6 @@ stale_by : (d : Delivered) → (d ≡ Applied → ⊥) → d ≡ Stale
 stale_by Applied unlike = absurd (unlike refl)
 stale_by Stale unlike = refl
 
-own_number : (q : ℕ) (o : Option Head) (p : Progress) (s : Snapshot) → snapshot_of_progress q o p ≡ Some s → q ≡ s.seq
-own_number q (Some head) (Whole args) s e = ap (λ (u : Snapshot). u.seq) (same_Some _ s e)
-own_number q (Some head) (Word part place) s e = absurd (none-some s e)
-own_number q (Some head) (Look part name) s e = absurd (none-some s e)
-own_number q (Some head) (Stuck errno) s e = absurd (none-some s e)
-own_number q None p s e = absurd (none-some s e)
-
--- the number in the copies of a ready worker is that of its message
-pub ready_number : (kept : UnderWay) → AreValidWorkers kept → (w q : ℕ) (s : Snapshot) → turn_of_worker kept w ≡ Some (Ready q s) → q ≡ s.seq
-ready_number kept whole w q s ready = own_number q (whole.messages q).head (progress_of_message (whole.messages q)) s (whole.agrees.workers w (Ready q s) ready).1
-
 -- what a worker is ready with is claimed, or has ended and is kept
 pub claimed_or_kept : (kept : UnderWay) → AreValidWorkers kept → AreNumbered kept → (w q : ℕ) (s : Snapshot) → turn_of_worker kept w ≡ Some (Ready q s) → is_claimed kept.calls q ≡ false → is_kept kept.calls q ≡ true
 claimed_or_kept kept whole numbered w q s ready unclaimed = by (whole.alive q) refl where
@@ -69,7 +58,8 @@ claimed_or_kept kept whole numbered w q s ready unclaimed = by (whole.alive q) r
       absurd (true≢false (sym (ap is_claimed_state claimed.1) ∙ unclaimed))
   by false e = numbered.ended q (w, s, ready) (none_live kept.calls q (whole.agrees.dead q e).state)
 
-module _ (old new : UnderWay) (w : ℕ) (s : Snapshot) (v : Verdict) (delivered : Delivered) (ready : turn_of_worker old w ≡ Some (Ready s.seq s)) (is : IsDelivered old.calls new.calls s.seq v delivered)
+-- a worker is ready with copies that have a number; the law's machine has the drawing there
+module _ (old new : UnderWay) (w : ℕ) (s its : Snapshot) (drawn : drawn_copies s.seq its ≡ s) (v : Verdict) (delivered : Delivered) (ready : turn_of_worker old w ≡ Some (Ready s.seq its)) (is : IsDelivered old.calls new.calls s.seq v delivered)
     (slots : new.slots ≡ old.slots) (put : new.turns ≡ set old.turns (w - 1) Idle) where
   answered_other : (a : Bool) (q : ℕ) (m : Message) → q ≢ s.seq → message_worked (entry.Answered w s v a) q m ≡ m
   answered_other a q m ne =
@@ -83,8 +73,8 @@ module _ (old new : UnderWay) (w : ℕ) (s : Snapshot) (v : Verdict) (delivered 
   stale_come m was = record { claimed = was.claimed; fault = was.fault; answered = ap (λ (b : Bool). b || m.answered) (and_false (s.seq == s.seq)) ∙ was.answered }
 
   module _ (messages : ℕ → Message) (turns : ℕ → Option ℕ) (alive : ℕ → Bool) (posted : ℕ) (agrees : AgreesWithMachine messages turns alive posted (found_in old)) where
-    at : IsTurn messages alive (turns w) (Ready s.seq s)
-    at = agrees.workers w (Ready s.seq s) ready
+    at : IsTurn messages alive (turns w) (Ready s.seq its)
+    at = agrees.workers w (Ready s.seq its) ready
 
     came : HasMessageFlags (messages s.seq) true None false
     came = agrees.turned w s.seq at.0
@@ -107,7 +97,7 @@ module _ (old new : UnderWay) (w : ℕ) (s : Snapshot) (v : Verdict) (delivered 
       calls : new.calls ≡ with_state old.calls s.seq (Answered v)
       calls = is.ok is_applied
 
-      live_calls : is_live_number old.calls s.seq ≡ true
+      live_calls : is_live_drawing old.calls s.seq ≡ true
       live_calls = state_live old.calls s.seq (Claimed claimed.0) claimed.1
 
       states : (q : ℕ) → q ≢ s.seq → message_state new.calls q ≡ message_state old.calls q
@@ -116,16 +106,16 @@ module _ (old new : UnderWay) (w : ℕ) (s : Snapshot) (v : Verdict) (delivered 
       state : message_state new.calls s.seq ≡ Some (Answered v)
       state = ap (λ (c : HeldCalls). message_state c s.seq) calls ∙ states_moved old.calls s.seq (Answered v) live_calls s.seq ∙ ap (λ (b : Bool). cond b (Some (Answered v)) (message_state old.calls s.seq)) (eq-eqb s.seq s.seq refl)
 
-      threads : (q : ℕ) → thread_of_number new.calls q ≡ thread_of_number old.calls q
-      threads q = ap (λ (c : HeldCalls). thread_of_number c q) calls ∙ threads_moved old.calls s.seq (Answered v) q
+      threads : (q : ℕ) → thread_of_drawing new.calls q ≡ thread_of_drawing old.calls q
+      threads q = ap (λ (c : HeldCalls). thread_of_drawing c q) calls ∙ threads_moved old.calls s.seq (Answered v) q
 
       was : IsLive turns s.seq (messages s.seq) (found_in old)
       was = agrees.live s.seq live
 
       applied_step : IsStep messages (all_worked (entry.Answered w s v true) messages) turns (all_turned (entry.Answered w s v true) turns) alive posted old new w s.seq Idle
       applied_step = record {
-        from = (number_within old.turns w (Ready s.seq s) ready).0;
-        to = (number_within old.turns w (Ready s.seq s) ready).1;
+        from = (number_within old.turns w (Ready s.seq its) ready).0;
+        to = (number_within old.turns w (Ready s.seq its) ready).1;
         put = put;
         next = ap (λ (c : HeldCalls). c.next) calls;
         others = λ q ne. answered_other true q (messages q) ne;
@@ -146,7 +136,7 @@ module _ (old new : UnderWay) (w : ℕ) (s : Snapshot) (v : Verdict) (delivered 
           state_is = state;
           thread_is = threads s.seq ∙ was.thread_is;
           slot_is = ap (λ (l : List Slot). slot_at l s.seq) slots ∙ was.slot_is;
-          is_state = (answered_come (messages s.seq) came, sealed_ready s.seq (messages s.seq).head (progress_of_message (messages s.seq)) s at.1);
+          is_state = (answered_come (messages s.seq) came, sealed_ready s.seq (messages s.seq).head (progress_of_message (messages s.seq)) (drawn_copies s.seq its) at.1);
           is_slot = record { head = was.is_slot.head; count = was.is_slot.count; words = was.is_slot.words; lookups = was.is_slot.lookups };
           is_sealed = was.is_sealed;
         };
@@ -167,13 +157,13 @@ module _ (old new : UnderWay) (w : ℕ) (s : Snapshot) (v : Verdict) (delivered 
 
       stale_step : s.seq ≤ posted → IsStep messages (all_worked (entry.Answered w s v false) messages) turns (all_turned (entry.Answered w s v false) turns) alive posted old new w s.seq Idle
       stale_step within = record {
-        from = (number_within old.turns w (Ready s.seq s) ready).0;
-        to = (number_within old.turns w (Ready s.seq s) ready).1;
+        from = (number_within old.turns w (Ready s.seq its) ready).0;
+        to = (number_within old.turns w (Ready s.seq its) ready).1;
         put = put;
         next = ap (λ (c : HeldCalls). c.next) stale_calls;
         others = λ q ne. answered_other false q (messages q) ne;
         states = λ q ne. ap (λ (c : HeldCalls). message_state c q) stale_calls;
-        threads = λ q. ap (λ (c : HeldCalls). thread_of_number c q) stale_calls;
+        threads = λ q. ap (λ (c : HeldCalls). thread_of_drawing c q) stale_calls;
         slots = λ q ne. ap (λ (l : List Slot). slot_at l q) slots;
         only = λ x ne turned. ne (agrees.apart x w s.seq turned at.0);
         stay = λ x ne other. stay false x ne;
@@ -185,7 +175,7 @@ module _ (old new : UnderWay) (w : ℕ) (s : Snapshot) (v : Verdict) (delivered 
         live = λ lives. absurd (true≢false (sym lives ∙ dead));
         dead = λ none. record {
           state = ap (λ (c : HeldCalls). message_state c s.seq) stale_calls ∙ none_there.state;
-          thread = ap (λ (c : HeldCalls). thread_of_number c s.seq) stale_calls ∙ none_there.thread;
+          thread = ap (λ (c : HeldCalls). thread_of_drawing c s.seq) stale_calls ∙ none_there.thread;
           slot = ap (λ (l : List Slot). slot_at l s.seq) slots ∙ none_there.slot;
         };
       }
@@ -208,38 +198,39 @@ module _ (old new : UnderWay) (w : ℕ) (s : Snapshot) (v : Verdict) (delivered 
     answered_agrees = stepped messages (all_worked (entry.Answered w s v (alive s.seq)) messages) turns (all_turned (entry.Answered w s v (alive s.seq)) turns) alive posted old new w s.seq Idle answered_step agrees
 
     -- each number that is kept is kept by a ready worker
-    ready_only : (q : ℕ) (t : Snapshot) → Ready s.seq s ≡ Ready q t → q ≡ s.seq
-    ready_only q t e = sym (same_ready s.seq q s t e)
+    ready_only : (q : ℕ) (t : Snapshot) → Ready s.seq its ≡ Ready q t → q ≡ s.seq
+    ready_only q t e = sym (same_ready s.seq q its t e)
 
     numbered_by_life : (b : Bool) → alive s.seq ≡ b → AreNumbered old → AreNumbered new
     numbered_by_life true e numbered =
-        worked old new w s.seq (Ready s.seq s) Idle ready ready_only (idle_no_drawing s.seq) put (state_live new.calls s.seq (Answered v) (state e)) (λ q. ap (λ (c : HeldCalls). is_kept c q) (calls e))
-        (λ q ne. same_life old.calls new.calls q (states e q ne))
-        (subst AreValidCalls (sym (calls e)) (whole-moved old.calls s.seq (Answered v) numbered.calls (live_calls e) (λ x is_claim. not_claim x is_claim))) numbered
+        worked old new w s.seq (Ready s.seq its) Idle ready ready_only (idle_no_drawing s.seq) put (state_live new.calls s.seq (Answered v) (state e)) (λ q. ap (λ (c : HeldCalls). is_kept c q) (calls e))
+        (λ q ne. same_life old.calls new.calls q (states e q ne)) (ap (λ (c : HeldCalls). c.workers) (calls e))
+        (subst AreValidCalls (sym (calls e)) (whole-moved old.calls s.seq (Answered v) numbered.calls (live_calls e) (λ x is_claim. not_claim x is_claim)))
+        (left_seqs old new w s.seq (Ready s.seq its) Idle ready put (λ q. ap (λ (c : HeldCalls). seq_of c q) (calls e) ∙ seqs_moved old.calls s.seq (Answered v) q) refl slots numbered.seqs) numbered
       where
         not_claim : (x : ℕ) → Answered v ≡ Claimed x → HasWorker old.calls x
         not_claim x is_claim = cc
     numbered_by_life false e numbered =
-        numbered_by old new s.seq (subst AreValidCalls (sym (stale_calls e)) (whole-let_go old.calls s.seq numbered.calls was_kept)) (record {
+        numbered_by old new s.seq (put_count old new w s.seq (Ready s.seq its) Idle ready ready_only (idle_no_drawing s.seq) put (ap (λ (c : HeldCalls). c.workers) (stale_calls e)) numbered.count) (subst AreValidCalls (sym (stale_calls e)) (whole-let_go old.calls s.seq numbered.calls was_kept)) (record {
           kept = λ q ne. ap (λ (c : HeldCalls). is_kept c q) (stale_calls e) ∙ ap (λ (o : Option KeptNumber). is_some o) (kept_without old.calls.kept s.seq q ∙ ap (λ (b : Bool). cond b None (kept_in old.calls.kept q)) (ne_eqb q s.seq ne));
-          live = λ q ne. ap (λ (c : HeldCalls). is_live_number c q) (stale_calls e);
-          ready = ready_before old new w s.seq (Ready s.seq s) Idle ready ready_only (idle_no_drawing s.seq) put;
-          still = ready_still old new w s.seq (Ready s.seq s) Idle ready ready_only (idle_no_drawing s.seq) put;
+          live = λ q ne. ap (λ (c : HeldCalls). is_live_drawing c q) (stale_calls e);
+          ready = ready_before old new w s.seq (Ready s.seq its) Idle ready ready_only (idle_no_drawing s.seq) put;
+          still = ready_still old new w s.seq (Ready s.seq its) Idle ready ready_only (idle_no_drawing s.seq) put;
           its_ready = λ is_there. absurd (true≢false (sym is_there ∙ let_go));
           its_kept = λ at_it dead. absurd (nobody at_it);
-        }) numbered
+        }) (let_go_seqs old new w s.seq (Ready s.seq its) Idle ready put (λ q. ap (λ (c : HeldCalls). seq_of c q) (stale_calls e) ∙ seqs_let_go old.calls s.seq numbered.calls was_kept q) refl slots (none_there e).slot nobody numbered.seqs) numbered
       where
         was_kept : is_kept old.calls s.seq ≡ true
-        was_kept = numbered.ended s.seq (w, s, ready) (none_live old.calls s.seq (none_there e).state)
+        was_kept = numbered.ended s.seq (w, its, ready) (none_live old.calls s.seq (none_there e).state)
 
         let_go : is_kept new.calls s.seq ≡ false
         let_go = ap (λ (c : HeldCalls). is_kept c s.seq) (stale_calls e) ∙ ap (λ (o : Option KeptNumber). is_some o) (kept_without old.calls.kept s.seq s.seq ∙ ap (λ (b : Bool). cond b None (kept_in old.calls.kept s.seq)) (eq-eqb s.seq s.seq refl))
 
         nobody : IsReadyWith new s.seq → ⊥
         nobody it = elim (cases_eq it.0 w) [
-          | inl same ↦ not_idle it.1 (same_Some Idle (Ready s.seq it.1) (sym (turn_same old new w s.seq (Ready s.seq s) Idle ready ready_only (idle_no_drawing s.seq) put it.0 same) ∙ it.2))
+          | inl same ↦ not_idle it.1 (same_Some Idle (Ready s.seq it.1) (sym (turn_same old new w s.seq (Ready s.seq its) Idle ready ready_only (idle_no_drawing s.seq) put it.0 same) ∙ it.2))
           | inr other ↦ (
-              let before : turn_of_worker old it.0 ≡ Some (Ready s.seq it.1) = sym (turn_other old new w s.seq (Ready s.seq s) Idle ready ready_only (idle_no_drawing s.seq) put it.0 other) ∙ it.2 in
+              let before : turn_of_worker old it.0 ≡ Some (Ready s.seq it.1) = sym (turn_other old new w s.seq (Ready s.seq its) Idle ready ready_only (idle_no_drawing s.seq) put it.0 other) ∙ it.2 in
               let there : IsTurn messages alive (turns it.0) (Ready s.seq it.1) = agrees.workers it.0 (Ready s.seq it.1) before in
               other (agrees.apart it.0 w s.seq there.0 at.0)
               )
@@ -248,13 +239,13 @@ module _ (old new : UnderWay) (w : ℕ) (s : Snapshot) (v : Verdict) (delivered 
           not_idle t same = cc
 
     -- a drawing that isn't live isn't in use any more
-    numbers_by_life : (b : Bool) → alive s.seq ≡ b → AreNumbered old → CarriesNumbers (without_replaced (is_live_number old.calls) s.seq) old.calls new.calls
+    numbers_by_life : (b : Bool) → alive s.seq ≡ b → AreNumbered old → CarriesNumbers (without_replaced (is_live_drawing old.calls) s.seq) old.calls new.calls
     numbers_by_life true e numbered numbers has =
-        subst (HasNumbers (without_replaced (is_live_number old.calls) s.seq numbers)) (sym (calls e))
-        (numbers_moved old.calls numbered.calls s.seq (Answered v) (without_replaced (is_live_number old.calls) s.seq numbers) (numbers_still old.calls s.seq (is_live_number old.calls) (live_calls e) numbers has))
+        subst (HasNumbers (without_replaced (is_live_drawing old.calls) s.seq numbers)) (sym (calls e))
+        (numbers_moved old.calls numbered.calls s.seq (Answered v) (without_replaced (is_live_drawing old.calls) s.seq numbers) (numbers_still old.calls s.seq (is_live_drawing old.calls) (live_calls e) numbers has))
     numbers_by_life false e numbered numbers has =
-        subst (HasNumbers (without_replaced (is_live_number old.calls) s.seq numbers)) (sym (stale_calls e))
-        (numbers_let_go old.calls numbered.calls s.seq (numbered.ended s.seq (w, s, ready) (none_live old.calls s.seq (none_there e).state)) (is_live_number old.calls) (none_live old.calls s.seq (none_there e).state) numbers has)
+        subst (HasNumbers (without_replaced (is_live_drawing old.calls) s.seq numbers)) (sym (stale_calls e))
+        (numbers_let_go old.calls numbered.calls s.seq (numbered.ended s.seq (w, its, ready) (none_live old.calls s.seq (none_there e).state)) (is_live_drawing old.calls) (none_live old.calls s.seq (none_there e).state) numbers has)
 
     workers_by : (b : Bool) → alive s.seq ≡ b → new.calls.workers ≡ old.calls.workers
     workers_by true e = ap (λ (c : HeldCalls). c.workers) (calls e)
@@ -270,7 +261,7 @@ module _ (old new : UnderWay) (w : ℕ) (s : Snapshot) (v : Verdict) (delivered 
     verdict_by : (i : Input) → v ≡ judging.verdict (read_filters i.policies s.policy s.rule) s → (b : Bool) → alive s.seq ≡ b → (x : Verdict) (t : Snapshot) → message_state new.calls s.seq ≡ Some (Answered x)
         → snapshot_of_message s.seq (all_worked (entry.Answered w s v b) messages s.seq) ≡ Some t → x ≡ judging.verdict (read_filters i.policies t.policy t.rule) t
     verdict_by i is_verdict true e x t answered copies =
-        let same : s ≡ t = same_Some s t (sym at.1 ∙ copies) in
+        let same : s ≡ t = sym drawn ∙ same_Some (drawn_copies s.seq its) t (sym at.1 ∙ copies) in
         sym (same_answer v x (same_Some (Answered v) (Answered x) (sym (state e) ∙ answered))) ∙ is_verdict ∙ ap (λ (u : Snapshot). judging.verdict (read_filters i.policies u.policy u.rule) u) same
     verdict_by i is_verdict false e x t answered copies =
         absurd (none-some (Answered x) (sym (ap (λ (c : HeldCalls). message_state c s.seq) (stale_calls e) ∙ (none_there e).state) ∙ answered))
@@ -292,7 +283,7 @@ module _ (old new : UnderWay) (w : ℕ) (s : Snapshot) (v : Verdict) (delivered 
   pub answered_numbered : AreValidWorkers old → AreNumbered old → AreNumbered new
   answered_numbered whole = numbered_by_life whole.messages whole.turns whole.alive whole.posted whole.agrees (whole.alive s.seq) refl
 
-  pub answered_numbers : AreValidWorkers old → AreNumbered old → CarriesNumbers (without_replaced (is_live_number old.calls) s.seq) old.calls new.calls
+  pub answered_numbers : AreValidWorkers old → AreNumbered old → CarriesNumbers (without_replaced (is_live_drawing old.calls) s.seq) old.calls new.calls
   answered_numbers whole = numbers_by_life whole.messages whole.turns whole.alive whole.posted whole.agrees (whole.alive s.seq) refl
 
   pub answered_workers : AreValidWorkers old → new.calls.workers ≡ old.calls.workers
@@ -308,14 +299,14 @@ module _ (old new : UnderWay) (w : ℕ) (s : Snapshot) (v : Verdict) (delivered 
         (states_by st.messages st.turns alive st.posted kept.agrees (alive s.seq) refl) (verdict_by st.messages st.turns alive st.posted kept.agrees i is_verdict (alive s.seq) refl) kept.verdicts;
   }
 
-  applied_by : (whole : AreValidWorkers old) (b : Bool) → whole.alive s.seq ≡ b → is_live_number old.calls s.seq ≡ true → delivered ≡ Applied
+  applied_by : (whole : AreValidWorkers old) (b : Bool) → whole.alive s.seq ≡ b → is_live_drawing old.calls s.seq ≡ true → delivered ≡ Applied
   applied_by whole true e live = is_applied whole.messages whole.turns whole.alive whole.posted whole.agrees e
   applied_by whole false e live = absurd (dead_not_live old.calls s.seq (whole.agrees.dead s.seq e).state live)
 
-  claimed_live : (held : HeldCalls) (q : ℕ) (o : Option MsgState) → message_state held q ≡ o → is_claimed_state o ≡ true → is_live_number held q ≡ true
+  claimed_live : (held : HeldCalls) (q : ℕ) (o : Option MsgState) → message_state held q ≡ o → is_claimed_state o ≡ true → is_live_drawing held q ≡ true
   claimed_live held q None e claimed_is = absurd (true≢false (sym claimed_is))
   claimed_live held q (Some x) e claimed_is = state_live held q x e
 
   -- an answer is applied iff its number is live
-  pub applied_where : AreValidWorkers old → (delivered ≡ Applied) ↔ (is_live_number old.calls s.seq ≡ true)
+  pub applied_where : AreValidWorkers old → (delivered ≡ Applied) ↔ (is_live_drawing old.calls s.seq ≡ true)
   applied_where whole = (λ e. claimed_live old.calls s.seq (message_state old.calls s.seq) refl (is.applied.0 e), λ live. applied_by whole (whole.alive s.seq) refl live)

@@ -26,7 +26,7 @@ idle_item : (turns : List Turn) → All (λ turn. turn ≡ Idle) turns → (w : 
 idle_item turns all zero t is = absurd (none-some t is)
 idle_item turns all (suc k) t is = sym (get_or_from_slice_get turns k t t is) ∙ all k t (slice_get_within turns k t is)
 
-module _ (kept : UnderWay) (next : kept.calls.next ≡ 1) (live : kept.calls.live ≡ []) (slots : kept.slots ≡ []) (none_kept : kept.calls.kept ≡ []) (valid : AreValidCalls kept.calls) (idle : All (λ turn. turn ≡ Idle) kept.turns) where
+module _ (kept : UnderWay) (next : kept.calls.next ≡ 1) (live : kept.calls.live ≡ []) (slots : kept.slots ≡ []) (none_kept : kept.calls.kept ≡ []) (valid : AreValidCalls kept.calls) (idle : All (λ turn. turn ≡ Idle) kept.turns) (count : length kept.turns ≡ kept.calls.workers) where
   no_state : (q : ℕ) → message_state kept.calls q ≡ None
   no_state q = ap (λ (l : List message.Message). option_map (λ (m : message.Message). m.state) (message_in l q)) live
 
@@ -48,7 +48,12 @@ module _ (kept : UnderWay) (next : kept.calls.next ≡ 1) (live : kept.calls.liv
 
   pub begun_numbered : AreNumbered kept
   begun_numbered = record {
+    count = count;
     calls = valid;
+    seqs = record {
+      slots = λ q slot there. absurd (none-some slot (sym (ap (λ (l : List Slot). slot_at l q) slots) ∙ there));
+      copies = λ w q s is. absurd (not_idle q s (idle_item kept.turns idle w (Ready q s) is));
+    };
     ready = λ q is. absurd (true≢false (sym is ∙ ap (λ (l : List KeptNumber). is_some (kept_in l q)) none_kept));
     ended = λ q ready dead. absurd (not_idle q ready.1 (idle_item kept.turns idle ready.0 (Ready q ready.1) ready.2));
   } where
@@ -67,8 +72,8 @@ module _ (kept : UnderWay) (next : kept.calls.next ≡ 1) (live : kept.calls.liv
     no_seq : (q : ℕ) → seq_of kept.calls q ≡ None
     no_seq q = λ k. option_or (option_map (λ (m : message.Message). m.seq) (message_in (live k) q)) (option_map (λ (n : KeptNumber). n.seq) (kept_in (none_kept k) q))
 
-  pub begun_whole : length kept.turns ≡ kept.calls.workers → AreValidWorkers kept
-  begun_whole count = record { count = count; messages = λ q. no_message; turns = λ w. None; alive = λ q. false; posted = 0; agrees = begun_agrees (λ q. false) (λ q. refl) }
+  pub begun_whole : AreValidWorkers kept
+  begun_whole = record { count = count; messages = λ q. no_message; turns = λ w. None; alive = λ q. false; posted = 0; agrees = begun_agrees (λ q. false) (λ q. refl) }
 
   pub begun_kept : (i : Input) → kept.calls.workers ≡ i.options.workers → RepresentsMessages i (first_state i) (is_live (first_state i)) kept
   begun_kept i workers = record {

@@ -1,5 +1,5 @@
 -- The messages and workers agree with the law's machine after a number has ended.
-use Rattle.std.proofs.Common.{◌≡◌, ◌≢◌, ◌↔◌, ℕ, ◌==◌, ◌||◌, Bool, true, false, cond, length, Option, Some, None, ◌⊎◌, inl, inr, refl, ap, sym, ◌∙◌, subst, arith}
+use Rattle.std.proofs.Common.{◌≡◌, ◌≢◌, ◌↔◌, ℕ, ◌==◌, ◌&&◌, ◌||◌, not, Bool, true, false, cond, length, Option, Some, None, ◌⊎◌, inl, inr, refl, ap, sym, ◌∙◌, subst, arith}
 use Rattle.std.specs.Prelude.{if◌then◌else◌, is_some}
 use Rattle.std.specs.Option.{option_map}
 use Rattle.std.proofs.lemmas.Bool.{cases_eq, eq-eqb, ne_eqb, true≢false}
@@ -8,21 +8,22 @@ use Rattle.st_lookaside.specs.Slots.{slot_at, ChangesSlot}
 use Rattle.st_messages.specs.declared.message.Message as message
 use Rattle.st_messages.specs.declared.message.MsgState.{MsgState}
 use Rattle.st_messages.specs.declared.message.MsgState.TheVariants.{Waiting, Claimed, Answered, Faulted}
-use Rattle.st_messages.specs.Messages.{calls_after_cancel, is_live_number, message_of_number, message_state, thread_of_number, ChangesState, HeldCalls}
+use Rattle.st_messages.specs.Messages.{calls_after_cancel, is_live_drawing, message_of_drawing, message_state, thread_of_drawing, ChangesState, HeldCalls}
 use Rattle.st_messages.proofs.Whole.{threads_cancelled}
 use Rattle.st_law.specs.declared.input.Input.{Input}
 use Rattle.st_law.specs.Numbers.{without_replaced}
 use Rattle.st_law.specs.State.{is_ready, progress_of_message, Message}
 use Rattle.st_workers.specs.Refinement.{at_work, AgreesWithMachine, RepresentsMachineMessages, ChangesLife, IsDead, IsLive, IsState, IsTurn, AreValidWorkers}
 use Rattle.st_workers.specs.Leaving.{is_claimed_by, is_claimer_ready, is_ready_turn, left, HasLeft}
-use Rattle.st_workers.specs.Numbers.{AreNumbered, AreReady, CarriesNumbers, HasNumbers, IsReadyWith}
+use Rattle.st_workers.specs.Numbers.{AreNumbered, AreReady, CarriesNumbers, HasNumbers, IsReadyWith, KeepsNumbers}
 use Rattle.st_workers.specs.UnderWay.{found_in, turn_of_worker, Found, UnderWay}
 use Rattle.st_workers.specs.declared.turn.Turn.{Turn}
 use Rattle.st_workers.specs.declared.turn.Turn.TheVariants.{Idle, Ready, Working}
 use Rattle.st_workers.proofs.Carried.{numbers_cancelled}
 use Rattle.st_workers.proofs.Changed.{changed, Moves, Stays}
 use Rattle.st_workers.proofs.Claims.{idle_at_none, live_by_state}
-use Rattle.st_workers.proofs.Numbered.{cancelled_numbered, ready_left}
+use Rattle.st_workers.proofs.Numbered.{cancelled_numbered, left_turn, ready_left}
+use Rattle.st_workers.proofs.Seqs.{cancelled_seqs}
 use Rattle.st_workers.proofs.Steps.{turned_state, verdicts_kept}
 
 -- a number that was live has ended, its worker has left it, and each other is unchanged
@@ -119,8 +120,8 @@ module _ (old new : Found) (p : ℕ) (ended : IsEnded old new p) (messages : ℕ
 -- ---- a live number
 
 -- a live number has a message
-pub live_message : (calls : HeldCalls) (q : ℕ) → is_live_number calls q ≡ true → (m : message.Message) × (message_of_number calls q ≡ Some m)
-live_message calls q is = by (message_of_number calls q) is where
+pub live_message : (calls : HeldCalls) (q : ℕ) → is_live_drawing calls q ≡ true → (m : message.Message) × (message_of_drawing calls q ≡ Some m)
+live_message calls q is = by (message_of_drawing calls q) is where
   by : (o : Option message.Message) → is_some o ≡ true → (m : message.Message) × (o ≡ Some m)
   by None is = absurd (true≢false (sym is))
   by (Some m) is = (m, refl)
@@ -133,7 +134,7 @@ same_answer true false P a_is b_is = sym (b_is.1 (a_is.0 refl))
 same_answer false true P a_is b_is = a_is.1 (b_is.0 refl)
 
 -- a number that is live here is live in the law's machine
-pub live_there : (messages : ℕ → Message) (turns : ℕ → Option ℕ) (alive : ℕ → Bool) (posted : ℕ) (kept : UnderWay) → AgreesWithMachine messages turns alive posted (found_in kept) → (q : ℕ) → is_live_number kept.calls q ≡ true → alive q ≡ true
+pub live_there : (messages : ℕ → Message) (turns : ℕ → Option ℕ) (alive : ℕ → Bool) (posted : ℕ) (kept : UnderWay) → AgreesWithMachine messages turns alive posted (found_in kept) → (q : ℕ) → is_live_drawing kept.calls q ≡ true → alive q ≡ true
 live_there messages turns alive posted kept agrees q is =
     let m = live_message kept.calls q is in
     live_by_state messages turns alive posted (found_in kept) agrees q m.0.state (ap (option_map (λ (x : message.Message). x.state)) m.1) (alive q) refl
@@ -166,7 +167,7 @@ module _ (messages : ℕ → Message) (turns : ℕ → Option ℕ) (alive : ℕ 
       let was : IsLive turns p (messages p) (found_in kept) = agrees.live p live in
       (λ e. claimer_is was.state was.is_state (sym (is ∙ ap (is_claimer_ready kept.turns) was.state_is) ∙ e), λ it. is ∙ claimer_found it)
 
-module _ (old new : UnderWay) (p : ℕ) (keeps : Bool) (here : is_live_number old.calls p ≡ true) (calls : new.calls ≡ calls_after_cancel old.calls p keeps) (states : ChangesState old.calls p None new.calls) (slots : ChangesSlot old.slots p None new.slots)
+module _ (old new : UnderWay) (p : ℕ) (keeps : Bool) (here : is_live_drawing old.calls p ≡ true) (calls : new.calls ≡ calls_after_cancel old.calls p keeps) (states : ChangesState old.calls p None new.calls) (slots : ChangesSlot old.slots p None new.slots)
     (turns_left : HasLeft old.turns (message_state old.calls p) new.turns) (count : length new.turns ≡ length old.turns) (keeps_is : keeps ≡ is_claimer_ready old.turns (message_state old.calls p)) where
   states_now : (q : ℕ) → q ≢ p → message_state new.calls q ≡ message_state old.calls q
   states_now q ne = states q ∙ ap (λ (b : Bool). cond b None (message_state old.calls q)) (ne_eqb q p ne)
@@ -174,19 +175,19 @@ module _ (old new : UnderWay) (p : ℕ) (keeps : Bool) (here : is_live_number ol
   state_now : message_state new.calls p ≡ None
   state_now = states p ∙ ap (λ (b : Bool). cond b None (message_state old.calls p)) (eq-eqb p p refl)
 
-  threads_now : (q : ℕ) → thread_of_number new.calls q ≡ cond (q == p) None (thread_of_number old.calls q)
-  threads_now q = ap (λ (c : HeldCalls). thread_of_number c q) calls ∙ threads_cancelled old.calls p keeps q
+  threads_now : (q : ℕ) → thread_of_drawing new.calls q ≡ cond (q == p) None (thread_of_drawing old.calls q)
+  threads_now q = ap (λ (c : HeldCalls). thread_of_drawing c q) calls ∙ threads_cancelled old.calls p keeps q
 
   cancelled : IsEnded (found_in old) (found_in new) p
   cancelled = record {
     next = ap (λ (c : HeldCalls). c.next) calls;
     dead = record {
       state = state_now;
-      thread = threads_now p ∙ ap (λ (b : Bool). cond b None (thread_of_number old.calls p)) (eq-eqb p p refl);
+      thread = threads_now p ∙ ap (λ (b : Bool). cond b None (thread_of_drawing old.calls p)) (eq-eqb p p refl);
       slot = slots p ∙ ap (λ (b : Bool). cond b None (slot_at old.slots p)) (eq-eqb p p refl);
     };
     states = states_now;
-    threads = λ q ne. threads_now q ∙ ap (λ (b : Bool). cond b None (thread_of_number old.calls q)) (ne_eqb q p ne);
+    threads = λ q ne. threads_now q ∙ ap (λ (b : Bool). cond b None (thread_of_drawing old.calls q)) (ne_eqb q p ne);
     slots = λ q ne. slots q ∙ ap (λ (b : Bool). cond b None (slot_at old.slots q)) (ne_eqb q p ne);
     turn = turns_left;
   }
@@ -200,15 +201,25 @@ module _ (old new : UnderWay) (p : ℕ) (keeps : Bool) (here : is_live_number ol
   module _ (messages : ℕ → Message) (turns : ℕ → Option ℕ) (alive : ℕ → Bool) (posted : ℕ) (agrees : AgreesWithMachine messages turns alive posted (found_in old)) where
     -- each number that is kept is kept by a ready worker
     left_numbered : AreNumbered old → AreNumbered new
-    left_numbered =
+    left_numbered numbered =
         let m = live_message old.calls p here in
-        cancelled_numbered old new p keeps m.0 m.1 calls states_now cancelled_ready (claimer_ready messages turns alive posted old agrees p (live_there messages turns alive posted old agrees p here) keeps keeps_is)
+        let keeps_iff = claimer_ready messages turns alive posted old agrees p (live_there messages turns alive posted old agrees p here) keeps keeps_is in
+        cancelled_numbered old new p keeps m.0 m.1 calls states_now count cancelled_ready keeps_iff
+        (cancelled_seqs old new p keeps m.0 numbered.calls m.1 calls slots (left_turn old new (message_state old.calls p) turns_left) keeps_iff.1 numbered.seqs) numbered
 
     left_numbers : AreNumbered old → (ready : ℕ → Bool) → AreReady ready old → CarriesNumbers (without_replaced ready p) old.calls new.calls
     left_numbers numbered ready are numbers has =
         let m = live_message old.calls p here in
         let says : keeps ≡ ready p = same_answer keeps (ready p) (IsReadyWith old p) (claimer_ready messages turns alive posted old agrees p (live_there messages turns alive posted old agrees p here) keeps keeps_is) (are p) in
         subst (HasNumbers (without_replaced ready p numbers)) (sym calls) (numbers_cancelled old.calls numbered.calls p keeps ready says m.0 m.1 numbers has)
+
+  -- the same numbers are in use as before, or fewer
+  pub cancelled_fewer : AreNumbered old → KeepsNumbers old.calls new.calls
+  cancelled_fewer numbered numbers has =
+      let m = live_message old.calls p here in (
+        (λ q. numbers.in_use q && (not (q == p) || keeps)),
+        subst (HasNumbers (without_replaced (λ q. keeps) p numbers)) (sym calls) (numbers_cancelled old.calls numbered.calls p keeps (λ q. keeps) refl m.0 m.1 numbers has),
+      )
 
   pub cancelled_numbers : AreValidWorkers old → AreNumbered old → (ready : ℕ → Bool) → AreReady ready old → CarriesNumbers (without_replaced ready p) old.calls new.calls
   cancelled_numbers whole = left_numbers whole.messages whole.turns whole.alive whole.posted whole.agrees

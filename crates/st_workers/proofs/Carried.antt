@@ -7,7 +7,7 @@ use Rattle.std.specs.Prelude.{is_some}
 use Rattle.st_messages.specs.Circle.{first_free}
 use Rattle.st_messages.specs.declared.message.Message.{Message}
 use Rattle.st_messages.specs.declared.message.MsgState.{MsgState}
-use Rattle.st_messages.specs.Messages.{calls_after_cancel, calls_after_let_go, calls_after_post, calls_after_post_as, calls_after_renew, calls_after_renew_of, count_in_use, is_in_use, is_kept, message_of_number, most_in_use, next_seq, seq_left, seq_of, seqs_in_use, with_state, AreValidCalls, HeldCalls}
+use Rattle.st_messages.specs.Messages.{calls_after_cancel, calls_after_let_go, calls_after_post, calls_after_post_as, calls_after_renew, calls_after_renew_of, count_in_use, is_in_use, is_kept, message_of_drawing, most_in_use, next_seq, seq_left, seq_of, seqs_in_use, with_state, AreValidCalls, HeldCalls}
 use Rattle.st_messages.proofs.Ordered.{found_below}
 use Rattle.st_messages.proofs.Seqs.{in_use_has_drawing, seq_in_use, seqs_cancelled, seqs_let_go, seqs_moved, seqs_posted}
 use Rattle.st_messages.proofs.Whole.{had_seq, seqs_renewed}
@@ -17,23 +17,26 @@ use Rattle.st_workers.specs.Numbers.{CarriesNumbers, HasNumbers}
 use Rattle.st_workers.proofs.Numbered.{live_or_kept}
 
 -- whatever has a value or none
-the_value : (o : Option ℕ) → is_some o ≡ true → (n : ℕ) × (o ≡ Some n)
+pub the_value : (o : Option ℕ) → is_some o ≡ true → (n : ℕ) × (o ≡ Some n)
 the_value None some = absurd (true≢false (sym some))
 the_value (Some n) some = (n, refl)
 
 -- ---- the number that is drawn next
 
-module _ (numbers : Numbers) (calls : HeldCalls) (has : HasNumbers numbers calls) (valid : AreValidCalls calls) where
-  below_by : (q : ℕ) (o : Option Message) → message_of_number calls q ≡ o → is_some (seq_of calls q) ≡ true → suc q ≤ calls.next
-  below_by q (Some m) o_is some = found_below calls.live 1 calls.next q m valid.ordered o_is
-  below_by q None o_is some =
+-- a drawing that has a number was made
+pub below_next : (calls : HeldCalls) → AreValidCalls calls → (q : ℕ) → is_some (seq_of calls q) ≡ true → suc q ≤ calls.next
+below_next calls valid q some = by (message_of_drawing calls q) refl where
+  by : (o : Option Message) → message_of_drawing calls q ≡ o → suc q ≤ calls.next
+  by (Some m) o_is = found_below calls.live 1 calls.next q m valid.ordered o_is
+  by None o_is =
       let kept : is_kept calls q ≡ true = sym (live_or_kept calls q ∙ ap (λ (o : Option Message). is_some o || is_kept calls q) o_is) ∙ some in
       (valid.ended q kept).0
 
+module _ (numbers : Numbers) (calls : HeldCalls) (has : HasNumbers numbers calls) (valid : AreValidCalls calls) where
   -- a drawing that is in use was made
   made : (q : ℕ) → numbers.in_use q ≡ true → (1 ≤ q) × (q ≤ numbers.last)
   made q used =
-      let below = below_by q (message_of_number calls q) refl (has.in_use q ∙ used) in
+      let below = below_next calls valid q (has.in_use q ∙ used) in
       let next = has.next in
       (least q used, omega (arith, below, next))
     where
@@ -85,7 +88,7 @@ module _ (calls : HeldCalls) (valid : AreValidCalls calls) where
     used_by q false = has.in_use q
 
   -- a drawing of this message isn't in use any more, unless it is kept
-  module _ (drawing : ℕ) (keeps : Bool) (ready : ℕ → Bool) (keeps_is : keeps ≡ ready drawing) (m : Message) (is : message_of_number calls drawing ≡ Some m) (numbers : Numbers) (has : HasNumbers numbers calls) where
+  module _ (drawing : ℕ) (keeps : Bool) (ready : ℕ → Bool) (keeps_is : keeps ≡ ready drawing) (m : Message) (is : message_of_drawing calls drawing ≡ Some m) (numbers : Numbers) (has : HasNumbers numbers calls) where
     left_by : (q : ℕ) (b k : Bool) → (q == drawing) ≡ b → keeps ≡ k → is_some (cond b (cond k (seq_of calls drawing) None) (seq_of calls q)) ≡ (numbers.in_use q && (not b || ready q))
     left_by q false k b_is k_is = has.in_use q ∙ sym (and-true (numbers.in_use q))
     left_by q true true b_is k_is =

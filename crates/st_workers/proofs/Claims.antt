@@ -7,7 +7,8 @@ use Rattle.st_lookaside.specs.Slot.{Slot}
 use Rattle.st_lookaside.specs.Slots.{slot_at, ChangesSlot}
 use Rattle.st_messages.specs.declared.message.MsgState.{MsgState}
 use Rattle.st_messages.specs.declared.message.MsgState.TheVariants.{Waiting, Claimed, Answered}
-use Rattle.st_messages.specs.Messages.{is_kept, AreValidCalls, HasWorker, HeldCalls, message_state, thread_of_number, with_state}
+use Rattle.st_messages.specs.Messages.{is_kept, is_live_drawing, AreValidCalls, HasWorker, HeldCalls, message_state, seq_of, thread_of_drawing, with_state}
+use Rattle.st_messages.proofs.Seqs.{seqs_moved}
 use Rattle.st_messages.proofs.Whole.{states_moved, threads_moved, waiting_live, whole-moved}
 use Rattle.st_trace.specs.declared.entry.Entry.TheVariants as entry
 use Rattle.st_law.specs.State.{Message, is_ready, progress_of_message}
@@ -17,10 +18,11 @@ use Rattle.st_workers.specs.Refinement.{at_work, AgreesWithMachine, RepresentsAf
 use Rattle.st_workers.specs.UnderWay.{Found, UnderWay, found_in, turn_of_worker}
 use Rattle.st_workers.specs.declared.turn.Turn.{Turn}
 use Rattle.st_workers.specs.declared.turn.Turn.TheVariants.{Idle}
-use Rattle.st_workers.proofs.Copies.{sealed_then, slot_number, slot_sealed}
+use Rattle.st_workers.proofs.Copies.{sealed_then, slot_sealed}
 use Rattle.st_workers.proofs.Ended.{state_live}
 use Rattle.st_workers.proofs.Filled.{changed_to}
 use Rattle.st_workers.proofs.Numbered.{idle_no_drawing, its_drawing, same_life, worked}
+use Rattle.st_workers.proofs.Seqs.{filled_seqs}
 use Rattle.st_workers.proofs.Steps.{all_turned, all_worked, count_kept, message_worked, stepped, turn_is, verdicts_kept, waiting_unturned, IsStep}
 use Rattle.st_workers.proofs.Turns.{number_within}
 
@@ -48,8 +50,8 @@ module _ (old new : UnderWay) (w p : ℕ) (slot : Slot) (t : Turn) (idle : turn_
   state_now : message_state new.calls p ≡ Some (Claimed w)
   state_now = ap (λ (c : HeldCalls). message_state c p) calls ∙ states_moved old.calls p (Claimed w) (waiting_live old.calls p waits) p ∙ ap (λ (b : Bool). cond b (Some (Claimed w)) (message_state old.calls p)) (eq-eqb p p refl)
 
-  threads_now : (q : ℕ) → thread_of_number new.calls q ≡ thread_of_number old.calls q
-  threads_now q = ap (λ (c : HeldCalls). thread_of_number c q) calls ∙ threads_moved old.calls p (Claimed w) q
+  threads_now : (q : ℕ) → thread_of_drawing new.calls q ≡ thread_of_drawing old.calls q
+  threads_now q = ap (λ (c : HeldCalls). thread_of_drawing c q) calls ∙ threads_moved old.calls p (Claimed w) q
 
   claimed_other : (q : ℕ) (m : Message) → q ≢ p → message_worked (entry.Claimed w p) q m ≡ m
   claimed_other q m ne =
@@ -92,7 +94,7 @@ module _ (old new : UnderWay) (w p : ℕ) (slot : Slot) (t : Turn) (idle : turn_
       was = λ q is live. absurd (idle_at_none messages alive (turns w) q (agrees.workers w Idle idle) is live);
       onto = λ q is. same_Some q p (sym is ∙ turned_w);
       come = λ is. claimed_come (messages p) come;
-      turn = turn_is (all_worked (entry.Claimed w p) messages) alive (all_turned (entry.Claimed w p) turns w) p was.tid slot t is_slot (slot_number old.slots p slot there) turned_w live_p turn;
+      turn = turn_is (all_worked (entry.Claimed w p) messages) alive (all_turned (entry.Claimed w p) turns w) p was.tid slot t is_slot turned_w live_p turn;
       within = (agrees.given p live_p).1;
       live = λ is. record {
         state = Claimed w;
@@ -114,15 +116,20 @@ module _ (old new : UnderWay) (w p : ℕ) (slot : Slot) (t : Turn) (idle : turn_
   workers_now : new.calls.workers ≡ old.calls.workers
   workers_now = ap (λ (c : HeldCalls). c.workers) calls
 
+  -- the drawing is live
+  pub claimed_live : is_live_drawing new.calls p ≡ true
+  claimed_live = state_live new.calls p (Claimed w) state_now
+
   same_worker : (a b : ℕ) → Claimed a ≡ Claimed b → a ≡ b
   same_worker a b e = cc
 
   -- each number that is kept is kept by a ready worker
   pub claimed_numbered : AreNumbered old → AreNumbered new
   claimed_numbered numbered =
-      worked old new w p Idle t idle (idle_no_drawing p) (its_drawing p slot t turn) put (state_live new.calls p (Claimed w) state_now) (λ q. ap (λ (c : HeldCalls). is_kept c q) calls)
-      (λ q ne. same_life old.calls new.calls q (states_now q ne))
-      (subst AreValidCalls (sym calls) (whole-moved old.calls p (Claimed w) numbered.calls (waiting_live old.calls p waits) (λ v e. subst (HasWorker old.calls) (same_worker w v e) its_worker))) numbered
+      worked old new w p Idle t idle (idle_no_drawing p) (its_drawing p slot t turn) put claimed_live (λ q. ap (λ (c : HeldCalls). is_kept c q) calls)
+      (λ q ne. same_life old.calls new.calls q (states_now q ne)) (ap (λ (c : HeldCalls). c.workers) calls)
+      (subst AreValidCalls (sym calls) (whole-moved old.calls p (Claimed w) numbered.calls (waiting_live old.calls p waits) (λ v e. subst (HasWorker old.calls) (same_worker w v e) its_worker)))
+      (filled_seqs old new w p Idle t idle put (λ q. ap (λ (c : HeldCalls). seq_of c q) calls ∙ seqs_moved old.calls p (Claimed w) q) slot slot there slots refl turn numbered.seqs) numbered
 
   -- the messages and workers stay whole
   pub claimed_whole : AreValidWorkers old → AreValidWorkers new

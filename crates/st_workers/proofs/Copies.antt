@@ -1,38 +1,28 @@
 -- The slot of a message and its record in the law's machine: their progress, and how one more word or look changes them.
-use Rattle.std.proofs.Common.{◌≡◌, ◌<◌, ℕ, ◌+◌, ◌==◌, ◌||◌, Bool, true, false, cond, List, [], ◌∷◌, ◌++◌, length, set, Option, Some, inl, inr, refl, ap, sym, ◌∙◌, subst, arith}
+use Rattle.std.proofs.Common.{◌≡◌, ◌<◌, ℕ, suc, ◌+◌, ◌==◌, ◌||◌, Bool, true, cond, List, [], ◌∷◌, ◌++◌, length, set, Option, Some, inl, inr, refl, ap, sym, ◌∙◌, subst, arith}
 use Rattle.std.specs.Prelude.{if◌then◌else◌, slice_index_or}
-use Rattle.std.proofs.lemmas.Bool.{cases_eq, eq-eqb, eqb-true, ne_eqb}
+use Rattle.std.proofs.lemmas.Bool.{cases_eq, eq-eqb, ne_eqb}
 use Rattle.std.proofs.lemmas.List.{get_or-set_other, get_or-set_same, length-set}
-use Rattle.std.proofs.lemmas.Option.{none-some, same_Some}
 use Rattle.st_calls.specs.Argument.{args_of}
 use Rattle.st_calls.specs.Call.{follows}
 use Rattle.st_calls.specs.declared.argument.ArgSpec.{ArgSpec}
 use Rattle.st_calls.specs.declared.argument.ArgText.{ArgText}
+use Rattle.st_calls.specs.declared.judged.Snapshot.{Snapshot}
+use Rattle.st_calls.specs.declared.judged.Verdict.{Verdict}
+use Rattle.st_filter.specs.Formula.{FilterValue}
+use Rattle.st_filter.specs.Judging.{holds, verdict_by, verdict_from}
 use Rattle.st_effects.specs.Progress.{ArgRequest, Progress, Word, Look, Stuck, Ready, progress, progress_from, with_arg}
 use Rattle.st_lookaside.specs.Head.{arg_request}
 use Rattle.st_lookaside.specs.Need.{progress_alone}
 use Rattle.st_lookaside.specs.Part.{Filled, nothing_filled, with_lookup, with_word}
 use Rattle.st_lookaside.specs.Slot.{Slot, part_at, slot_progress, snapshot_with, with_part}
-use Rattle.st_lookaside.specs.Slots.{is_slot_of, slot_at}
 use Rattle.st_lookaside.proofs.Progress.{front_is, in_front}
 use Rattle.st_model.specs.Spelling.{Spelled, spell}
 use Rattle.st_names.specs.declared.seen.SeenText.{SeenText}
 use Rattle.st_law.specs.Messages.{Head}
 use Rattle.st_law.specs.State.{Message, is_ready, progress_of_head, progress_of_message, snapshot_of_message, snapshot_of_progress}
-use Rattle.st_law.specs.State as law
 use Rattle.st_workers.specs.Filling.{sealed_if_ready}
-use Rattle.st_workers.specs.Refinement.{head_of, IsSlotOf}
-
--- ---- the slot of a number
-
-slot_number-by : (slot : Slot) (slots : List Slot) (drawing : ℕ) (found : Slot) (b : Bool) → is_slot_of drawing slot ≡ b → cond b (Some slot) (slot_at slots drawing) ≡ Some found → (slot_at slots drawing ≡ Some found → found.head.drawing ≡ drawing) → found.head.drawing ≡ drawing
-slot_number-by slot slots drawing found true b_is is more = ap (λ (s : Slot). s.head.drawing) (sym (same_Some slot found is)) ∙ eqb-true slot.head.drawing drawing b_is
-slot_number-by slot slots drawing found false b_is is more = more is
-
--- a slot that is found has the number that it was looked for under
-pub slot_number : (slots : List Slot) (drawing : ℕ) (found : Slot) → slot_at slots drawing ≡ Some found → found.head.drawing ≡ drawing
-slot_number [] drawing found is = absurd (none-some found is)
-slot_number (slot ∷ slots) drawing found is = slot_number-by slot slots drawing found (is_slot_of drawing slot) refl is (slot_number slots drawing found)
+use Rattle.st_workers.specs.Refinement.{drawn_copies, IsSlotOf}
 
 -- ---- the progress of a message
 
@@ -51,11 +41,16 @@ module _ (message : Message) (tid : ℕ) (slot : Slot) (is : IsSlotOf message ti
   pub slot_sealed : IsSlotOf message tid (sealed_if_ready slot)
   slot_sealed = record { head = is.head; count = is.count; words = is.words; lookups = is.lookups }
 
-  -- the sealed copies of a slot are the snapshot of its message
-  pub same_snapshot : (q : ℕ) (args : List ArgText) → slot.head.drawing ≡ q → slot_progress slot ≡ Ready args → snapshot_of_message q message ≡ Some (snapshot_with slot.head args)
-  same_snapshot q args number ready =
-      (λ k. snapshot_of_progress q (is.head k) ((same_progress ∙ ready) k))
-      ∙ ap (λ (n : ℕ). Some (law.snapshot_with n (head_of tid slot.head) args)) (sym number)
+  -- the sealed copies of a slot are the snapshot of its message, but for the number
+  pub same_snapshot : (q : ℕ) (args : List ArgText) → slot_progress slot ≡ Ready args → snapshot_of_message q message ≡ Some (drawn_copies q (snapshot_with slot.head args))
+  same_snapshot q args ready = λ k. snapshot_of_progress q (is.head k) ((same_progress ∙ ready) k)
+
+-- ---- the verdict on copies
+
+-- the number in copies tells nothing of the verdict on them
+pub same_verdict : (q : ℕ) (s : Snapshot) (n : ℕ) (filters : List FilterValue) → verdict_from n filters (drawn_copies q s) ≡ verdict_from n filters s
+same_verdict q s n [] = refl
+same_verdict q s n (f ∷ filters) = ap (λ (v : Verdict). cond (holds f s) (verdict_by n f.grant s.ids f.action) v) (same_verdict q s (suc n) filters)
 
 -- ---- which argument is needed next
 

@@ -11,7 +11,8 @@ use Rattle.st_lookaside.specs.Slots.{slot_at}
 use Rattle.st_messages.specs.declared.message.Message as message
 use Rattle.st_messages.specs.declared.message.MsgState.{MsgState}
 use Rattle.st_messages.specs.declared.message.MsgState.TheVariants.{Claimed, Answered, Faulted}
-use Rattle.st_messages.specs.Messages.{is_kept, is_live_number, message_of_number, message_state, thread_of_number, with_state, AreValidCalls, HasWorker, HeldCalls}
+use Rattle.st_messages.specs.Messages.{is_kept, is_live_drawing, message_of_drawing, message_state, seq_of, thread_of_drawing, with_state, AreValidCalls, HasWorker, HeldCalls}
+use Rattle.st_messages.proofs.Seqs.{seqs_moved}
 use Rattle.st_messages.proofs.Whole.{states_moved, threads_moved, whole-moved}
 use Rattle.st_trace.specs.declared.entry.Entry.TheVariants as entry
 use Rattle.st_law.specs.Messages.{unless_same}
@@ -22,36 +23,37 @@ use Rattle.st_workers.specs.Refinement.{at_work, AgreesWithMachine, RepresentsAf
 use Rattle.st_workers.specs.UnderWay.{found_in, turn_of_worker, Found, UnderWay}
 use Rattle.st_workers.specs.declared.turn.Turn.TheVariants.{Idle, Working}
 use Rattle.st_workers.proofs.Numbered.{idle_no_drawing, same_life, worked, working_no_drawing}
+use Rattle.st_workers.proofs.Seqs.{left_seqs}
 use Rattle.st_workers.proofs.Steps.{all_turned, all_worked, count_kept, message_worked, stepped, turned_state, verdicts_kept, IsStep}
 use Rattle.st_workers.proofs.Turns.{number_within}
 
 -- ---- the number of a worker
 
 -- a number with a state is live
-pub state_live : (calls : HeldCalls) (q : ℕ) (state : MsgState) → message_state calls q ≡ Some state → is_live_number calls q ≡ true
-state_live calls q state is = by (message_of_number calls q) is where
+pub state_live : (calls : HeldCalls) (q : ℕ) (state : MsgState) → message_state calls q ≡ Some state → is_live_drawing calls q ≡ true
+state_live calls q state is = by (message_of_drawing calls q) is where
   by : (o : Option message.Message) → option_map (λ (m : message.Message). m.state) o ≡ Some state → is_some o ≡ true
   by None is = absurd (none-some state is)
   by (Some m) is = refl
 
 -- a number without a state isn't live
-pub dead_not_live : (calls : HeldCalls) (q : ℕ) → message_state calls q ≡ None → is_live_number calls q ≡ true → ⊥
-dead_not_live calls q is live = by (message_of_number calls q) is live where
+pub dead_not_live : (calls : HeldCalls) (q : ℕ) → message_state calls q ≡ None → is_live_drawing calls q ≡ true → ⊥
+dead_not_live calls q is live = by (message_of_drawing calls q) is live where
   by : (o : Option message.Message) → option_map (λ (m : message.Message). m.state) o ≡ None → is_some o ≡ true → ⊥
   by None is live = true≢false (sym live)
   by (Some m) is live = none-some m.state (sym is)
 
 -- a number without a state isn't live
-pub none_live : (calls : HeldCalls) (q : ℕ) → message_state calls q ≡ None → is_live_number calls q ≡ false
-none_live calls q is = by (message_of_number calls q) is where
+pub none_live : (calls : HeldCalls) (q : ℕ) → message_state calls q ≡ None → is_live_drawing calls q ≡ false
+none_live calls q is = by (message_of_drawing calls q) is where
   by : (o : Option message.Message) → option_map (λ (m : message.Message). m.state) o ≡ None → is_some o ≡ false
   by None is = refl
   by (Some m) is = absurd (none-some m.state (sym is))
 
 -- a number is live iff it is live by what is kept
-pub lives_as : (i : Input) (st : State) (alive : ℕ → Bool) (kept : UnderWay) (q : ℕ) → RepresentsMessages i st alive kept → is_live_number kept.calls q ≡ alive q
+pub lives_as : (i : Input) (st : State) (alive : ℕ → Bool) (kept : UnderWay) (q : ℕ) → RepresentsMessages i st alive kept → is_live_drawing kept.calls q ≡ alive q
 lives_as i st alive kept q x = by (alive q) refl where
-  by : (b : Bool) → alive q ≡ b → is_live_number kept.calls q ≡ alive q
+  by : (b : Bool) → alive q ≡ b → is_live_drawing kept.calls q ≡ alive q
   by true is = state_live kept.calls q (x.agrees.live q is).state (x.agrees.live q is).state_is ∙ sym is
   by false is = none_live kept.calls q (x.agrees.dead q is).state ∙ sym is
 
@@ -79,7 +81,7 @@ unless_gone p o is = ap (unless_same p) is ∙ ap (λ (b : Bool). cond b None (S
 
 module _ (old new : UnderWay) (w p : ℕ) (errno : Errno) (working : turn_of_worker old w ≡ Some (Working p)) (claimed_is : (v : ℕ) × (message_state old.calls p ≡ Some (Claimed v)))
     (calls : new.calls ≡ with_state old.calls p (Faulted errno)) (slots : new.slots ≡ old.slots) (put : new.turns ≡ set old.turns (w - 1) Idle) where
-  fault_live : is_live_number old.calls p ≡ true
+  fault_live : is_live_drawing old.calls p ≡ true
   fault_live = state_live old.calls p (Claimed claimed_is.0) claimed_is.1
 
   fault_states : (q : ℕ) → q ≢ p → message_state new.calls q ≡ message_state old.calls q
@@ -88,8 +90,8 @@ module _ (old new : UnderWay) (w p : ℕ) (errno : Errno) (working : turn_of_wor
   fault_state : message_state new.calls p ≡ Some (Faulted errno)
   fault_state = ap (λ (c : HeldCalls). message_state c p) calls ∙ states_moved old.calls p (Faulted errno) fault_live p ∙ ap (λ (b : Bool). cond b (Some (Faulted errno)) (message_state old.calls p)) (eq-eqb p p refl)
 
-  fault_threads : (q : ℕ) → thread_of_number new.calls q ≡ thread_of_number old.calls q
-  fault_threads q = ap (λ (c : HeldCalls). thread_of_number c q) calls ∙ threads_moved old.calls p (Faulted errno) q
+  fault_threads : (q : ℕ) → thread_of_drawing new.calls q ≡ thread_of_drawing old.calls q
+  fault_threads q = ap (λ (c : HeldCalls). thread_of_drawing c q) calls ∙ threads_moved old.calls p (Faulted errno) q
 
   fault_other : (q : ℕ) (m : Message) → q ≢ p → message_worked (entry.Faulted p errno) q m ≡ m
   fault_other q m ne =
@@ -150,8 +152,9 @@ module _ (old new : UnderWay) (w p : ℕ) (errno : Errno) (working : turn_of_wor
   pub fault_numbered : AreNumbered old → AreNumbered new
   fault_numbered numbered =
       worked old new w p (Working p) Idle working (working_no_drawing p p) (idle_no_drawing p) put (state_live new.calls p (Faulted errno) fault_state) (λ q. ap (λ (c : HeldCalls). is_kept c q) calls)
-      (λ q ne. same_life old.calls new.calls q (fault_states q ne))
-      (subst AreValidCalls (sym calls) (whole-moved old.calls p (Faulted errno) numbered.calls fault_live (λ v e. not_claim v e))) numbered
+      (λ q ne. same_life old.calls new.calls q (fault_states q ne)) (ap (λ (c : HeldCalls). c.workers) calls)
+      (subst AreValidCalls (sym calls) (whole-moved old.calls p (Faulted errno) numbered.calls fault_live (λ v e. not_claim v e)))
+      (left_seqs old new w p (Working p) Idle working put (λ q. ap (λ (c : HeldCalls). seq_of c q) calls ∙ seqs_moved old.calls p (Faulted errno) q) refl slots numbered.seqs) numbered
     where
       not_claim : (v : ℕ) → Faulted errno ≡ Claimed v → HasWorker old.calls v
       not_claim v e = cc

@@ -10,7 +10,7 @@ use Rattle.std.specs.Prelude.{is_some, slice_get}
 use Rattle.st_base.specs.Numbered.{item_at_number}
 use Rattle.st_messages.specs.declared.kept.KeptNumber.{KeptNumber}
 use Rattle.st_messages.specs.declared.message.Message.{Message}
-use Rattle.st_messages.specs.Messages.{count_in_use, is_message_of, message_in, most_in_use, thread_of_number, AreBetween, AreKeptOnce, HeldCalls}
+use Rattle.st_messages.specs.Messages.{count_in_use, is_message_of, message_in, most_in_use, thread_of_drawing, AreBetween, AreKeptOnce, HeldCalls}
 use Rattle.st_messages.proofs.Ordered.{found_itself}
 use Rattle.st_workers.specs.Numbers.{AreFew, AreNumbered, IsReadyWith}
 use Rattle.st_workers.specs.UnderWay.{UnderWay}
@@ -57,7 +57,7 @@ threads_apart (m ∷ live) from to are own = (
       absurd (omega (arith, same, its.0))
 
 -- there are at most 64 live messages
-few_live : (calls : HeldCalls) → AreBetween 1 calls.live calls.next → ((a b tid : ℕ) → thread_of_number calls a ≡ Some tid → thread_of_number calls b ≡ Some tid → a ≡ b) → AreFew calls → length calls.live ≤ 64
+few_live : (calls : HeldCalls) → AreBetween 1 calls.live calls.next → ((a b tid : ℕ) → thread_of_drawing calls a ≡ Some tid → thread_of_drawing calls b ≡ Some tid → a ≡ b) → AreFew calls → length calls.live ≤ 64
 few_live calls ordered own few =
     let less = no_more_than (λ (m : Message). m.tid) calls.live (range_with_len 1 64) (threads_apart calls.live 1 calls.next ordered own) (λ tid m found.
     let its = found_itself (λ (x : Message). x.tid == tid) calls.live 1 calls.next m ordered found in
@@ -103,14 +103,14 @@ few_in_use kept numbered count few =
     omega (arith, live, ready, count, workers)
 
 -- a call that is posted again is of the same thread
-pub few_renewed : (old new : HeldCalls) (p : ℕ) → new.workers ≡ old.workers → ((q : ℕ) → q ≢ old.next → thread_of_number new q ≡ cond (q == p) None (thread_of_number old q)) → thread_of_number new old.next ≡ thread_of_number old p → AreFew old → AreFew new
+pub few_renewed : (old new : HeldCalls) (p : ℕ) → new.workers ≡ old.workers → ((q : ℕ) → q ≢ old.next → thread_of_drawing new q ≡ cond (q == p) None (thread_of_drawing old q)) → thread_of_drawing new old.next ≡ thread_of_drawing old p → AreFew old → AreFew new
 few_renewed old new p workers others own few = record {
   threads = λ q tid is. elim (cases_eq q old.next) [
-    | inl e ↦ few.threads p tid (sym own ∙ ap (thread_of_number new) (sym e) ∙ is)
+    | inl e ↦ few.threads p tid (sym own ∙ ap (thread_of_drawing new) (sym e) ∙ is)
     | inr ne ↦ by (q == p) q tid (sym (others q ne) ∙ is)
   ];
   workers = subst (λ n. n ≤ 8) (sym workers) few.workers;
 } where
-  by : (b : Bool) (q tid : ℕ) → cond b None (thread_of_number old q) ≡ Some tid → (1 ≤ tid) × (tid ≤ 64)
+  by : (b : Bool) (q tid : ℕ) → cond b None (thread_of_drawing old q) ≡ Some tid → (1 ≤ tid) × (tid ≤ 64)
   by true q tid is = absurd (none-some tid is)
   by false q tid is = few.threads q tid is

@@ -1,21 +1,24 @@
 mod Answered
 mod Begun
 mod Cancels
-mod Carried
+pub mod Carried
 mod Changed
 mod Claims
 pub mod Closing
-mod Copies
+pub mod Copies
 mod Counts
 pub mod Ended
 mod Few
+pub mod Fewer
 mod Filled
+pub mod InUse
 mod Lookups
-mod Numbered
+pub mod Numbered
 mod Posts
 mod Renewals
 mod Same
 mod Sealed
+mod Seqs
 mod Served
 pub mod States
 mod Steps

@@ -16,7 +16,7 @@ use Rattle.st_lookaside.specs.Slots.{slot_at, ChangesSlot}
 use Rattle.st_lookaside.specs.declared.head.Head as kept
 use Rattle.st_messages.specs.declared.message.Message as message
 use Rattle.st_messages.specs.declared.message.MsgState.TheVariants.{Waiting, Answered}
-use Rattle.st_messages.specs.Messages.{HeldCalls, calls_after_post, calls_after_post_as, count_in_use, message_state, most_in_use, next_seq, thread_of_number, AreValidCalls, ChangesState, HasNoNumber}
+use Rattle.st_messages.specs.Messages.{HeldCalls, calls_after_post, calls_after_post_as, count_in_use, message_state, most_in_use, next_seq, thread_of_drawing, AreValidCalls, ChangesState, HasNoDrawing}
 use Rattle.st_messages.proofs.Lookups.{found_other}
 use Rattle.st_messages.proofs.Whole.{next_free, next_is_nobodys, whole-posted}
 use Rattle.st_trace.specs.declared.entry.Entry.TheVariants as entry
@@ -32,6 +32,7 @@ use Rattle.st_workers.specs.declared.turn.Turn.{Turn}
 use Rattle.st_workers.proofs.Carried.{numbers_posted}
 use Rattle.st_workers.proofs.Changed.{changed}
 use Rattle.st_workers.proofs.Numbered.{posted_numbered}
+use Rattle.st_workers.proofs.Seqs.{posted_seqs}
 use Rattle.st_workers.proofs.Steps.{verdicts_kept, waiting_unturned}
 
 -- the message of a number that has this head now; each other is unchanged
@@ -62,7 +63,7 @@ head_other head p messages q ne =
     let m : Message = messages q in
     λ k. record { head = cond (e k) (Some head) m.head; claimed = m.claimed; words = m.words; lookups = m.lookups; fault = m.fault; answered = m.answered; closed = m.closed }
 
-pub thread_other : (calls : HeldCalls) (tid seq other : ℕ) → other ≢ calls.next → thread_of_number (calls_after_post_as calls tid seq) other ≡ thread_of_number calls other
+pub thread_other : (calls : HeldCalls) (tid seq other : ℕ) → other ≢ calls.next → thread_of_drawing (calls_after_post_as calls tid seq) other ≡ thread_of_drawing calls other
 thread_other calls tid seq other ne = ap (option_map (λ (m : message.Message). m.tid)) (found_other calls.live calls.next seq tid other ne)
 
 -- a number that is posted is found, and each other is unchanged
@@ -126,9 +127,9 @@ module _ (old new : Found) (p tid : ℕ) (head : kept.Head) (is_posted : IsPoste
 pub not_answer : (v : Verdict) → Waiting ≡ Answered v → ⊥
 not_answer v e = cc
 
-module _ (old new : UnderWay) (tid : ℕ) (head : kept.Head) (calls : new.calls ≡ calls_after_post old.calls tid) (thread : thread_of_number new.calls old.calls.next ≡ Some tid)
+module _ (old new : UnderWay) (tid : ℕ) (head : kept.Head) (calls : new.calls ≡ calls_after_post old.calls tid) (thread : thread_of_drawing new.calls old.calls.next ≡ Some tid)
     (states : ChangesState old.calls old.calls.next (Some Waiting) new.calls) (slots : ChangesSlot old.slots old.calls.next (Some (new_slot head)) new.slots) (turns_same : new.turns ≡ old.turns)
-    (none : HasNoNumber old.calls tid) (few : count_in_use old.calls ≤ most_in_use) where
+    (number : head.seq ≡ next_seq old.calls) (none : HasNoDrawing old.calls tid) (few : count_in_use old.calls ≤ most_in_use) where
   states_now : (q : ℕ) → q ≢ old.calls.next → message_state new.calls q ≡ message_state old.calls q
   states_now q ne = states q ∙ ap (λ (b : Bool). cond b (Some Waiting) (message_state old.calls q)) (ne_eqb q old.calls.next ne)
 
@@ -141,10 +142,10 @@ module _ (old new : UnderWay) (tid : ℕ) (head : kept.Head) (calls : new.calls 
       record {
         next = ap (λ (c : HeldCalls). c.next) calls;
         state = ap (message_state new.calls) (sym next_is) ∙ state_now;
-        thread = ap (thread_of_number new.calls) (sym next_is) ∙ thread;
+        thread = ap (thread_of_drawing new.calls) (sym next_is) ∙ thread;
         slot = ap (slot_at new.slots) (sym next_is) ∙ slots old.calls.next ∙ ap (λ (b : Bool). cond b (Some (new_slot head)) (slot_at old.slots old.calls.next)) (eq-eqb old.calls.next old.calls.next refl);
         states = λ q ne. states_now q (apart q ne);
-        threads = λ q ne. ap (λ (c : HeldCalls). thread_of_number c q) calls ∙ thread_other old.calls tid (next_seq old.calls) q (apart q ne);
+        threads = λ q ne. ap (λ (c : HeldCalls). thread_of_drawing c q) calls ∙ thread_other old.calls tid (next_seq old.calls) q (apart q ne);
         slots = λ q ne. slots q ∙ ap (λ (b : Bool). cond b (Some (new_slot head)) (slot_at old.slots q)) (ne_eqb q old.calls.next (apart q ne));
         turn = λ v. ap (λ (ts : List Turn). item_at_number ts v) turns_same;
       }
@@ -155,7 +156,8 @@ module _ (old new : UnderWay) (tid : ℕ) (head : kept.Head) (calls : new.calls 
   -- each number that is kept is kept by a ready worker
   pub posted_stays : AreNumbered old → AreNumbered new
   posted_stays numbered = posted_numbered old new tid (next_seq old.calls) calls turns_same
-      (subst AreValidCalls (sym calls) (whole-posted old.calls tid (next_seq old.calls) numbered.calls none (next_free old.calls numbered.calls few).0 (next_is_nobodys old.calls numbered.calls few) few)) numbered
+      (subst AreValidCalls (sym calls) (whole-posted old.calls tid (next_seq old.calls) numbered.calls none (next_free old.calls numbered.calls few).0 (next_is_nobodys old.calls numbered.calls few) few))
+      (posted_seqs old new tid (next_seq old.calls) head calls slots turns_same number numbered.calls numbered.seqs) numbered
 
   pub posted_numbers : AreNumbered old → CarriesNumbers (drawn_as largest_number old.calls.next) old.calls new.calls
   posted_numbers numbered numbers has = subst (HasNumbers (drawn_as largest_number old.calls.next numbers)) (sym calls) (numbers_posted old.calls numbered.calls tid numbers has)

@@ -7,12 +7,12 @@ use Rattle.std.proofs.lemmas.Option.{none-some, same_Some}
 use Rattle.st_base.specs.declared.ids.Ids.{Ids}
 use Rattle.st_calls.specs.declared.judged.Verdict.{Verdict}
 use Rattle.st_lookaside.specs.Slot.{renewed, Slot}
-use Rattle.st_lookaside.specs.Slots.{slot_at, RenewsSlot}
+use Rattle.st_lookaside.specs.Slots.{slot_at, ChangesSlot, RenewsSlot}
 use Rattle.st_lookaside.specs.declared.head.Head as kept
 use Rattle.st_messages.specs.declared.message.Message as message
 use Rattle.st_messages.specs.declared.message.MsgState.TheVariants.{Waiting, Answered}
-use Rattle.st_messages.specs.Messages.{calls_after_cancel, calls_after_post_as, calls_after_renew, calls_after_renew_of, count_in_use, is_live_number, message_of_number, message_state, most_in_use, next_seq, thread_of_number, AreValidCalls, HeldCalls, RenewsState}
-use Rattle.st_messages.proofs.Whole.{states_cancelled, threads_cancelled, whole-renewed}
+use Rattle.st_messages.specs.Messages.{calls_after_cancel, calls_after_post_as, calls_after_renew, calls_after_renew_of, count_in_use, is_live_drawing, message_of_drawing, message_state, most_in_use, next_seq, seq_left, seq_of, thread_of_drawing, AreValidCalls, HeldCalls, RenewsState}
+use Rattle.st_messages.proofs.Whole.{seqs_renewed, states_cancelled, threads_cancelled, whole-renewed}
 use Rattle.st_model.specs.Process.{Process}
 use Rattle.st_names.specs.Name.{Components}
 use Rattle.st_law.specs.declared.input.Input.{Input}
@@ -21,13 +21,14 @@ use Rattle.st_law.specs.Numbers.{drawn_as, largest_number, without_replaced}
 use Rattle.st_law.specs.State.{snapshot_of_message, Message}
 use Rattle.st_workers.specs.Refinement.{head_of, messages_renewed, AgreesWithMachine, RepresentsMachineMessages, IsLive, AreValidWorkers, RenewsLife}
 use Rattle.st_workers.specs.Leaving.{is_claimer_ready, HasLeft}
-use Rattle.st_workers.specs.Numbers.{AreFew, AreNumbered, AreReady, CarriesNumbers, HasNumbers, IsReadyWith}
+use Rattle.st_workers.specs.Numbers.{AreFew, AreNumbered, AreReady, CarriesNumbers, HasNumbers, HaveSeqs, IsReadyWith}
 use Rattle.st_workers.specs.UnderWay.{found_in, Found, UnderWay}
 use Rattle.st_workers.proofs.Cancels.{claimer_ready, ended_agrees, live_message, live_there, same_answer, without_live, IsEnded}
 use Rattle.st_workers.proofs.Carried.{numbers_renewed}
 use Rattle.st_workers.proofs.Few.{few_renewed}
 use Rattle.st_workers.proofs.Filled.{known}
-use Rattle.st_workers.proofs.Numbered.{cancelled_numbered, posted_numbered, ready_left}
+use Rattle.st_workers.proofs.Numbered.{cancelled_numbered, left_turn, posted_numbered, ready_left}
+use Rattle.st_workers.proofs.Seqs.{cancelled_seqs, posted_seqs, without_slot, without_slot_changes}
 use Rattle.st_workers.proofs.Posts.{head_other, not_answer, posted_agrees, thread_other, with_head, with_live, IsPosted}
 
 -- what is found after a number has ended, with these turns
@@ -40,24 +41,24 @@ found_without old p new = record {
   turn = new.turn;
 }
 
-renewed_calls : (calls : HeldCalls) (p : ℕ) (keeps : Bool) (m : message.Message) → message_of_number calls p ≡ Some m → calls_after_renew calls p keeps ≡ calls_after_post_as (calls_after_cancel calls p keeps) m.tid (next_seq calls)
+renewed_calls : (calls : HeldCalls) (p : ℕ) (keeps : Bool) (m : message.Message) → message_of_drawing calls p ≡ Some m → calls_after_renew calls p keeps ≡ calls_after_post_as (calls_after_cancel calls p keeps) m.tid (next_seq calls)
 renewed_calls calls p keeps m is = ap (calls_after_renew_of calls p keeps) is
 
--- a head under another number, with these ids and this directory
-abbrev pub fresh_head : kept.Head → ℕ → Ids → Components → kept.Head
-fresh_head head drawing ids cwd = record head { drawing = drawing; ids = ids; cwd = cwd }
+-- a head under another drawing and its number, with these ids and this directory
+abbrev pub fresh_head : kept.Head → ℕ → ℕ → Ids → Components → kept.Head
+fresh_head head drawing seq ids cwd = record head { drawing = drawing; seq = seq; ids = ids; cwd = cwd }
 
-module _ (old new : UnderWay) (p : ℕ) (keeps : Bool) (ids : Ids) (cwd : Components) (here : is_live_number old.calls p ≡ true) (calls : new.calls ≡ calls_after_renew old.calls p keeps) (thread : thread_of_number new.calls old.calls.next ≡ thread_of_number old.calls p)
-    (states : RenewsState old.calls p old.calls.next new.calls) (slots : IfSome (slot_at old.slots p) (λ slot. RenewsSlot old.slots p old.calls.next (renewed slot old.calls.next ids cwd) new.slots))
-    (turns_left : HasLeft old.turns (message_state old.calls p) new.turns) (count : length new.turns ≡ length old.turns) (keeps_is : keeps ≡ is_claimer_ready old.turns (message_state old.calls p)) (few : count_in_use old.calls ≤ most_in_use) where
-  message_there : (m : message.Message) × (message_of_number old.calls p ≡ Some m)
+module _ (old new : UnderWay) (p : ℕ) (keeps : Bool) (seq : ℕ) (ids : Ids) (cwd : Components) (here : is_live_drawing old.calls p ≡ true) (calls : new.calls ≡ calls_after_renew old.calls p keeps) (thread : thread_of_drawing new.calls old.calls.next ≡ thread_of_drawing old.calls p)
+    (states : RenewsState old.calls p old.calls.next new.calls) (slots : IfSome (slot_at old.slots p) (λ slot. RenewsSlot old.slots p old.calls.next (renewed slot old.calls.next seq ids cwd) new.slots))
+    (turns_left : HasLeft old.turns (message_state old.calls p) new.turns) (count : length new.turns ≡ length old.turns) (keeps_is : keeps ≡ is_claimer_ready old.turns (message_state old.calls p)) (few : count_in_use old.calls ≤ most_in_use) (number : seq ≡ next_seq old.calls) where
+  message_there : (m : message.Message) × (message_of_drawing old.calls p ≡ Some m)
   message_there = live_message old.calls p here
 
   calls_are : new.calls ≡ calls_after_post_as (calls_after_cancel old.calls p keeps) message_there.0.tid (next_seq old.calls)
   calls_are = calls ∙ renewed_calls old.calls p keeps message_there.0 message_there.1
 
-  threads_now : (q : ℕ) → q ≢ old.calls.next → thread_of_number new.calls q ≡ cond (q == p) None (thread_of_number old.calls q)
-  threads_now q ne = ap (λ (c : HeldCalls). thread_of_number c q) calls_are ∙ thread_other (calls_after_cancel old.calls p keeps) message_there.0.tid (next_seq old.calls) q ne ∙ threads_cancelled old.calls p keeps q
+  threads_now : (q : ℕ) → q ≢ old.calls.next → thread_of_drawing new.calls q ≡ cond (q == p) None (thread_of_drawing old.calls q)
+  threads_now q ne = ap (λ (c : HeldCalls). thread_of_drawing c q) calls_are ∙ thread_other (calls_after_cancel old.calls p keeps) message_there.0.tid (next_seq old.calls) q ne ∙ threads_cancelled old.calls p keeps q
 
   states_now : (q : ℕ) → q ≢ old.calls.next → message_state new.calls q ≡ cond (q == p) None (message_state old.calls q)
   states_now q ne = states q ∙ ap (λ (b : Bool). cond b (Some Waiting) (cond (q == p) None (message_state old.calls q))) (ne_eqb q old.calls.next ne)
@@ -72,11 +73,11 @@ module _ (old new : UnderWay) (p : ℕ) (keeps : Bool) (ids : Ids) (cwd : Compon
         next = refl;
         dead = record {
           state = ap (λ (b : Bool). cond b None (message_state old.calls p)) same;
-          thread = ap (λ (b : Bool). cond b None (thread_of_number old.calls p)) same;
+          thread = ap (λ (b : Bool). cond b None (thread_of_drawing old.calls p)) same;
           slot = ap (λ (b : Bool). cond b None (slot_at old.slots p)) same;
         };
         states = λ q ne. ap (λ (b : Bool). cond b None (message_state old.calls q)) (ne_eqb q p ne);
-        threads = λ q ne. ap (λ (b : Bool). cond b None (thread_of_number old.calls q)) (ne_eqb q p ne);
+        threads = λ q ne. ap (λ (b : Bool). cond b None (thread_of_drawing old.calls q)) (ne_eqb q p ne);
         slots = λ q ne. ap (λ (b : Bool). cond b None (slot_at old.slots q)) (ne_eqb q p ne);
         turn = turns_left;
       }
@@ -86,7 +87,7 @@ module _ (old new : UnderWay) (p : ℕ) (keeps : Bool) (ids : Ids) (cwd : Compon
 
   -- what is under way when the old drawing has ended, before the call is posted again
   abbrev between : UnderWay
-  between = record { calls = calls_after_cancel old.calls p keeps; slots = old.slots; turns = new.turns }
+  between = record { calls = calls_after_cancel old.calls p keeps; slots = without_slot old.slots p; turns = new.turns }
 
   between_states : (q : ℕ) → q ≢ p → message_state between.calls q ≡ message_state old.calls q
   between_states q ne = states_cancelled old.calls p keeps q ∙ ap (λ (b : Bool). cond b None (message_state old.calls q)) (ne_eqb q p ne)
@@ -95,16 +96,34 @@ module _ (old new : UnderWay) (p : ℕ) (keeps : Bool) (ids : Ids) (cwd : Compon
     keeps_iff : (keeps ≡ true) ↔ IsReadyWith old p
     keeps_iff = claimer_ready messages turns alive posted old agrees p (live_there messages turns alive posted old agrees p here) keeps keeps_is
 
+    slot_there : (slot : Slot) × (slot_at old.slots p ≡ Some slot)
+    slot_there = (let was : IsLive turns p (messages p) (found_in old) = agrees.live p (live_there messages turns alive posted old agrees p here) in (was.slot, was.slot_is))
+
+    -- from the slots without that of the old drawing to those with that of the new one
+    again_slots : ChangesSlot between.slots old.calls.next (Some (renewed slot_there.0 old.calls.next seq ids cwd)) new.slots
+    again_slots other =
+        known (slot_at old.slots p) (λ s. RenewsSlot old.slots p old.calls.next (renewed s old.calls.next seq ids cwd) new.slots) slot_there.0 slot_there.1 slots other
+        ∙ ap (λ (o : Option Slot). cond (other == old.calls.next) (Some (renewed slot_there.0 old.calls.next seq ids cwd)) o) (sym (without_slot_changes old.slots p other))
+
     -- each number that is kept is kept by a ready worker
     again_numbered : AreNumbered old → AreNumbered new
     again_numbered numbered =
+        let left_first : HaveSeqs between =
+        cancelled_seqs old between p keeps message_there.0 numbered.calls message_there.1 refl (without_slot_changes old.slots p) (left_turn old new (message_state old.calls p) turns_left) keeps_iff.1 numbered.seqs in
+        let between_numbered : AreNumbered between = cancelled_numbered old between p keeps message_there.0 message_there.1 refl between_states count renewed_ready keeps_iff left_first numbered in
         posted_numbered between new message_there.0.tid (next_seq old.calls) calls_are refl (subst AreValidCalls (sym calls) (whole-renewed old.calls p keeps numbered.calls few message_there.0 message_there.1))
-        (cancelled_numbered old between p keeps message_there.0 message_there.1 refl between_states renewed_ready keeps_iff numbered)
+        (posted_seqs between new message_there.0.tid (next_seq old.calls) (renewed slot_there.0 old.calls.next seq ids cwd).head calls_are again_slots refl number between_numbered.calls left_first) between_numbered
 
     again_numbers : AreNumbered old → (ready : ℕ → Bool) → AreReady ready old → CarriesNumbers (λ numbers. without_replaced ready p (drawn_as largest_number old.calls.next numbers)) old.calls new.calls
     again_numbers numbered ready are numbers has =
         subst (HasNumbers (without_replaced ready p (drawn_as largest_number old.calls.next numbers))) (sym calls)
         (numbers_renewed old.calls numbered.calls p keeps ready (same_answer keeps (ready p) (IsReadyWith old p) keeps_iff (are p)) message_there.0 message_there.1 numbers has few)
+
+  -- the new drawing has the number that was drawn
+  pub renewed_seq : AreNumbered old → seq_of new.calls old.calls.next ≡ Some (next_seq old.calls)
+  renewed_seq numbered =
+      ap (λ (c : HeldCalls). seq_of c old.calls.next) calls ∙ seqs_renewed old.calls p keeps numbered.calls few message_there.0 message_there.1 old.calls.next
+      ∙ ap (λ (b : Bool). cond b (Some (next_seq old.calls)) (cond (old.calls.next == p) (seq_left old.calls p keeps) (seq_of old.calls old.calls.next))) (eq-eqb old.calls.next old.calls.next refl)
 
   pub renewed_stays : AreValidWorkers old → AreNumbered old → AreNumbered new
   renewed_stays whole = again_numbered whole.messages whole.turns whole.alive whole.posted whole.agrees
@@ -123,12 +142,12 @@ module _ (old new : UnderWay) (p : ℕ) (keeps : Bool) (ids : Ids) (cwd : Compon
     pub was : IsLive turns p (messages p) (found_in old)
     was = agrees.live p live
 
-    slots_are : RenewsSlot old.slots p old.calls.next (renewed was.slot old.calls.next ids cwd) new.slots
-    slots_are = known (slot_at old.slots p) (λ s. RenewsSlot old.slots p old.calls.next (renewed s old.calls.next ids cwd) new.slots) was.slot was.slot_is slots
+    slots_are : RenewsSlot old.slots p old.calls.next (renewed was.slot old.calls.next seq ids cwd) new.slots
+    slots_are = known (slot_at old.slots p) (λ s. RenewsSlot old.slots p old.calls.next (renewed s old.calls.next seq ids cwd) new.slots) was.slot was.slot_is slots
 
-    is_posted : IsPosted (found_without (found_in old) p (found_in new)) (found_in new) old.calls.next was.tid (fresh_head was.slot.head old.calls.next ids cwd)
+    is_posted : IsPosted (found_without (found_in old) p (found_in new)) (found_in new) old.calls.next was.tid (fresh_head was.slot.head old.calls.next seq ids cwd)
     is_posted =
-        let fresh : Slot = renewed was.slot old.calls.next ids cwd in
+        let fresh : Slot = renewed was.slot old.calls.next seq ids cwd in
         record {
           next = ap (λ (c : HeldCalls). c.next) calls_are;
           state = state_now;
@@ -140,16 +159,16 @@ module _ (old new : UnderWay) (p : ℕ) (keeps : Bool) (ids : Ids) (cwd : Compon
           turn = λ w. refl;
         }
 
-    pub renewed_agrees : (later : ℕ → Bool) → RenewsLife alive p old.calls.next later → AgreesWithMachine (with_head (head_of was.tid (fresh_head was.slot.head old.calls.next ids cwd)) old.calls.next messages) turns later (suc posted) (found_in new)
+    pub renewed_agrees : (later : ℕ → Bool) → RenewsLife alive p old.calls.next later → AgreesWithMachine (with_head (head_of was.tid (fresh_head was.slot.head old.calls.next seq ids cwd)) old.calls.next messages) turns later (suc posted) (found_in new)
     renewed_agrees later lives =
-        posted_agrees (found_without (found_in old) p (found_in new)) (found_in new) old.calls.next was.tid (fresh_head was.slot.head old.calls.next ids cwd) is_posted messages turns (without_live p alive) later posted
+        posted_agrees (found_without (found_in old) p (found_in new)) (found_in new) old.calls.next was.tid (fresh_head was.slot.head old.calls.next seq ids cwd) is_posted messages turns (without_live p alive) later posted
         (ended_agrees (found_in old) (found_without (found_in old) p (found_in new)) p ended messages turns alive (without_live p alive) posted agrees live (λ other. refl)) refl lives
 
     -- the message of the new number is the old one's, with the ids and the directory of its process
-    pub messages_are : (process : Process) → process.ids ≡ ids → process.cwd ≡ cwd → with_head (head_of was.tid (fresh_head was.slot.head old.calls.next ids cwd)) old.calls.next messages ≡ messages_renewed process p old.calls.next messages
+    pub messages_are : (process : Process) → process.ids ≡ ids → process.cwd ≡ cwd → with_head (head_of was.tid (fresh_head was.slot.head old.calls.next seq ids cwd)) old.calls.next messages ≡ messages_renewed process p old.calls.next messages
     messages_are process ids_is cwd_is =
         let its : Head = head_of was.tid was.slot.head in
-        let renews : option_map (renewed_head process) (messages p).head ≡ Some (head_of was.tid (fresh_head was.slot.head old.calls.next ids cwd)) =
+        let renews : option_map (renewed_head process) (messages p).head ≡ Some (head_of was.tid (fresh_head was.slot.head old.calls.next seq ids cwd)) =
         ap (option_map (renewed_head process)) was.is_slot.head ∙ (λ k. Some (record its { ids = ids_is k; cwd = cwd_is k })) in
         let back = sym renews in
         λ k q. record (messages q) { head = cond (old.calls.next == q) (back k) (messages q).head }
@@ -163,7 +182,7 @@ module _ (old new : UnderWay) (p : ℕ) (keeps : Bool) (ids : Ids) (cwd : Compon
       let its : IsLive whole.turns p (whole.messages p) (found_in old) = was whole.messages whole.turns whole.alive whole.posted whole.agrees in
       record {
         count = count ∙ whole.count ∙ sym workers_now;
-        messages = with_head (head_of its.tid (fresh_head its.slot.head old.calls.next ids cwd)) old.calls.next whole.messages;
+        messages = with_head (head_of its.tid (fresh_head its.slot.head old.calls.next seq ids cwd)) old.calls.next whole.messages;
         turns = whole.turns;
         alive = with_live old.calls.next (without_live p whole.alive);
         posted = suc whole.posted;
@@ -181,7 +200,7 @@ module _ (old new : UnderWay) (p : ℕ) (keeps : Bool) (ids : Ids) (cwd : Compon
       → RenewsLife alive p (suc posted) later → RepresentsMachineMessages i (messages_renewed process p (suc posted) messages) turns later (suc posted) new
   renewed_kept i messages turns alive later posted process kept ids_is cwd_is lives =
       let its : IsLive turns p (messages p) (found_in old) = was messages turns alive posted kept.agrees in
-      let head : Head = head_of its.tid (fresh_head its.slot.head old.calls.next ids cwd) in
+      let head : Head = head_of its.tid (fresh_head its.slot.head old.calls.next seq ids cwd) in
       let lives_next : RenewsLife alive p old.calls.next later = subst (λ (n : ℕ). RenewsLife alive p n later) (sym kept.agrees.next) lives in
       subst (λ (n : ℕ). RepresentsMachineMessages i (messages_renewed process p n messages) turns later (suc posted) new) kept.agrees.next
       (subst (λ (all : ℕ → Message). RepresentsMachineMessages i all turns later (suc posted) new) (messages_are messages turns alive posted kept.agrees process ids_is cwd_is) (record {

@@ -4,7 +4,7 @@ use Rattle.std.proofs.lemmas.Bool.{eqb-true}
 use Rattle.st_base.specs.Numbered.{item_at_number}
 use Rattle.st_lookaside.specs.Slot.{Slot}
 use Rattle.st_lookaside.specs.Slots.{slot_at, ChangesSlot}
-use Rattle.st_messages.specs.Messages.{HeldCalls, message_state, thread_of_number}
+use Rattle.st_messages.specs.Messages.{HeldCalls, message_state, thread_of_drawing}
 use Rattle.st_workers.specs.Filling.{AreSame}
 use Rattle.st_workers.specs.Refinement.{AreValidWorkers, SameWorkersState}
 use Rattle.st_workers.specs.UnderWay.{UnderWay, found_in}
@@ -18,7 +18,7 @@ module _ (old new : UnderWay) (calls : new.calls ≡ old.calls) (slots : AreSame
   is_same = record {
     next = ap (λ (c : HeldCalls). c.next) calls;
     state = λ q. ap (λ (c : HeldCalls). message_state c q) calls;
-    thread = λ q. ap (λ (c : HeldCalls). thread_of_number c q) calls;
+    thread = λ q. ap (λ (c : HeldCalls). thread_of_drawing c q) calls;
     slot = slots;
     turn = λ w. ap (λ (ts : List Turn). item_at_number ts w) turns_same;
   }
@@ -26,7 +26,7 @@ module _ (old new : UnderWay) (calls : new.calls ≡ old.calls) (slots : AreSame
   pub stands_by : SameWorkersState old new
   stands_by i messages turns alive posted is = record {
     workers = ap (λ (c : HeldCalls). c.workers) calls ∙ is.workers;
-    numbered = same_numbered old new calls turns_same is.numbered;
+    numbered = same_numbered old new calls slots turns_same is.numbered;
     agrees = unchanged messages turns alive posted (found_in old) (found_in new) is_same is.agrees;
     verdicts = λ q v s answered copies. is.verdicts q v s (sym (ap (λ (c : HeldCalls). message_state c q) calls) ∙ answered) copies;
   }

@@ -11,10 +11,10 @@ use Rattle.st_messages.specs.declared.message.MsgState.TheVariants.{Waiting, Cla
 use Rattle.st_messages.specs.Messages.{message_state}
 use Rattle.st_law.specs.State.{is_live, snapshot_in, State}
 use Rattle.st_law.specs.declared.input.Input.{Input}
-use Rattle.st_workers.specs.Refinement.{HasAnswer, RepresentsMessages, IsLive, IsSlotOf, IsState, AreValidWorkers}
+use Rattle.st_workers.specs.Refinement.{drawn_copies, HasAnswer, RepresentsMessages, IsLive, IsSlotOf, IsState, AreValidWorkers}
 use Rattle.st_workers.specs.UnderWay.{found_in, UnderWay}
 use Rattle.st_workers.proofs.Claims.{live_by_state}
-use Rattle.st_workers.proofs.Copies.{same_snapshot, slot_number}
+use Rattle.st_workers.proofs.Copies.{same_snapshot}
 use Rattle.st_workers.proofs.Filled.{known, tells}
 use Rattle.st_workers.proofs.Tasks.{state_slot}
 
@@ -46,15 +46,15 @@ module _ (kept : UnderWay) (drawing : ℕ) (whole : AreValidWorkers kept) (answe
   answered_sealed = tells (slot_at kept.slots drawing) (λ slot. slot.is_sealed ≡ true) was.slot was.slot_is (was.is_sealed come.0.claimed come.1)
 
 module _ (kept : UnderWay) (drawing : ℕ) (s : Snapshot) (args : IfSome (slot_at kept.slots drawing) (λ slot. slot_progress slot ≡ Whole s.parts)) (head : IfSome (slot_at kept.slots drawing) (λ slot. s ≡ snapshot_with slot.head s.parts)) where
-  sealed_by : (slot : Slot) → slot_at kept.slots drawing ≡ Some slot → (i : Input) (st : State) → RepresentsMessages i st (is_live st) kept → is_live st drawing ≡ true → snapshot_in st drawing ≡ Some s
+  sealed_by : (slot : Slot) → slot_at kept.slots drawing ≡ Some slot → (i : Input) (st : State) → RepresentsMessages i st (is_live st) kept → is_live st drawing ≡ true → snapshot_in st drawing ≡ Some (drawn_copies drawing s)
   sealed_by slot there i st is live =
       let was : IsLive st.turns drawing (st.messages drawing) (found_in kept) = is.agrees.live drawing live in
       let same : was.slot ≡ slot = same_Some was.slot slot (sym was.slot_is ∙ there) in
       let ready : slot_progress slot ≡ Whole s.parts = known (slot_at kept.slots drawing) (λ x. slot_progress x ≡ Whole s.parts) slot there args in
       let sealed : s ≡ snapshot_with slot.head s.parts = known (slot_at kept.slots drawing) (λ x. s ≡ snapshot_with x.head s.parts) slot there head in
-      same_snapshot (st.messages drawing) was.tid slot (subst (IsSlotOf (st.messages drawing) was.tid) same was.is_slot) drawing s.parts (slot_number kept.slots drawing slot there) ready ∙ ap Some (sym sealed)
+      same_snapshot (st.messages drawing) was.tid slot (subst (IsSlotOf (st.messages drawing) was.tid) same was.is_slot) drawing s.parts ready ∙ ap (λ (u : Snapshot). Some (drawn_copies drawing u)) (sym sealed)
 
-  pub sealed_is : AreValidWorkers kept → HasAnswer (message_state kept.calls drawing) → (i : Input) (st : State) → RepresentsMessages i st (is_live st) kept → snapshot_in st drawing ≡ Some s
+  pub sealed_is : AreValidWorkers kept → HasAnswer (message_state kept.calls drawing) → (i : Input) (st : State) → RepresentsMessages i st (is_live st) kept → snapshot_in st drawing ≡ Some (drawn_copies drawing s)
   sealed_is whole answered i st is =
       let answer = answered_state (message_state kept.calls drawing) answered in
       let slot = state_slot kept whole drawing (Answered answer.0) answer.1 in

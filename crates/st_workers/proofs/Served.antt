@@ -9,7 +9,7 @@ use Rattle.st_lookaside.specs.Part.{with_lookup, with_word}
 use Rattle.st_lookaside.specs.Slot.{after_look, after_word, part_at, part_next, slot_progress, with_part, Slot}
 use Rattle.st_lookaside.specs.Slots.{slot_at, ChangesSlot}
 use Rattle.st_messages.specs.declared.message.MsgState.TheVariants.{Answered, Claimed}
-use Rattle.st_messages.specs.Messages.{is_kept, is_live_number, message_state, thread_of_number, AreValidCalls, HeldCalls}
+use Rattle.st_messages.specs.Messages.{is_kept, is_live_drawing, message_state, seq_of, thread_of_drawing, AreValidCalls, HeldCalls}
 use Rattle.st_names.specs.Name.{Components}
 use Rattle.st_names.specs.declared.seen.SeenText.{SeenText}
 use Rattle.st_trace.specs.declared.entry.Entry.{Entry}
@@ -23,16 +23,17 @@ use Rattle.st_workers.specs.Refinement.{AgreesWithMachine, RepresentsMachineMess
 use Rattle.st_workers.specs.UnderWay.{found_in, turn_of_worker, UnderWay}
 use Rattle.st_workers.specs.declared.turn.Turn.{Turn}
 use Rattle.st_workers.specs.declared.turn.Turn.TheVariants.{Working}
-use Rattle.st_workers.proofs.Copies.{asked_inside, look_kept, sealed_then, slot_number, slot_sealed, word_kept, IsBelow}
+use Rattle.st_workers.proofs.Copies.{asked_inside, look_kept, sealed_then, slot_sealed, word_kept, IsBelow}
 use Rattle.st_workers.proofs.Ended.{state_live}
 use Rattle.st_workers.proofs.Filled.{changed_to}
 use Rattle.st_workers.proofs.Numbered.{its_drawing, worked, working_no_drawing}
+use Rattle.st_workers.proofs.Seqs.{filled_seqs}
 use Rattle.st_workers.proofs.Steps.{all_turned, all_worked, count_kept, message_worked, stepped, turn_is, turned_state, verdicts_kept, IsStep}
 use Rattle.st_workers.proofs.Turns.{number_within}
 
 -- an entry that fills the slot of a number, and leaves everything else unchanged
 pub record Fills (e : Entry) (p : ℕ) (slot filled : Slot) : Type 0 where
-  pub number : filled.head.drawing ≡ slot.head.drawing
+  pub number : filled.head.seq ≡ slot.head.seq
   pub other : (q : ℕ) (m : Message) → q ≢ p → message_worked e q m ≡ m
   pub come : (m : Message) → HasMessageFlags m true None false → HasMessageFlags (message_worked e p m) true None false
   pub kept : (m : Message) (tid : ℕ) → IsSlotOf m tid slot → IsSlotOf (message_worked e p m) tid filled
@@ -70,21 +71,21 @@ module _ (e : Entry) (old new : UnderWay) (w p : ℕ) (slot filled : Slot) (t : 
       next = ap (λ (c : HeldCalls). c.next) calls;
       others = λ q ne. fills.other q (messages q) ne;
       states = λ q ne. states_now q;
-      threads = λ q. ap (λ (c : HeldCalls). thread_of_number c q) calls;
+      threads = λ q. ap (λ (c : HeldCalls). thread_of_drawing c q) calls;
       slots = λ q ne. slots q ∙ ap (λ (b : Bool). cond b (Some (sealed_if_ready filled)) (slot_at old.slots q)) (ne_eqb q p ne);
       only = λ v ne is. ne (agrees.apart v w p is at.0);
       stay = λ v ne other. fills.turn v (turns v);
       was = λ q is live. same_Some q p (sym is ∙ at.0);
       onto = λ q is. same_Some q p (sym is ∙ fills.turn w (turns w) ∙ at.0);
       come = λ is. fills.come (messages p) came;
-      turn = turn_is (all_worked e messages) alive (all_turned e turns w) p was.tid filled t is_slot (fills.number ∙ slot_number old.slots p slot there) (fills.turn w (turns w) ∙ at.0) at.1 turn;
+      turn = turn_is (all_worked e messages) alive (all_turned e turns w) p was.tid filled t is_slot (fills.turn w (turns w) ∙ at.0) at.1 turn;
       within = (agrees.given p at.1).1;
       live = λ is. record {
         state = Claimed claimed.0;
         tid = was.tid;
         slot = sealed_if_ready filled;
         state_is = state_claimed;
-        thread_is = ap (λ (c : HeldCalls). thread_of_number c p) calls ∙ was.thread_is;
+        thread_is = ap (λ (c : HeldCalls). thread_of_drawing c p) calls ∙ was.thread_is;
         slot_is = changed_to old.slots new.slots p (Some (sealed_if_ready filled)) slots;
         is_state = (fills.come (messages p) came, fills.turn claimed.0 (turns claimed.0) ∙ claimed.2);
         is_slot = slot_sealed (all_worked e messages p) was.tid filled is_slot;
@@ -100,7 +101,8 @@ module _ (e : Entry) (old new : UnderWay) (w p : ℕ) (slot filled : Slot) (t : 
     pub served_numbered : AreNumbered old → AreNumbered new
     served_numbered numbered =
         worked old new w p (Working p) t working (working_no_drawing p p) (its_drawing p filled t turn) put (state_live new.calls p (Claimed claimed.0) state_claimed) (λ q. ap (λ (c : HeldCalls). is_kept c q) calls)
-        (λ q ne. ap (λ (c : HeldCalls). is_live_number c q) calls) (subst AreValidCalls (sym calls) numbered.calls) numbered
+        (λ q ne. ap (λ (c : HeldCalls). is_live_drawing c q) calls) (ap (λ (c : HeldCalls). c.workers) calls) (subst AreValidCalls (sym calls) numbered.calls)
+        (filled_seqs old new w p (Working p) t working put (λ q. ap (λ (c : HeldCalls). seq_of c q) calls) slot filled there slots fills.number turn numbered.seqs) numbered
 
   pub served_workers : new.calls.workers ≡ old.calls.workers
   served_workers = ap (λ (c : HeldCalls). c.workers) calls

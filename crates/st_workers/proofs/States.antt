@@ -9,7 +9,7 @@ use Rattle.st_effects.specs.Progress.{Look, Progress, Stuck, Word}
 use Rattle.st_effects.specs.Progress.{Ready as Whole}
 use Rattle.st_messages.specs.declared.message.MsgState.{MsgState}
 use Rattle.st_messages.specs.declared.message.MsgState.TheVariants.{Waiting, Claimed, Answered, Faulted}
-use Rattle.st_messages.specs.Messages.{message_state, thread_of_number}
+use Rattle.st_messages.specs.Messages.{message_state, thread_of_drawing}
 use Rattle.st_law.specs.declared.input.Input.{Input}
 use Rattle.st_law.specs.Messages.{Head}
 use Rattle.st_law.specs.State.{is_live, is_ready, progress_in, snapshot_of_progress, snapshot_with, State}
@@ -43,19 +43,19 @@ module _ (i : Input) (st : State) (kept : UnderWay) (is : RepresentsMessages i s
   has_come_to = come_by (is_live st q) refl
 
   -- the thread that is kept of a number is that of the law's machine
-  held_by : (b : Bool) → is_live st q ≡ b → (t : ℕ) → thread_of_number kept.calls q ≡ Some t → IsHeldBy st q t
+  held_by : (b : Bool) → is_live st q ≡ b → (t : ℕ) → thread_of_drawing kept.calls q ≡ Some t → IsHeldBy st q t
   held_by true live t found =
       let was : IsLive st.turns q (st.messages q) (found_in kept) = is.agrees.live q live in
       ap (option_map (λ (head : Head). head.tid)) was.is_slot.head ∙ sym was.thread_is ∙ found
   held_by false live t found = absurd (none-some t (sym (is.agrees.dead q live).thread ∙ found))
 
-  live_by : (b : Bool) → is_live st q ≡ b → is_some (thread_of_number kept.calls q) ≡ b
+  live_by : (b : Bool) → is_live st q ≡ b → is_some (thread_of_drawing kept.calls q) ≡ b
   live_by true live = ap (λ (o : Option ℕ). is_some o) (is.agrees.live q live).thread_is
   live_by false live = ap (λ (o : Option ℕ). is_some o) (is.agrees.dead q live).thread
 
   -- a thread is kept of a number exactly if the number is live
-  pub is_live_by_thread : is_some (thread_of_number kept.calls q) ≡ is_live st q
+  pub is_live_by_thread : is_some (thread_of_drawing kept.calls q) ≡ is_live st q
   is_live_by_thread = live_by (is_live st q) refl
 
-  pub is_held_by : (t : ℕ) → thread_of_number kept.calls q ≡ Some t → IsHeldBy st q t
+  pub is_held_by : (t : ℕ) → thread_of_drawing kept.calls q ≡ Some t → IsHeldBy st q t
   is_held_by = held_by (is_live st q) refl

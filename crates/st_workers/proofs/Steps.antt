@@ -13,14 +13,14 @@ use Rattle.st_lookaside.specs.Slot.{Slot, slot_progress, snapshot_with}
 use Rattle.st_lookaside.specs.Slots.{slot_at}
 use Rattle.st_messages.specs.declared.message.MsgState.{MsgState}
 use Rattle.st_messages.specs.declared.message.MsgState.TheVariants.{Waiting, Claimed, Answered, Faulted}
-use Rattle.st_messages.specs.Messages.{HeldCalls, message_state, thread_of_number}
+use Rattle.st_messages.specs.Messages.{HeldCalls, message_state, thread_of_drawing}
 use Rattle.st_trace.specs.declared.entry.Entry.{Entry}
 use Rattle.st_law.specs.declared.input.Input.{Input}
 use Rattle.st_law.specs.Messages.{claimed_after, words_after, lookups_after, fault_after, answered_after, turn_after}
 use Rattle.st_filter.specs.Policies.{read_filters}
 use Rattle.st_law.specs.State.{Message, is_ready, progress_of_message, snapshot_of_message}
 use Rattle.st_workers.specs.Filling.{IsTurnFor}
-use Rattle.st_workers.specs.Refinement.{AgreesWithMachine, HasMessageFlags, IsDead, IsLive, IsSlotOf, IsState, IsTurn}
+use Rattle.st_workers.specs.Refinement.{drawn_copies, AgreesWithMachine, HasMessageFlags, IsDead, IsLive, IsSlotOf, IsState, IsTurn}
 use Rattle.st_workers.specs.UnderWay.{UnderWay, found_in, turn_of_worker}
 use Rattle.st_workers.specs.declared.turn.Turn.{Turn}
 use Rattle.st_workers.specs.declared.turn.Turn.TheVariants.{Idle, Working, Ready}
@@ -56,7 +56,7 @@ pub record IsStep (messages after : ℕ → Message) (turns turned : ℕ → Opt
   pub next : new.calls.next ≡ old.calls.next
   pub others : (q : ℕ) → q ≢ p → after q ≡ messages q
   pub states : (q : ℕ) → q ≢ p → message_state new.calls q ≡ message_state old.calls q
-  pub threads : (q : ℕ) → thread_of_number new.calls q ≡ thread_of_number old.calls q
+  pub threads : (q : ℕ) → thread_of_drawing new.calls q ≡ thread_of_drawing old.calls q
   pub slots : (q : ℕ) → q ≢ p → slot_at new.slots q ≡ slot_at old.slots q
   pub only : (v : ℕ) → v ≢ w → turns v ≢ Some p
   pub stay : (v : ℕ) → v ≢ w → turns v ≢ Some p → turned v ≡ turns v
@@ -145,14 +145,14 @@ waiting_unturned m waits come = not_claimed m come waits
 
 -- ---- the turn by a slot
 
-turn_for-ready : (after : ℕ → Message) (alive : ℕ → Bool) (o : Option ℕ) (p tid : ℕ) (slot : Slot) (s : Snapshot) → IsSlotOf (after p) tid slot → slot.head.drawing ≡ p → o ≡ Some p
+turn_for-ready : (after : ℕ → Message) (alive : ℕ → Bool) (o : Option ℕ) (p tid : ℕ) (slot : Slot) (s : Snapshot) → IsSlotOf (after p) tid slot → o ≡ Some p
     → slot_progress slot ≡ Whole s.parts → s ≡ snapshot_with slot.head s.parts → IsTurn after alive o (Ready p s)
-turn_for-ready after alive o p tid slot s is number turned ready sealed = (turned, same_snapshot (after p) tid slot is p s.parts number ready ∙ ap Some (sym sealed))
+turn_for-ready after alive o p tid slot s is turned ready sealed = (turned, same_snapshot (after p) tid slot is p s.parts ready ∙ ap (λ (u : Snapshot). Some (drawn_copies p u)) (sym sealed))
 
 -- the turn of a worker at a live number, by the slot of the number
-pub turn_is : (after : ℕ → Message) (alive : ℕ → Bool) (o : Option ℕ) (p tid : ℕ) (slot : Slot) (t : Turn) → IsSlotOf (after p) tid slot → slot.head.drawing ≡ p → o ≡ Some p → alive p ≡ true → IsTurnFor p slot t → IsTurn after alive o t
-turn_is after alive o p tid slot Idle is number turned live turn = absurd turn
-turn_is after alive o p tid slot (Working q) is number turned live turn =
+pub turn_is : (after : ℕ → Message) (alive : ℕ → Bool) (o : Option ℕ) (p tid : ℕ) (slot : Slot) (t : Turn) → IsSlotOf (after p) tid slot → o ≡ Some p → alive p ≡ true → IsTurnFor p slot t → IsTurn after alive o t
+turn_is after alive o p tid slot Idle is turned live turn = absurd turn
+turn_is after alive o p tid slot (Working q) is turned live turn =
     let e : q ≡ p = turn.0 in
     (turned ∙ ap Some (sym e), ap alive e ∙ live, ap (λ (n : ℕ). is_ready (progress_of_message (after n))) e ∙ ap is_ready (same_progress (after p) tid slot is) ∙ turn.1)
-turn_is after alive o p tid slot (Ready q s) is number turned live turn = subst (λ (n : ℕ). IsTurn after alive o (Ready n s)) (sym turn.0) (turn_for-ready after alive o p tid slot s is number turned turn.1 turn.2)
+turn_is after alive o p tid slot (Ready q s) is turned live turn = subst (λ (n : ℕ). IsTurn after alive o (Ready n s)) (sym turn.0) (turn_for-ready after alive o p tid slot s is turned turn.1 turn.2)

@@ -6,6 +6,7 @@ use Rattle.std.proofs.lemmas.Option.{none-some, same_Some}
 use Rattle.st_base.specs.declared.errno.Errno.{Errno}
 use Rattle.st_names.specs.Name.{Components}
 use Rattle.st_calls.specs.declared.judged.Snapshot.{Snapshot}
+use Rattle.st_calls.specs.declared.judged.Verdict.{Verdict}
 use Rattle.st_effects.specs.Progress.{Progress, Word, Look, Stuck, Ready as Whole}
 use Rattle.st_filter.specs.Judging.{verdict}
 use Rattle.st_lookaside.specs.Slot.{Slot, slot_progress, IsLookNext}
@@ -19,14 +20,14 @@ use Rattle.st_law.specs.Machine.{answer_entry, claimed_entry, least_waiting, tur
 use Rattle.st_law.specs.Messages.{Head}
 use Rattle.st_law.specs.State.{Message, State, is_live, is_ready, is_waiting, is_worker, progress_in, read_at, seq_at_work, snapshot_of_progress, worker_at}
 use Rattle.st_law.proofs.Least.{least}
-use Rattle.st_workers.specs.Refinement.{at_work, AgreesWithMachine, HasMessageFlags, RepresentsMessages, IsLive, IsState, IsTurn, AreValidWorkers}
+use Rattle.st_workers.specs.Refinement.{at_work, drawn_copies, AgreesWithMachine, HasMessageFlags, RepresentsMessages, IsLive, IsState, IsTurn, AreValidWorkers}
 use Rattle.st_workers.specs.Tasks.{idle_task, task_at, task_of, task_of_slot, task_of_turn, IsBusy, IsCopy, IsFault, IsLook, IsOfProcess, IsTask}
 use Rattle.st_workers.specs.UnderWay.{UnderWay, found_in, turn_of_worker}
 use Rattle.st_workers.specs.declared.task.Task.TheVariants as task
 use Rattle.st_workers.specs.declared.turn.Turn.{Turn}
 use Rattle.st_workers.specs.declared.turn.Turn.TheVariants.{Idle, Working, Ready}
 use Rattle.st_workers.proofs.Claims.{live_by_state}
-use Rattle.st_workers.proofs.Copies.{same_progress}
+use Rattle.st_workers.proofs.Copies.{same_progress, same_verdict}
 
 -- ---- what a task says of the worker
 
@@ -206,12 +207,13 @@ module _ (i : Input) (st : State) (kept : UnderWay) (w : ℕ) (is : RepresentsMe
   answer_by q (Look part name) s p_is ready e = absurd (true≢false (sym ready))
   answer_by q (Stuck errno) s p_is ready e = absurd (true≢false (sym ready))
 
-  pub ready_is : (q : ℕ) (s : Snapshot) → turn_of_worker kept w ≡ Some (Ready q s) → worker_entry i st w ≡ Some (entry.Answered w s (verdict (read_at i st s.policy s.rule) s) (is_live st q))
+  pub ready_is : (q : ℕ) (s : Snapshot) → turn_of_worker kept w ≡ Some (Ready q s) → worker_entry i st w ≡ Some (entry.Answered w (drawn_copies q s) (verdict (read_at i st s.policy s.rule) s) (is_live st q))
   ready_is q s ready =
       let turn : IsTurn st.messages (is_live st) (st.turns w) (Ready q s) = is.agrees.workers w (Ready q s) ready in
-      let whole : is_ready (progress_in st q) ≡ true = sealed_ready q (st.messages q).head (progress_in st q) s turn.1 in
+      let whole : is_ready (progress_in st q) ≡ true = sealed_ready q (st.messages q).head (progress_in st q) (drawn_copies q s) turn.1 in
       let at : worker_at st w ≡ Some q = ap (seq_at_work st) turn.0 ∙ ap (λ (b : Bool). cond b (Some q) None) (or_right (is_live st q) (is_ready (progress_in st q)) whole) in
-      entry_by i st w (Some q) there at ∙ answer_by q (progress_in st q) s refl whole turn.1
+      entry_by i st w (Some q) there at ∙ answer_by q (progress_in st q) (drawn_copies q s) refl whole turn.1
+      ∙ ap (λ (v : Verdict). Some (entry.Answered w (drawn_copies q s) v (is_live st q))) (same_verdict q s 1 (read_at i st s.policy s.rule))
 
 -- ---- preconditions of the code
 

@@ -3,7 +3,7 @@ use Rattle.std.specs.Prelude.{◌≡◌, ◌≢◌, ℕ, Bool, true, Some, Optio
 use Rattle.st_base.specs.declared.errno.Errno.{Errno}
 use Rattle.st_calls.specs.declared.judged.Snapshot.{Snapshot}
 use Rattle.st_calls.specs.declared.judged.Verdict.{Verdict}
-use Rattle.st_messages.specs.Messages.{HasNoNumber}
+use Rattle.st_messages.specs.Messages.{HasNoDrawing}
 use Rattle.st_names.specs.Name.{Components}
 use Rattle.st_names.specs.declared.seen.SeenText.{SeenText}
 use Rattle.st_trace.specs.declared.entry.Entry.{Entry}
@@ -15,21 +15,21 @@ use Rattle.st_law.specs.State.{Message, State, is_live}
 use Rattle.st_workers.specs.Refinement.{RepresentsMachineMessages}
 use Rattle.st_workers.specs.UnderWay.{UnderWay}
 
--- whether a message is closed is kept only as whether its number is live
+-- whether a message is closed is kept only as whether its drawing is live
 abbrev pub ClosingIsNotKept : Type 0
 ClosingIsNotKept = (i : Input) (messages after : ℕ → Message) (turns : ℕ → Option ℕ) (alive : ℕ → Bool) (posted : ℕ) (kept : UnderWay) → RepresentsMachineMessages i messages turns alive posted kept
     → ((q : ℕ) → after q ≡ record (messages q) { closed = (after q).closed }) → RepresentsMachineMessages i after turns alive posted kept
 
--- a thread that no live message is of has no number
-abbrev pub OthersHaveNoNumber : Type 0
-OthersHaveNoNumber = (i : Input) (messages : ℕ → Message) (turns : ℕ → Option ℕ) (alive : ℕ → Bool) (posted : ℕ) (kept : UnderWay) (tid : ℕ) → RepresentsMachineMessages i messages turns alive posted kept
-    → ((q : ℕ) (head : Head) → alive q ≡ true → (messages q).head ≡ Some head → head.tid ≢ tid) → HasNoNumber kept.calls tid
+-- a thread that no live message is of has no drawing
+abbrev pub OthersHaveNoDrawing : Type 0
+OthersHaveNoDrawing = (i : Input) (messages : ℕ → Message) (turns : ℕ → Option ℕ) (alive : ℕ → Bool) (posted : ℕ) (kept : UnderWay) (tid : ℕ) → RepresentsMachineMessages i messages turns alive posted kept
+    → ((q : ℕ) (head : Head) → alive q ≡ true → (messages q).head ≡ Some head → head.tid ≢ tid) → HasNoDrawing kept.calls tid
 
--- an entry changes for no number whether it is live
+-- an entry changes for no drawing whether it is live
 abbrev pub LeavesLife : Entry → Type 0
 LeavesLife e = (i : Input) (st : State) (q : ℕ) → is_live (state_after i st e) q ≡ is_live st q
 
--- no entry of a worker changes for any number whether it is live
+-- no entry of a worker changes for any drawing whether it is live
 pub record WorkersLeaveLife : Type 0 where
   pub claimed : (w p : ℕ) → LeavesLife (Claimed w p)
   pub copied : (p part place word : ℕ) → LeavesLife (Copied p part place word)

@@ -50,7 +50,7 @@ pub record IsUntouched (message : Message) : Type 0 where
   pub words : (j : ℕ) → message.words j ≡ []
   pub lookups : (j : ℕ) → message.lookups j ≡ []
 
--- a state represents how far the message of a number has come; a claimed message is its worker's turn, and an answered message is complete
+-- a state represents how far the message of a drawing has come; a claimed message is its worker's turn, and an answered message is complete
 abbrev pub IsState : (ℕ → Option ℕ) → ℕ → Message → MsgState → Type 0
 IsState turns q message Waiting = HasMessageFlags message false None false
 IsState turns q message (Claimed worker) = HasMessageFlags message true None false × (turns worker ≡ Some q)
@@ -68,7 +68,7 @@ pub record IsSlotOf (message : Message) (tid : ℕ) (slot : Slot) : Type 0 where
 abbrev pub IsSealedOnceReady : Message → Slot → Type 0
 IsSealedOnceReady message slot = message.claimed ≡ true → is_ready (progress_of_message message) ≡ true → slot.is_sealed ≡ true
 
--- a live number has a state, a thread and a slot, which represent its message
+-- a live drawing has a state, a thread and a slot, which represent its message
 pub record IsLive (turns : ℕ → Option ℕ) (q : ℕ) (message : Message) (found : Found) : Type 0 where
   pub state : MsgState
   pub tid : ℕ
@@ -80,13 +80,13 @@ pub record IsLive (turns : ℕ → Option ℕ) (q : ℕ) (message : Message) (fo
   pub is_slot : IsSlotOf message tid slot
   pub is_sealed : IsSealedOnceReady message slot
 
--- a number that isn't live has none of them
+-- a drawing that isn't live has none of them
 pub record IsDead (q : ℕ) (found : Found) : Type 0 where
   pub state : found.state q ≡ None
   pub thread : found.thread q ≡ None
   pub slot : found.slot q ≡ None
 
--- a number is live and answered
+-- a drawing is live and answered
 abbrev pub HasAnswer : Option MsgState → Type 0
 HasAnswer None = ⊥
 HasAnswer (Some Waiting) = ⊥
@@ -96,21 +96,25 @@ HasAnswer (Some (Faulted errno)) = ⊥
 
 -- ---- a worker
 
--- the number that a worker is at, by its turn and the live numbers; none if it is idle
+-- the drawing that a worker is at, by its turn and the live drawings; none if it is idle
 abbrev pub at_work : (ℕ → Message) → (ℕ → Bool) → Option ℕ → Option ℕ
 at_work messages alive None = None
 at_work messages alive (Some q) = if alive q || is_ready (progress_of_message (messages q)) then Some q else None
 
--- a turn represents what a worker is at in the law's machine: idle; at a live number whose message isn't complete; or at a number whose
--- message is complete, with its copies, whether the number is live or not
+-- copies as the law's machine has them: there, a message's number is its drawing
+abbrev pub drawn_copies : ℕ → Snapshot → Snapshot
+drawn_copies q s = record s { seq = q }
+
+-- a turn represents what a worker is at in the law's machine: idle; at a live drawing whose message isn't complete; or at a drawing whose
+-- message is complete, with its copies, whether the drawing is live or not
 abbrev pub IsTurn : (ℕ → Message) → (ℕ → Bool) → Option ℕ → Turn → Type 0
 IsTurn messages alive turned Idle = at_work messages alive turned ≡ None
 IsTurn messages alive turned (Working q) = (turned ≡ Some q) × (alive q ≡ true) × (is_ready (progress_of_message (messages q)) ≡ false)
-IsTurn messages alive turned (Ready q s) = (turned ≡ Some q) × (snapshot_of_message q (messages q) ≡ Some s)
+IsTurn messages alive turned (Ready q s) = (turned ≡ Some q) × (snapshot_of_message q (messages q) ≡ Some (drawn_copies q s))
 
 -- ---- all of them
 
--- what is found represents the messages and turns of the law's machine, if these numbers are live and so many were posted
+-- what is found represents the messages and turns of the law's machine, if these drawings are live and so many were posted
 pub record AgreesWithMachine (messages : ℕ → Message) (turns : ℕ → Option ℕ) (alive : ℕ → Bool) (posted : ℕ) (found : Found) : Type 0 where
   pub next : found.next ≡ suc posted
   pub live : (q : ℕ) → alive q ≡ true → IsLive turns q (messages q) found
@@ -137,7 +141,7 @@ RepresentsMessages i st alive kept = RepresentsMachineMessages i st.messages st.
 abbrev pub RepresentsMessagesAfter : Input → State → Entry → (ℕ → Bool) → UnderWay → Type 0
 RepresentsMessagesAfter i st e alive kept = RepresentsMachineMessages i (message_after i st e) (λ w. turn_after e w (st.turns w)) alive (posted_after e st.posted) kept
 
--- the messages and workers represent the state after an entry that changes for no number whether it is live
+-- the messages and workers represent the state after an entry that changes for no drawing whether it is live
 abbrev pub RepresentsAfterEntry : UnderWay → Entry → UnderWay → Type 0
 RepresentsAfterEntry old e new = (i : Input) (st : State) (alive : ℕ → Bool) → RepresentsMessages i st alive old → RepresentsMessagesAfter i st e alive new
 
@@ -145,7 +149,7 @@ RepresentsAfterEntry old e new = (i : Input) (st : State) (alive : ℕ → Bool)
 abbrev pub SameWorkersState : UnderWay → UnderWay → Type 0
 SameWorkersState old new = (i : Input) (messages : ℕ → Message) (turns : ℕ → Option ℕ) (alive : ℕ → Bool) (posted : ℕ) → RepresentsMachineMessages i messages turns alive posted old → RepresentsMachineMessages i messages turns alive posted new
 
--- how far a number has come in a state of the law's machine: it isn't live; it is neither faulted nor answered; it is answered with the
+-- how far a drawing has come in a state of the law's machine: it isn't live; it is neither faulted nor answered; it is answered with the
 -- verdict of the filters that were read on its copies; or it is faulted
 abbrev pub IsMessageStateOf : Input → State → ℕ → Option MsgState → Type 0
 IsMessageStateOf i st q None = is_live st q ≡ false
@@ -154,19 +158,19 @@ IsMessageStateOf i st q (Some (Claimed worker)) = (is_live st q ≡ true) × Has
 IsMessageStateOf i st q (Some (Answered v)) = (is_live st q ≡ true) × HasMessageFlags (st.messages q) true None true × (s : Snapshot) × (snapshot_in st q ≡ Some s) × (v ≡ verdict (read_at i st s.policy s.rule) s)
 IsMessageStateOf i st q (Some (Faulted errno)) = (is_live st q ≡ true) × HasMessageFlags (st.messages q) true (Some errno) false
 
--- a number is that of a call that this thread holds, or has held
+-- a drawing is that of a call that this thread holds, or has held
 abbrev pub IsHeldBy : State → ℕ → ℕ → Type 0
 IsHeldBy st q t = option_map (λ (head : Head). head.tid) (st.messages q).head ≡ Some t
 
--- a number is live now or not, and each other number is unchanged
+-- a drawing is live now or not, and each other drawing is unchanged
 abbrev pub ChangesLife : (ℕ → Bool) → ℕ → Bool → (ℕ → Bool) → Type 0
 ChangesLife alive q is_live later = (other : ℕ) → later other ≡ (if other == q then is_live else alive other)
 
--- a number is no longer live, this new number is, and each other is unchanged
+-- a drawing is no longer live, this new drawing is, and each other is unchanged
 abbrev pub RenewsLife : (ℕ → Bool) → ℕ → ℕ → (ℕ → Bool) → Type 0
 RenewsLife alive q fresh later = (other : ℕ) → later other ≡ (if other == fresh then true else if other == q then false else alive other)
 
--- the messages after one of them was renewed under a new number, if this is its process
+-- the messages after one of them was renewed under a new drawing, if this is its process
 abbrev pub messages_renewed : Process → ℕ → ℕ → (ℕ → Message) → ℕ → Message
 messages_renewed process drawing fresh messages q = record (messages q) { head = head_after_change (λ p. (messages p).head) process q (messages q).head (Renewed drawing fresh) }
 

@@ -5,7 +5,7 @@ use Rattle.st_effects.specs.Progress.{Progress, Word, Look, Stuck, Ready}
 use Rattle.st_filter.specs.Judging.{verdict}
 use Rattle.st_lookaside.specs.Slot.{Slot, slot_progress}
 use Rattle.st_lookaside.specs.Slots.{slot_at}
-use Rattle.st_messages.specs.Messages.{HeldCalls, first_waiting, is_live_number as is_live_here}
+use Rattle.st_messages.specs.Messages.{HeldCalls, first_waiting, is_live_drawing as is_live_here}
 use Rattle.st_model.specs.declared.limits.TheConstants.{SPACE_WORDS}
 use Rattle.st_model.specs.Tree.{look}
 use Rattle.st_names.specs.Name.{Components}
@@ -14,25 +14,26 @@ use Rattle.st_law.specs.declared.input.Input.{Input}
 use Rattle.st_law.specs.Machine.{worker_entry}
 use Rattle.st_law.specs.Messages.{Head}
 use Rattle.st_law.specs.State.{State, is_live, read_at, word_for}
+use Rattle.st_workers.specs.Refinement.{drawn_copies}
 use Rattle.st_workers.specs.UnderWay.{UnderWay, turn_of_worker}
 use Rattle.st_workers.specs.declared.task.Task.{Task}
 use Rattle.st_workers.specs.declared.task.Task.TheVariants.{Rest, Claim, Copy, Look as LookAt, Fault, Answer}
 use Rattle.st_workers.specs.declared.turn.Turn.{Turn}
 use Rattle.st_workers.specs.declared.turn.Turn.TheVariants as turn
 
--- what an idle worker does, by the first waiting number
+-- what an idle worker does, by the first waiting drawing
 abbrev pub idle_task : Option ℕ → Task
 idle_task None = Rest
 idle_task (Some drawing) = Claim
 
--- what a worker does at a number of this process, by the progress of its message
+-- what a worker does at a drawing of this process, by the progress of its message
 abbrev pub task_at : ℕ → ℕ → Progress → Task
 task_at drawing pid (Word part place) = Copy drawing pid part place
 task_at drawing pid (Look part name) = LookAt drawing part
 task_at drawing pid (Stuck errno) = Fault drawing errno
 task_at drawing pid (Ready args) = Answer
 
--- the same by the slot of the number
+-- the same by the slot of the drawing
 abbrev pub task_of_slot : ℕ → Option Slot → Task
 task_of_slot drawing None = Rest
 task_of_slot drawing (Some slot) = task_at drawing slot.head.pid (slot_progress slot)
@@ -84,7 +85,7 @@ IsFault (LookAt drawing part) = ⊥
 IsFault (Fault drawing errno) = Unit {0}
 IsFault Answer = ⊥
 
--- the number that a task names is live, and the index of a word that it copies is inside memory
+-- the drawing that a task names is live, and the index of a word that it copies is inside memory
 abbrev pub CanServe : HeldCalls → Task → Type 0
 CanServe calls Rest = Unit {0}
 CanServe calls Claim = Unit {0}
@@ -105,4 +106,4 @@ IsTask i st kept worker (Copy drawing pid part place) = (worker_entry i st worke
 IsTask i st kept worker (LookAt drawing part) = (name : Components) × (worker_entry i st worker ≡ Some (entry.Looked drawing part name (look st.tree name)))
 IsTask i st kept worker (Fault drawing errno) = worker_entry i st worker ≡ Some (entry.Faulted drawing errno)
 IsTask i st kept worker Answer =
-    (q : ℕ) × (s : Snapshot) × (turn_of_worker kept worker ≡ Some (turn.Ready q s)) × (worker_entry i st worker ≡ Some (entry.Answered worker s (verdict (read_at i st s.policy s.rule) s) (is_live st q)))
+    (q : ℕ) × (s : Snapshot) × (turn_of_worker kept worker ≡ Some (turn.Ready q s)) × (worker_entry i st worker ≡ Some (entry.Answered worker (drawn_copies q s) (verdict (read_at i st s.policy s.rule) s) (is_live st q)))

@@ -3,7 +3,7 @@ ghost use Rattle.std.specs.Prelude.{◌≡◌, ℕ, true, Some, IsSome, IfSome, 
 ghost use Rattle.st_effects.specs.Progress.{Progress};
 ghost use Rattle.st_lookaside.specs.Slot.{after_look, after_word, next_need, sealed_slot, slot_progress, IsInOrder, IsInside, IsLookNext, HasAllArguments, IsWordNext, Slot};
 ghost use Rattle.st_lookaside.specs.Slots.{slot_at, ChangesSlot};
-ghost use Rattle.st_messages.specs.Messages.{is_live_number, HeldCalls};
+ghost use Rattle.st_messages.specs.Messages.{is_live_drawing, HeldCalls};
 ghost use Rattle.st_names.specs.Seen.{seen_text};
 ghost use Rattle.st_names.specs.declared.seen.SeenText.{SeenText};
 ghost use Rattle.st_workers.specs.Filling.{sealed_if_ready, AreSame, IsTurnFor};
@@ -21,7 +21,7 @@ use std::alloc::{AllocError, Global};
 /// What a worker does next at a message of this process, by what the message needs next.
 pub fn task_at(drawing: Drawing, pid: Pid, next: Next) -> Task
     ensures task { (progress : Progress) → next ≡ next_need progress → result ≡ task_at drawing pid progress }
-    ensures there { (calls : HeldCalls) → is_live_number calls drawing ≡ true → IsInside next → CanServe calls result }
+    ensures there { (calls : HeldCalls) → is_live_drawing calls drawing ≡ true → IsInside next → CanServe calls result }
 {
     match next {
         Next::Word(part, place) => Task::Copy {

@@ -10,7 +10,7 @@ ghost use Rattle.st_law.specs.declared.input.Input.{Input};
 ghost use Rattle.st_lookaside.specs.Need.{IsShort};
 ghost use Rattle.st_lookaside.specs.Slots.{slot_at};
 ghost use Rattle.st_law.specs.Numbers.{drawn_as, largest_number, no_numbers, without_replaced};
-ghost use Rattle.st_messages.specs.Messages.{calls_after_cancel, calls_after_let_go, calls_after_post, calls_after_renew, is_claimed, is_kept, is_live_number, message_state, thread_of_number, with_state, HasNoNumber, HasWorker};
+ghost use Rattle.st_messages.specs.Messages.{calls_after_cancel, calls_after_let_go, calls_after_post, calls_after_renew, drawing_of, is_claimed, is_kept, is_live_drawing, message_state, next_seq, seq_of, thread_of_drawing, with_state, HasNoDrawing, HasWorker};
 ghost use Rattle.st_messages.specs.declared.message.Delivered.TheVariants.{Applied, Stale};
 ghost use Rattle.st_messages.specs.declared.message.MsgState.TheVariants.{Answered, Claimed, Faulted};
 ghost use Rattle.st_model.specs.Process.{Process};
@@ -19,9 +19,9 @@ ghost use Rattle.st_names.specs.Name.{Components};
 ghost use Rattle.st_names.specs.Seen.{seen_text};
 ghost use Rattle.st_trace.specs.declared.entry.Entry.TheVariants as entry;
 ghost use Rattle.st_trace.specs.declared.entry.Way.TheVariants.{Held};
-ghost use Rattle.st_workers.specs.Refinement.{head_of, messages_renewed, RepresentsMachineMessages, ChangesLife, RepresentsAfterEntry, IsMessageStateOf, HasAnswer, IsHeldBy, RepresentsMessages, RepresentsMessagesAfter, RenewsLife, SameWorkersState};
+ghost use Rattle.st_workers.specs.Refinement.{drawn_copies, head_of, messages_renewed, RepresentsMachineMessages, ChangesLife, RepresentsAfterEntry, IsMessageStateOf, HasAnswer, IsHeldBy, RepresentsMessages, RepresentsMessagesAfter, RenewsLife, SameWorkersState};
 ghost use Rattle.st_workers.specs.Leaving.{is_claimer_ready, HasLeft};
-ghost use Rattle.st_workers.specs.Numbers.{AreFew, AreReady, CarriesNumbers, HasNumbers, IsReadyWith};
+ghost use Rattle.st_workers.specs.Numbers.{seq_if, AreFew, AreReady, CarriesNumbers, HasNumbers, IsReadyWith, KeepsNumbers};
 ghost use Rattle.st_workers.specs.Tasks.{task_of, IsBusy, IsCopy, IsFault, IsLook, IsTask, CanServe};
 ghost use Rattle.st_workers.specs.UnderWay.{turn_of_worker};
 ghost use Rattle.st_workers.specs.declared.task.Task.TheVariants.{Answer, Claim, Copy, Fault, Look as LookAt};
@@ -29,9 +29,9 @@ ghost use Rattle.st_workers.specs.declared.task.Task.TheVariants.{Answer, Claim,
 use crate::filling;
 use crate::task::Task;
 use crate::turn::{Turn, put_turn};
-use st_base::{Drawing, Ids, Shared, Tid, Worker};
+use st_base::{Drawing, Ids, Seq, Shared, Tid, Worker};
 use st_calls::{Snapshot, Verdict};
-use st_lookaside::{Head, Next, Slots};
+use st_lookaside::{Head, NewNumber, Next, Slots};
 use st_messages::{Delivered, Messages, MsgState};
 use st_names::{AbsName, Seen};
 use std::alloc::{AllocError, Global};
@@ -160,7 +160,7 @@ impl Workers {
 
     /// The thread whose held call has a live drawing; none if the drawing isn't live.
     pub fn thread(&self, drawing: Drawing) -> Option<Tid>
-        ensures thread { result ≡ thread_of_number self.now.calls drawing }
+        ensures thread { result ≡ thread_of_drawing self.now.calls drawing }
         ensures law { IfSome result (λ tid. (i : Input) (st : State) → RepresentsMessages i st (is_live_in st) self.now → IsHeldBy st drawing tid) }
         ensures live { (i : Input) (st : State) → RepresentsMessages i st (is_live_in st) self.now → is_some result ≡ is_live_in st drawing }
     {
@@ -169,9 +169,9 @@ impl Workers {
 
     /// The message of a live drawing.
     pub fn head(&self, drawing: Drawing) -> &Head
-        requires { is_live_number self.now.calls drawing ≡ true }
+        requires { is_live_drawing self.now.calls drawing ≡ true }
         ensures head { IfSome (slot_at self.now.slots drawing) (λ slot. result.now ≡ slot.head) }
-        ensures law { IfSome (thread_of_number self.now.calls drawing) (λ tid. (i : Input) (st : State) → RepresentsMessages i st (is_live_in st) self.now → (st.messages drawing).head ≡ Some (head_of tid result.now)) }
+        ensures law { IfSome (thread_of_drawing self.now.calls drawing) (λ tid. (i : Input) (st : State) → RepresentsMessages i st (is_live_in st) self.now → (st.messages drawing).head ≡ Some (head_of tid result.now)) }
     {
         self.slots.slot(drawing).head()
     }
@@ -217,10 +217,49 @@ impl Workers {
         }
     }
 
+    /// The number that the next message has.
+    pub fn next_seq(&self) -> Seq
+        requires { AreFew self.now.calls }
+        ensures { result ≡ next_seq self.now.calls }
+    {
+        self.messages.next_seq()
+    }
+
+    /// The number of a drawing in use.
+    pub fn seq(&self, drawing: Drawing) -> Seq
+        requires { is_some (seq_of self.now.calls drawing) ≡ true }
+        ensures seq { seq_of self.now.calls drawing ≡ Some result }
+        ensures given { drawing < self.now.calls.next }
+    {
+        let Some(seq) = self.messages.seq(drawing) else {
+            unreachable!()
+        };
+        seq
+    }
+
+    /// The number of a live drawing, if there is one.
+    pub fn seq_if(&self, drawing: Option<Drawing>) -> Option<Seq>
+        requires { IfSome drawing (λ q. is_live_drawing self.now.calls q ≡ true) }
+        ensures { result ≡ seq_if self.now.calls drawing }
+    {
+        match drawing {
+            Some(drawing) => Some(self.seq(drawing)),
+            None => None,
+        }
+    }
+
+    /// The drawing in use that has this number; none iff the number isn't in use.
+    pub fn drawing(&self, seq: Seq) -> Option<Drawing>
+        ensures { result ≡ drawing_of self.now.calls seq }
+    {
+        self.messages.drawing(seq)
+    }
+
     /// Posts the held call of a thread that has none, under the next drawing. If memory runs out, the abstract state is unchanged.
     pub fn post(&mut self, alloc: Global, tid: Tid, head: Head) -> Result<Drawing, AllocError>
         requires drawing { head.drawing ≡ self.old.calls.next }
-        requires thread { HasNoNumber self.old.calls tid }
+        requires seq { head.seq ≡ next_seq self.old.calls }
+        requires thread { HasNoDrawing self.old.calls tid }
         requires room { self.old.calls.next < 2 ^ 64 - 1 }
         requires few { AreFew self.old.calls }
         requires short { IsShort head.cwd }
@@ -247,6 +286,8 @@ impl Workers {
     pub fn claim(&mut self, alloc: Global, worker: Worker) -> Result<Drawing, AllocError>
         requires { task_of self.old worker ≡ Claim }
         ensures calls { IfOk result (λ drawing. self.new.calls ≡ with_state self.old.calls drawing (Claimed worker)) }
+        ensures live { IfOk result (λ drawing. is_live_drawing self.new.calls drawing ≡ true) }
+        ensures seqs { (q : ℕ) → seq_of self.new.calls q ≡ seq_of self.old.calls q }
         ensures workers { self.new.calls.workers ≡ self.old.calls.workers }
         ensures numbers { CarriesNumbers (λ numbers. numbers) self.old.calls self.new.calls }
         ensures law { IfOk result (λ drawing. (i : Input) (st : State) → RepresentsMessages i st (is_live_in st) self.old → worker_entry i st worker ≡ Some (entry.Claimed worker drawing)) }
@@ -334,13 +375,14 @@ impl Workers {
     ) -> (Drawing, Shared<Snapshot>, Delivered)
         requires { task_of self.old worker ≡ Answer }
         ensures copies { turn_of_worker self.old worker ≡ Some (Ready result.0 result.1) }
-        ensures applied { (result.2 ≡ Applied) ↔ (is_live_number self.old.calls result.0 ≡ true) }
-        ensures lives { (i : Input) (st : State) (alive : ℕ → Bool) → RepresentsMessages i st alive self.old → is_live_number self.old.calls result.0 ≡ alive result.0 }
+        ensures seq { seq_of self.old.calls result.0 ≡ Some result.1.seq }
+        ensures applied { (result.2 ≡ Applied) ↔ (is_live_drawing self.old.calls result.0 ≡ true) }
+        ensures lives { (i : Input) (st : State) (alive : ℕ → Bool) → RepresentsMessages i st alive self.old → is_live_drawing self.old.calls result.0 ≡ alive result.0 }
         ensures workers { self.new.calls.workers ≡ self.old.calls.workers }
         ensures calls { result.2 ≡ Applied → self.new.calls ≡ with_state self.old.calls result.0 (Answered verdict) }
         ensures stale { result.2 ≡ Stale → self.new.calls ≡ calls_after_let_go self.old.calls result.0 }
-        ensures numbers { CarriesNumbers (without_replaced (is_live_number self.old.calls) result.0) self.old.calls self.new.calls }
-        ensures kept { (i : Input) (st : State) (alive : ℕ → Bool) → RepresentsMessages i st alive self.old → verdict ≡ judged (read_at i st result.1.policy result.1.rule) result.1 → RepresentsMessagesAfter i st (entry.Answered worker result.1 verdict (alive result.0)) alive self.new }
+        ensures numbers { CarriesNumbers (without_replaced (is_live_drawing self.old.calls) result.0) self.old.calls self.new.calls }
+        ensures kept { (i : Input) (st : State) (alive : ℕ → Bool) → RepresentsMessages i st alive self.old → verdict ≡ judged (read_at i st result.1.policy result.1.rule) result.1 → RepresentsMessagesAfter i st (entry.Answered worker (drawn_copies result.0 result.1) verdict (alive result.0)) alive self.new }
     {
         let turn = std::mem::replace(&mut self.turns[worker as usize - 1], Turn::Idle);
         let Turn::Ready(drawing, copies) = turn else {
@@ -353,7 +395,8 @@ impl Workers {
     /// The copies of an answered message.
     pub fn snapshot(&self, drawing: Drawing) -> &Shared<Snapshot>
         requires { HasAnswer (message_state self.now.calls drawing) }
-        ensures { (i : Input) (st : State) → RepresentsMessages i st (is_live_in st) self.now → snapshot_in st drawing ≡ Some result.now }
+        ensures law { (i : Input) (st : State) → RepresentsMessages i st (is_live_in st) self.now → snapshot_in st drawing ≡ Some (drawn_copies drawing result.now) }
+        ensures seq { seq_of self.now.calls drawing ≡ Some result.now.seq }
     {
         self.slots.copies(drawing)
     }
@@ -361,9 +404,10 @@ impl Workers {
     /// Ends a live drawing, because its call is made or denied, or its thread is dying. A worker at this drawing becomes idle, unless it is
     /// ready: then it still answers, but too late. It takes no memory.
     pub fn cancel(&mut self, drawing: Drawing)
-        requires { is_live_number self.old.calls drawing ≡ true }
+        requires { is_live_drawing self.old.calls drawing ≡ true }
         ensures calls { (keeps : Bool) × (self.new.calls ≡ calls_after_cancel self.old.calls drawing keeps) }
         ensures numbers { (ready : ℕ → Bool) → AreReady ready self.old → CarriesNumbers (without_replaced ready drawing) self.old.calls self.new.calls }
+        ensures fewer { KeepsNumbers self.old.calls self.new.calls }
         ensures ready { (q : ℕ) → IsReadyWith self.new q ↔ IsReadyWith self.old q }
         ensures kept { (i : Input) (messages : ℕ → Message) (turns : ℕ → Option ℕ) (alive later : ℕ → Bool) (posted : ℕ) → RepresentsMachineMessages i messages turns alive posted self.old → ChangesLife alive drawing false later → RepresentsMachineMessages i messages turns later posted self.new }
     {
@@ -375,11 +419,12 @@ impl Workers {
     /// Ends a live drawing, as `cancel` does, and posts its call again under the next drawing, which it returns, with these ids and this
     /// directory. Nothing that was copied or seen is kept. It takes no memory.
     pub fn renew(&mut self, drawing: Drawing, ids: Ids, cwd: Shared<AbsName>) -> Drawing
-        requires live { is_live_number self.old.calls drawing ≡ true }
+        requires live { is_live_drawing self.old.calls drawing ≡ true }
         requires room { self.old.calls.next < 2 ^ 64 - 1 }
         requires few { AreFew self.old.calls }
         requires short { IsShort cwd }
         ensures drawing { result ≡ self.old.calls.next }
+        ensures seq { seq_of self.new.calls result ≡ Some (next_seq self.old.calls) }
         ensures workers { self.new.calls.workers ≡ self.old.calls.workers }
         ensures calls { (keeps : Bool) × (self.new.calls ≡ calls_after_renew self.old.calls drawing keeps) }
         ensures few { AreFew self.new.calls }
@@ -388,8 +433,13 @@ impl Workers {
         ensures kept { (i : Input) (messages : ℕ → Message) (turns : ℕ → Option ℕ) (alive later : ℕ → Bool) (posted : ℕ) (process : Process) → RepresentsMachineMessages i messages turns alive posted self.old → process.ids ≡ ids → process.cwd ≡ cwd → RenewsLife alive drawing (suc posted) later → RepresentsMachineMessages i (messages_renewed process drawing (suc posted) messages) turns later (suc posted) self.new }
     {
         let keeps = leave(&mut self.turns, self.messages.state(drawing));
+        let seq = self.messages.next_seq();
         let fresh = self.messages.renew(drawing, keeps);
-        self.slots.renew(drawing, fresh, ids, cwd);
+        let new = NewNumber {
+            drawing: fresh,
+            seq,
+        };
+        self.slots.renew(drawing, new, ids, cwd);
         fresh
     }
 }

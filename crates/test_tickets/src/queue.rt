@@ -1,8 +1,9 @@
+use st_base::Seq;
 use st_messages::{Ticket, tickets};
 use std::test::*;
 
 // A ticket as a taker gets it.
-fn ticket(place: u64, seq: u64) -> Option<Ticket> {
+fn ticket(place: u64, seq: Seq) -> Option<Ticket> {
     Some(Ticket { place, seq })
 }
 

@@ -1,6 +1,7 @@
 ghost use Rattle.std.specs.Prelude.{◌≡◌, ◌+◌, ◌≤◌, length};
 ghost use Rattle.std.specs.Thread.{IsSync};
 
+use st_base::Seq;
 use st_messages::{Poster, Taker, tickets};
 use std::alloc::{AllocError, Global};
 use std::sync::Wait;
@@ -8,14 +9,14 @@ use std::test::*;
 use std::thread::{Threads, join};
 
 // So many tickets are posted.
-const POSTED: u32 = 2000;
+const POSTED: Seq = 2000;
 
 // Posts so many tickets.
-fn post_all<R: Wait>(rt: &R, poster: &mut Poster, count: u32)
+fn post_all<R: Wait>(rt: &R, poster: &mut Poster, count: Seq)
     requires { length poster.old.tickets + count ≤ poster.old.capacity }
 {
     for seq in 0..count {
-        poster.post(rt, u64::from(seq));
+        poster.post(rt, seq);
     }
 }
 
@@ -85,7 +86,7 @@ fn are_once(times: &[u32]) -> bool {
 #[test]
 fn two_threads_take_each_ticket_once_in_order(rt: HostRuntime) -> Result<(), Fail> {
     let alloc = rt.alloc();
-    let (mut poster, mut takers) = tickets(alloc, POSTED, 2)?;
+    let (mut poster, mut takers) = tickets(alloc, u32::from(POSTED), 2)?;
     post_all(&rt, &mut poster, POSTED);
     let (Some(two), Some(one)) = (takers.pop(), takers.pop()) else {
         return Err(Fail::from(AllocError));

@@ -29,7 +29,7 @@ loop-i-preserved c = elim c.if-ends_with.branch [
       (sym (w.threads-is ∙ ap (set c.loop-i.threads c.loop-i.i) w.make_dying.ensures.thread))
       (subst (λ (left : UnderWay). HaveEnded (λ t. nat_le t (c.loop-i.i + 1) && ends_with c.args.system.now.processes c.args.pid c.args.spared t) c.args.threads.now c.args.workers.now (set c.loop-i.threads c.loop-i.i (record row { dying = true })) left) (sym w.workers-is)
       (next_ended (ends_with c.args.system.now.processes c.args.pid c.args.spared) c.args.threads.now c.args.workers.now c.loop-i.threads c.loop-i.workers c.loop-i.i c.loop-i.invariant
-      (ap (ends_with c.args.system.now.processes c.args.pid c.args.spared) (sym next) ∙ sym c.ends_with.ensures ∙ w.if-ends_with.true) row here w.make_dying.new.workers w.make_dying.ensures.kept))
+      (ap (ends_with c.args.system.now.processes c.args.pid c.args.spared) (sym next) ∙ sym c.ends_with.ensures ∙ w.if-ends_with.true) row here w.make_dying.new.workers w.make_dying.ensures.kept w.make_dying.ensures.numbers))
   | else-ends_with w ↦
       let next : c.loop-i.i + 1 ≡ suc c.loop-i.i = omega arith in
       subst (λ (rows : List ThreadRow). HaveEnded (λ t. nat_le t (c.loop-i.i + 1) && ends_with c.args.system.now.processes c.args.pid c.args.spared t) c.args.threads.now c.args.workers.now rows c.if-ends_with.workers) (sym w.threads-is)

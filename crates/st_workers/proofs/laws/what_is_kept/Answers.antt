@@ -1,6 +1,6 @@
 use Rattle.std.proofs.Common.{refl}
 use Rattle.st_workers.proofs.Closing.{closing_is_not_kept}
-use Rattle.st_workers.proofs.Threads.{others_have_no_number}
+use Rattle.st_workers.proofs.Threads.{others_have_no_drawing}
 use Rattle.st_workers.proofs.laws.what_is_kept.Goals as goal
 
 pub returns-clause-life : goal.returns-clause-life
@@ -16,4 +16,4 @@ pub returns-clause-closing : goal.returns-clause-closing
 returns-clause-closing c = closing_is_not_kept
 
 pub returns-clause-threads : goal.returns-clause-threads
-returns-clause-threads c = others_have_no_number
+returns-clause-threads c = others_have_no_drawing

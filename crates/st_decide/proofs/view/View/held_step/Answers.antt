@@ -4,7 +4,7 @@ use Rattle.st_messages.specs.declared.message.MsgState.{MsgState}
 use Rattle.st_messages.specs.declared.message.MsgState.TheVariants.{Answered, Faulted}
 use Rattle.st_workers.specs.Refinement.{IsMessageStateOf}
 use Rattle.st_decide.specs.Machine.{Refines, Running}
-use Rattle.st_decide.specs.NextSteps.{CanBeDone, HoldsNumber, IsDecidedStep, IsHeldStep}
+use Rattle.st_decide.specs.NextSteps.{CanBeDone, HoldsDrawing, IsDecidedStep, IsHeldStep}
 use Rattle.st_decide.specs.Step.{step_entry}
 use Rattle.st_decide.specs.declared.step.Step.TheVariants as steps
 use Rattle.st_decide.proofs.NextSteps.{held_is, held_live, held_waits, if_ok}
@@ -32,7 +32,7 @@ returns-in-Faulted-clause-step c =
 pub returns-in_default-clause-step : goal.returns-in_default-clause-step
 returns-in_default-clause-step c =
     let m : Running = running_of c.self.inside in
-    let holds : HoldsNumber m c.args.caller.tid c.args.caller.pid c.args.drawing = subst (λ (k : Running). HoldsNumber k c.args.caller.tid c.args.caller.pid c.args.drawing) (sym c.self.view_is) c.requires in
+    let holds : HoldsDrawing m c.args.caller.tid c.args.caller.pid c.args.drawing = subst (λ (k : Running). HoldsDrawing k c.args.caller.tid c.args.caller.pid c.args.drawing) (sym c.self.view_is) c.requires in
     let held : IsHeldStep m c.args.caller.tid c.args.drawing steps.Wait = λ st is.
     held_waits m st is c.args.caller.tid c.args.drawing None (c.in_default.ensures.law m.input st is.workers) (held_live m st is c.args.caller.tid c.args.caller.pid c.args.drawing holds.entered holds.pending holds.held) (λ v e. absurd cc) (λ errno e. absurd cc) in
     subst (λ (k : Running). IsHeldStep k c.args.caller.tid c.args.drawing steps.Wait) c.self.view_is held

@@ -1,4 +1,4 @@
-use Rattle.std.proofs.Common.{◌≡◌, ℕ, Bool, true, subst}
+use Rattle.std.proofs.Common.{◌≡◌, ℕ, true, subst}
 use Rattle.std.specs.Prelude.{is_some, IfSome}
 use Rattle.st_law.specs.State.{State, is_live}
 use Rattle.st_decide.specs.Machine.{Refines, Running}

@@ -4,6 +4,7 @@ use Rattle.st_calls.specs.declared.judged.Snapshot.{Snapshot}
 use Rattle.st_exec_fs.specs.Open.{IsNoLink}
 use Rattle.st_names.specs.Name.{Components}
 use Rattle.st_law.specs.Machine.{permitted_entry}
+use Rattle.st_workers.specs.Refinement.{drawn_copies}
 use Rattle.st_system.specs.Fit.{first_name}
 use Rattle.st_decide.specs.Machine.{Running}
 use Rattle.st_decide.specs.NextSteps.{CanBeDone, IsFit, IsInProcess, IsPermittedStep}
@@ -20,10 +21,11 @@ pub returns-in-Some-clause-step : goal.returns-in-Some-clause-step
 returns-in-Some-clause-step c =
     let m : Running = running_of c.self.inside in
     let copies : Snapshot = c.get-copies.result.now in
-    let sealed = shared_are m c.args.drawing c.snapshot-shared.result.now copies c.get-copies.ensures c.snapshot-shared.ensures in
+    let drawn : Snapshot = drawn_copies c.args.drawing copies in
+    let sealed = shared_are m c.args.drawing (drawn_copies c.args.drawing c.snapshot-shared.result.now) drawn (ap (drawn_copies c.args.drawing) c.get-copies.ensures) c.snapshot-shared.ensures.law in
     let next : IsPermittedStep m c.args.caller.tid c.args.drawing c.args.ids c.deny.result = λ st is s s_is.
-    permitted_is m st is c.args.caller.tid c.args.drawing c.args.ids copies s c.as_slice.result.now c.in_ok-link.link m.input.options.aliasing sealed c.in_ok-link.ensures.link refl c.as_slice.ensures s_is
-    ∙ ap (λ (o : Option Components). Some (permitted_entry m.input st c.args.caller.tid c.args.drawing copies c.args.ids o)) c.in-Some.is
+    permitted_is m st is c.args.caller.tid c.args.drawing c.args.ids drawn s c.as_slice.result.now c.in_ok-link.link m.input.options.aliasing sealed c.in_ok-link.ensures.link refl c.as_slice.ensures s_is
+    ∙ ap (λ (o : Option Components). Some (permitted_entry m.input st c.args.caller.tid c.args.drawing drawn c.args.ids o)) c.in-Some.is
     ∙ ap (step_entry m.input st c.args.caller.tid) (sym c.deny.ensures) in
     subst (λ (k : Running). IsPermittedStep k c.args.caller.tid c.args.drawing c.args.ids c.deny.result) c.self.view_is next
 
@@ -31,12 +33,13 @@ pub returns-in_ok-share-in-None-clause-step : goal.returns-in_ok-share-in-None-c
 returns-in_ok-share-in-None-clause-step c =
     let m : Running = running_of c.self.inside in
     let copies : Snapshot = c.get-copies.result.now in
-    let sealed = shared_are m c.args.drawing c.snapshot-shared.result.now copies c.get-copies.ensures c.snapshot-shared.ensures in
+    let drawn : Snapshot = drawn_copies c.args.drawing copies in
+    let sealed = shared_are m c.args.drawing (drawn_copies c.args.drawing c.snapshot-shared.result.now) drawn (ap (drawn_copies c.args.drawing) c.get-copies.ensures) c.snapshot-shared.ensures.law in
     let ready : List ArgText → Step = λ args. steps.Make (record { pid = c.args.caller.pid; drawing = Some c.args.drawing; call = copies.call; regs = copies.regs; args = args; ids = c.args.ids }) in
     let step : Step = ready copies.parts in
     let next : IsPermittedStep m c.args.caller.tid c.args.drawing c.args.ids step = λ st is s s_is.
-    permitted_is m st is c.args.caller.tid c.args.drawing c.args.ids copies s c.as_slice.result.now c.in_ok-link.link m.input.options.aliasing sealed c.in_ok-link.ensures.link refl c.as_slice.ensures s_is
-    ∙ ap (λ (o : Option Components). Some (permitted_entry m.input st c.args.caller.tid c.args.drawing copies c.args.ids o)) c.in-None.is in
+    permitted_is m st is c.args.caller.tid c.args.drawing c.args.ids drawn s c.as_slice.result.now c.in_ok-link.link m.input.options.aliasing sealed c.in_ok-link.ensures.link refl c.as_slice.ensures s_is
+    ∙ ap (λ (o : Option Components). Some (permitted_entry m.input st c.args.caller.tid c.args.drawing drawn c.args.ids o)) c.in-None.is in
     let held : copies.parts ≡ c.judged.result = ap (λ (s : Snapshot). s.parts) (c.get-copies.ensures ∙ sym c.in_ok-share-in-None.ensures) ∙ sym c.judged.ensures in
     subst (λ (args : List ArgText). IsPermittedStep c.args.self.now c.args.caller.tid c.args.drawing c.args.ids (ready args)) held
     (subst (λ (k : Running). IsPermittedStep k c.args.caller.tid c.args.drawing c.args.ids step) c.self.view_is next)
@@ -48,12 +51,13 @@ pub returns-in_ok-share-in-None-clause-can : goal.returns-in_ok-share-in-None-cl
 returns-in_ok-share-in-None-clause-can c =
     let m : Running = running_of c.self.inside in
     let copies : Snapshot = c.get-copies.result.now in
-    let sealed = shared_are m c.args.drawing c.snapshot-shared.result.now copies c.get-copies.ensures c.snapshot-shared.ensures in
+    let drawn : Snapshot = drawn_copies c.args.drawing copies in
+    let sealed = shared_are m c.args.drawing (drawn_copies c.args.drawing c.snapshot-shared.result.now) drawn (ap (drawn_copies c.args.drawing) c.get-copies.ensures) c.snapshot-shared.ensures.law in
     let ready : List ArgText → ReadyCall = λ args. record { pid = c.args.caller.pid; drawing = Some c.args.drawing; call = copies.call; regs = copies.regs; args = args; ids = c.args.ids } in
     let held : copies.parts ≡ c.judged.result = ap (λ (s : Snapshot). s.parts) (c.get-copies.ensures ∙ sym c.in_ok-share-in-None.ensures) ∙ sym c.judged.ensures in
     let fit : IsFit m.system c.args.caller.tid (ready copies.parts) = record {
       caller = subst (λ (k : Running). IsInProcess k.system c.args.caller.tid c.args.caller.pid) (sym c.self.view_is) c.requires.process;
-      fit = copies_fit m c.self.invariant.state c.self.invariant.is c.args.drawing copies (sealed m.input c.self.invariant.state c.self.invariant.is.workers);
+      fit = copies_fit m c.self.invariant.state c.self.invariant.is c.args.drawing drawn (sealed m.input c.self.invariant.state c.self.invariant.is.workers);
       unlinked = λ follow. subst (λ (args : List ArgText). IsNoLink m.system.tree (first_name args)) c.as_slice.ensures (c.in_ok-link.ensures.unlinked c.in-None.is follow);
     } in
     subst (λ (args : List ArgText). IsFit c.args.self.now.system c.args.caller.tid (ready args)) held (subst (λ (k : Running). IsFit k.system c.args.caller.tid (ready copies.parts)) c.self.view_is fit)

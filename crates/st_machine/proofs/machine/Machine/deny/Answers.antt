@@ -4,13 +4,15 @@ use Rattle.st_trace.specs.declared.entry.Choice.TheVariants as choice
 use Rattle.st_trace.specs.declared.entry.Entry.{Entry}
 use Rattle.st_trace.specs.declared.entry.Entry.TheVariants as entry
 use Rattle.st_workers.proofs.Turns.{read_is}
-use Rattle.st_decide.specs.Machine.{IsNextStep, IsStep, Running}
+use Rattle.st_decide.specs.Machine.{IsNextStep, IsDrawnStep, Running}
 use Rattle.st_threads.specs.Thread.{ThreadRow}
 use Rattle.st_decide.specs.declared.step.Step.TheVariants as steps
 use Rattle.st_machine.proofs.After.{with_parts}
 use Rattle.st_machine.proofs.Moving.{denied_lives, denied_step, place_in, row_here}
 use Rattle.st_machine.proofs.Running.{running_of}
 use Rattle.st_machine.proofs.Served.{left_as, running_step}
+use Rattle.st_workers.specs.Numbers.{IsNumbered}
+use Rattle.st_machine.proofs.EntryNumbers.{denied_has}
 use Rattle.st_machine.proofs.machine.Machine.deny.Goals as goal
 
 pub overflow_sub-tid : goal.overflow_sub-tid
@@ -20,6 +22,11 @@ pub index_mut-requires : goal.index_mut-requires
 index_mut-requires c =
     let place = (place_in (running_of c.self.inside) c.args.self.now c.self.view_is c.self.invariant c.args.tid (steps.Deny c.args.denied) (λ i st. (_, refl)) c.requires).1 in
     omega (arith, place)
+
+pub seq_if-seq-requires : goal.seq_if-seq-requires
+seq_if-seq-requires c =
+    let m : Running = running_of c.self.inside in
+    denied_lives m c.args.tid c.args.denied.errno c.args.denied.cause c.args.denied.drawing (subst (λ (k : Running). IsNextStep k c.args.tid (steps.Deny c.args.denied)) (sym c.self.view_is) c.requires) c.self.invariant.state c.self.invariant.is
 
 pub end_call-requires : goal.end_call-requires
 end_call-requires c =
@@ -46,14 +53,14 @@ new c row = with_parts (old c) (old c).system c.end_call.new.workers (set (old c
 put : (c : goal.After-leave) → c.close.new.self ≡ record (row c).0 { pending = None }
 put c = c.close.ensures ∙ ap (λ (r : ThreadRow). record r { pending = None }) (read_is (old c).threads c.args.tid (row c).0 c.index_mut.result.now (row c).1 c.index_mut.ensures.value)
 
-step : (c : goal.After-leave) → IsStep (old c) (choice.Thread c.args.tid) (Some (added c)) (new c c.close.new.self)
-step c = subst (λ (r : ThreadRow). IsStep (old c) (choice.Thread c.args.tid) (Some (added c)) (new c r)) (sym (put c))
-    (denied_step (old c) c.args.tid c.args.denied.errno c.args.denied.cause c.args.denied.drawing (next c) c.end_call.new.workers (row c).0 (row c).1 c.end_call.ensures)
+step : (c : goal.After-leave) → IsDrawnStep (old c) (choice.Thread c.args.tid) (added c) (new c c.close.new.self)
+step c = subst (λ (r : ThreadRow). IsDrawnStep (old c) (choice.Thread c.args.tid) (added c) (new c r)) (sym (put c))
+    (denied_step (old c) c.args.tid c.args.denied.errno c.args.denied.cause c.args.denied.drawing (next c) c.end_call.new.workers (row c).0 (row c).1 c.end_call.ensures.kept c.end_call.ensures.numbers)
 
 pub invariant_of-self : goal.invariant_of-self
 invariant_of-self c = running_step (old c) (new c c.close.new.self) (choice.Thread c.args.tid) (added c) c.self.invariant (step c)
 
 pub returns-clause-step : goal.returns-clause-step
-returns-clause-step c = left_as _ _ (choice.Thread c.args.tid) _ _ c.leave.ensures
-    (subst (λ (k : Running). IsStep k (choice.Thread c.args.tid) (Some c.entry.result) (new c c.close.new.self)) c.self.view_is
-    (subst (λ (e : Entry). IsStep (old c) (choice.Thread c.args.tid) (Some e) (new c c.close.new.self)) (sym c.entry.ensures) (step c)))
+returns-clause-step c = left_as (old c) _ _ c.self.view_is (choice.Thread c.args.tid) _ _ _ c.leave.ensures (step c)
+    (subst (λ (given : Entry). IsNumbered (added c) given (old c).workers) (sym c.entry.ensures)
+    (denied_has (old c).workers c.args.denied.drawing c.seq_if-seq.result (denied_lives (old c) c.args.tid c.args.denied.errno c.args.denied.cause c.args.denied.drawing (next c) c.self.invariant.state c.self.invariant.is) c.seq_if-seq.ensures c.args.tid c.args.denied.errno c.args.denied.cause))

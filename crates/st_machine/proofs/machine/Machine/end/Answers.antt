@@ -3,7 +3,7 @@ use Rattle.st_base.specs.Numbered.{item_at_number}
 use Rattle.st_trace.specs.declared.entry.Choice.TheVariants as choice
 use Rattle.st_trace.specs.declared.entry.Entry.TheVariants as entry
 use Rattle.st_workers.proofs.Turns.{read_is}
-use Rattle.st_decide.specs.Machine.{IsNextStep, IsStep, Running}
+use Rattle.st_decide.specs.Machine.{IsNextStep, IsDrawnStep, Running}
 use Rattle.st_threads.specs.Thread.{ThreadRow}
 use Rattle.st_decide.specs.declared.step.Step.TheVariants as steps
 use Rattle.st_machine.proofs.After.{with_parts}
@@ -35,11 +35,12 @@ new c row = with_parts (old c) c.end_thread.new.self (old c).workers (set (old c
 put : (c : goal.After-leave) → c.end.new.self ≡ record (row c).0 { ended = true }
 put c = c.end.ensures ∙ ap (λ (r : ThreadRow). record r { ended = true }) (read_is (old c).threads c.args.tid (row c).0 c.index_mut.result.now (row c).1 c.index_mut.ensures.value)
 
-step : (c : goal.After-leave) → IsStep (old c) (choice.Thread c.args.tid) (Some (entry.Ended c.args.tid)) (new c c.end.new.self)
-step c = subst (λ (r : ThreadRow). IsStep (old c) (choice.Thread c.args.tid) (Some (entry.Ended c.args.tid)) (new c r)) (sym (put c)) (ended_step (old c) c.args.tid (next c) c.end_thread.new.self (row c).0 (row c).1 c.end_thread.ensures)
+step : (c : goal.After-leave) → IsDrawnStep (old c) (choice.Thread c.args.tid) (entry.Ended c.args.tid) (new c c.end.new.self)
+step c = subst (λ (r : ThreadRow). IsDrawnStep (old c) (choice.Thread c.args.tid) (entry.Ended c.args.tid) (new c r)) (sym (put c)) (ended_step (old c) c.args.tid (next c) c.end_thread.new.self (row c).0 (row c).1 c.end_thread.ensures)
 
 pub invariant_of-self : goal.invariant_of-self
 invariant_of-self c = running_step (old c) (new c c.end.new.self) (choice.Thread c.args.tid) (entry.Ended c.args.tid) c.self.invariant (step c)
 
 pub returns-clause-step : goal.returns-clause-step
-returns-clause-step c = left_as _ _ (choice.Thread c.args.tid) _ _ c.leave.ensures (subst (λ (k : Running). IsStep k (choice.Thread c.args.tid) (Some (entry.Ended c.args.tid)) (new c c.end.new.self)) c.self.view_is (step c))
+returns-clause-step c = left_as (old c) _ _ c.self.view_is (choice.Thread c.args.tid) _ _ _ c.leave.ensures (step c)
+    (λ ready are numbers has. refl)

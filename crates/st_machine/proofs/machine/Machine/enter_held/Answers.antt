@@ -10,7 +10,7 @@ use Rattle.st_law.specs.State.{State}
 use Rattle.st_workers.specs.Refinement.{head_of}
 use Rattle.st_workers.proofs.Turns.{read_is}
 use Rattle.st_decide.specs.Entering.{IsHeadOf, IsWayOf}
-use Rattle.st_decide.specs.Machine.{Refines, IsNextStep, IsStep, Running, SameState}
+use Rattle.st_decide.specs.Machine.{Refines, IsNextStep, IsDrawnStep, Running, SameState}
 use Rattle.st_threads.specs.Thread.{ThreadRow, row_entered}
 use Rattle.st_decide.specs.declared.step.NewCall.{NewCall}
 use Rattle.st_decide.specs.declared.step.Step.TheVariants as steps
@@ -18,9 +18,11 @@ use Rattle.st_machine.proofs.After.{with_parts}
 use Rattle.st_machine.proofs.Entered.{held_step, no_number}
 use Rattle.st_machine.proofs.Moving.{row_entering}
 use Rattle.st_decide.proofs.NextSteps.{owner_is}
-use Rattle.st_machine.proofs.Room.{few_calls, room_left}
+use Rattle.st_decide.proofs.FewCalls.{few_calls}
+use Rattle.st_machine.proofs.Room.{room_left}
 use Rattle.st_machine.proofs.Served.{left_as, on_err, running_stands, running_step, stands_so, with_workers}
 use Rattle.st_machine.proofs.Running.{running_of}
+use Rattle.st_machine.proofs.EntryNumbers.{held_has}
 use Rattle.st_machine.proofs.machine.Machine.enter_held.Goals as goal
 
 pub post-requires-clause-thread : goal.post-requires-clause-thread
@@ -40,17 +42,20 @@ post-requires-clause-few c = few_calls (running_of c.self.inside) c.self.invaria
 pub post-requires-clause-drawing : goal.post-requires-clause-drawing
 post-requires-clause-drawing c = (subst (λ (k : Running). IsHeadOf k c.args.new.now c.in_ok-head.head) (c.view.ensures ∙ sym c.self.view_is) c.in_ok-head.ensures).drawing_is
 
+pub post-requires-clause-seq : goal.post-requires-clause-seq
+post-requires-clause-seq c = (subst (λ (k : Running). IsHeadOf k c.args.new.now c.in_ok-head.head) (c.view.ensures ∙ sym c.self.view_is) c.in_ok-head.ensures).seq_is
+
 -- out of memory
 
 pub invariant_of-self : goal.invariant_of-self
 invariant_of-self c =
     let m : Running = running_of c.self.inside in
-    running_stands m (with_workers m c.post.new.self) c.self.invariant (stands_so m c.post.new.self c.in_err-post.ensures.err)
+    running_stands m (with_workers m c.post.new.self) c.self.invariant (stands_so m c.post.new.self c.in_err-post.ensures.err c.in_err-post.ensures.unchanged)
 
 pub returns-in_err-post-clause-err : goal.returns-in_err-post-clause-err
 returns-in_err-post-clause-err c =
     let m : Running = running_of c.self.inside in
-    on_err c.from_residual-in_err-post.result (subst (λ (k : Running). SameState k (with_workers m c.post.new.self)) c.self.view_is (stands_so m c.post.new.self c.in_err-post.ensures.err))
+    on_err c.from_residual-in_err-post.result (subst (λ (k : Running). SameState k (with_workers m c.post.new.self)) c.self.view_is (stands_so m c.post.new.self c.in_err-post.ensures.err c.in_err-post.ensures.unchanged))
 
 -- after the message is posted
 
@@ -89,12 +94,13 @@ head c st is =
     let process = ap (λ (k : Running). pid_of k.system.processes c.args.tid) c.self.view_is ∙ c.requires.step.can.process in
     (posted c).law st c.args.tid is ∙ ap (λ (pid : ℕ). new_head (old c).input c.args.tid pid (st.processes pid) (call c).call (call c).regs) (sym (owner_is (old c) st is c.args.tid (call c).pid process))
 
-step : (c : goal.After-leave) → IsStep (old c) (choice.Thread c.args.tid) (Some (added c)) (new c c.enter.new.self)
-step c = subst (λ (r : ThreadRow). IsStep (old c) (choice.Thread c.args.tid) (Some (added c)) (new c r)) (sym (put c))
-    (held_step (old c) c.args.tid (call c) (next c) (row c).0 (row c).1 c.in_ok-head.head.drawing (goes c) c.post.new.self c.in_ok-head.head (head c) c.in_ok-post.ensures.kept)
+step : (c : goal.After-leave) → IsDrawnStep (old c) (choice.Thread c.args.tid) (added c) (new c c.enter.new.self)
+step c = subst (λ (r : ThreadRow). IsDrawnStep (old c) (choice.Thread c.args.tid) (added c) (new c r)) (sym (put c))
+    (held_step (old c) c.args.tid (call c) (next c) (row c).0 (row c).1 c.in_ok-head.head.drawing (goes c) c.post.new.self c.in_ok-head.head (head c) c.in_ok-post.ensures.kept c.in_ok-post.ensures.numbers)
 
 pub invariant_of-self-2 : goal.invariant_of-self-2
 invariant_of-self-2 c = running_step (old c) (new c c.enter.new.self) (choice.Thread c.args.tid) (added c) c.self.invariant (step c)
 
 pub returns-clause-step : goal.returns-clause-step
-returns-clause-step c = left_as _ _ (choice.Thread c.args.tid) _ _ c.leave.ensures (subst (λ (k : Running). IsStep k (choice.Thread c.args.tid) (Some (added c)) (new c c.enter.new.self)) c.self.view_is (step c))
+returns-clause-step c = left_as (old c) _ _ c.self.view_is (choice.Thread c.args.tid) _ _ _ c.leave.ensures (step c)
+    (held_has (old c).workers c.self.invariant.is.workers.numbered.calls c.args.tid c.in_ok-head.head.drawing c.in_ok-head.head.seq (call c).call (call c).regs (posted c).seq_is)

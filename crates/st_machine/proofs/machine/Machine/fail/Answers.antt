@@ -1,9 +1,8 @@
 use Rattle.std.proofs.Common.{◌≡◌, ◌-◌, ◌∙◌, None, Some, ap, refl, set, sym, subst, arith}
 use Rattle.st_base.specs.Numbered.{item_at_number}
 use Rattle.st_trace.specs.declared.entry.Choice.TheVariants as choice
-use Rattle.st_trace.specs.declared.entry.Entry.{Entry}
 use Rattle.st_workers.proofs.Turns.{read_is}
-use Rattle.st_decide.specs.Machine.{IsNextStep, IsStep, Running}
+use Rattle.st_decide.specs.Machine.{IsNextStep, IsDrawnStep, Running}
 use Rattle.st_threads.specs.Thread.{ThreadRow}
 use Rattle.st_decide.specs.declared.step.Step.TheVariants as steps
 use Rattle.st_machine.proofs.After.{with_parts}
@@ -35,13 +34,12 @@ new c row = with_parts (old c) (old c).system (old c).workers (set (old c).threa
 put : (c : goal.After-leave) → c.close.new.self ≡ record (row c).0 { pending = None }
 put c = c.close.ensures ∙ ap (λ (r : ThreadRow). record r { pending = None }) (read_is (old c).threads c.args.tid (row c).0 c.index_mut.result.now (row c).1 c.index_mut.ensures.value)
 
-step : (c : goal.After-leave) → IsStep (old c) (choice.Thread c.args.tid) (Some (entry_failed c.args.tid c.args.failed)) (new c c.close.new.self)
-step c = subst (λ (r : ThreadRow). IsStep (old c) (choice.Thread c.args.tid) (Some (entry_failed c.args.tid c.args.failed)) (new c r)) (sym (put c)) (failed_step (old c) c.args.tid c.args.failed (next c) (row c).0 (row c).1)
+step : (c : goal.After-leave) → IsDrawnStep (old c) (choice.Thread c.args.tid) (entry_failed c.args.tid c.args.failed) (new c c.close.new.self)
+step c = subst (λ (r : ThreadRow). IsDrawnStep (old c) (choice.Thread c.args.tid) (entry_failed c.args.tid c.args.failed) (new c r)) (sym (put c)) (failed_step (old c) c.args.tid c.args.failed (next c) (row c).0 (row c).1)
 
 pub invariant_of-self : goal.invariant_of-self
 invariant_of-self c = running_step (old c) (new c c.close.new.self) (choice.Thread c.args.tid) (entry_failed c.args.tid c.args.failed) c.self.invariant (step c)
 
 pub returns-clause-step : goal.returns-clause-step
-returns-clause-step c = left_as _ _ (choice.Thread c.args.tid) _ _ c.leave.ensures
-    (subst (λ (k : Running). IsStep k (choice.Thread c.args.tid) (Some c.entry.result) (new c c.close.new.self)) c.self.view_is
-    (subst (λ (e : Entry). IsStep (old c) (choice.Thread c.args.tid) (Some e) (new c c.close.new.self)) (sym c.entry.ensures) (step c)))
+returns-clause-step c = left_as (old c) _ _ c.self.view_is (choice.Thread c.args.tid) _ _ _ c.leave.ensures (step c)
+    (λ ready are numbers has. c.entry.ensures)

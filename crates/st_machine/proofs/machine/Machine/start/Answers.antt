@@ -1,4 +1,6 @@
 use Rattle.st_law.specs.Machine.{first_state}
+use Rattle.st_law.specs.Numbers.{no_numbers}
+use Rattle.st_workers.proofs.InUse.{rebased}
 use Rattle.st_decide.specs.Machine.{Refines}
 use Rattle.st_machine.proofs.Begun.{begun}
 use Rattle.st_machine.proofs.machine.Machine.start.Goals as goal
@@ -13,3 +15,6 @@ invariant_of-result c = record { state = first_state c.args.input.now; is = firs
 
 pub returns-clause-first : goal.returns-clause-first
 returns-clause-first c = first c
+
+pub returns-clause-numbers : goal.returns-clause-numbers
+returns-clause-numbers c = rebased c.args.input.now (first_state c.args.input.now) c.in_ok-parts.parts.workers (first c).workers no_numbers no_numbers.in_use c.in_ok-parts.ensures.numbers

@@ -3,7 +3,7 @@ use Rattle.st_base.specs.Numbered.{item_at_number}
 use Rattle.st_trace.specs.declared.entry.Choice.TheVariants as choice
 use Rattle.st_trace.specs.declared.entry.Entry.TheVariants as entry
 use Rattle.st_workers.proofs.Turns.{read_is}
-use Rattle.st_decide.specs.Machine.{IsNextStep, IsStep, Running, SameState}
+use Rattle.st_decide.specs.Machine.{IsNextStep, IsDrawnStep, Running, SameState}
 use Rattle.st_system.specs.System.{Parts}
 use Rattle.st_threads.specs.Thread.{ThreadRow}
 use Rattle.st_decide.specs.declared.step.Step.TheVariants as steps
@@ -36,14 +36,15 @@ new c row = with_parts (old c) c.store.new.self (old c).workers (set (old c).thr
 put : (c : goal.After-leave) → c.go_on.new.self ≡ record (row c).0 { left = drop 1 (row c).0.left }
 put c = c.go_on.ensures ∙ ap (λ (r : ThreadRow). record r { left = drop 1 r.left }) (read_is (old c).threads c.args.tid (row c).0 c.index_mut.result.now (row c).1 c.index_mut.ensures.value)
 
-step : (c : goal.After-leave) → IsStep (old c) (choice.Thread c.args.tid) (Some (entry.Stored c.args.tid c.args.stored.place c.args.stored.word)) (new c c.go_on.new.self)
-step c = subst (λ (r : ThreadRow). IsStep (old c) (choice.Thread c.args.tid) (Some (entry.Stored c.args.tid c.args.stored.place c.args.stored.word)) (new c r)) (sym (put c)) (stored_step (old c) c.args.tid c.args.stored (next c) c.store.new.self (row c).0 (row c).1 c.in_ok-store.ensures.system)
+step : (c : goal.After-leave) → IsDrawnStep (old c) (choice.Thread c.args.tid) (entry.Stored c.args.tid c.args.stored.place c.args.stored.word) (new c c.go_on.new.self)
+step c = subst (λ (r : ThreadRow). IsDrawnStep (old c) (choice.Thread c.args.tid) (entry.Stored c.args.tid c.args.stored.place c.args.stored.word) (new c r)) (sym (put c)) (stored_step (old c) c.args.tid c.args.stored (next c) c.store.new.self (row c).0 (row c).1 c.in_ok-store.ensures.system)
 
 pub invariant_of-self-2 : goal.invariant_of-self-2
 invariant_of-self-2 c = running_step (old c) (new c c.go_on.new.self) (choice.Thread c.args.tid) (entry.Stored c.args.tid c.args.stored.place c.args.stored.word) c.self.invariant (step c)
 
 pub returns-clause-step : goal.returns-clause-step
-returns-clause-step c = left_as _ _ (choice.Thread c.args.tid) _ _ c.leave.ensures (subst (λ (k : Running). IsStep k (choice.Thread c.args.tid) (Some (entry.Stored c.args.tid c.args.stored.place c.args.stored.word)) (new c c.go_on.new.self)) c.self.view_is (step c))
+returns-clause-step c = left_as (old c) _ _ c.self.view_is (choice.Thread c.args.tid) _ _ _ c.leave.ensures (step c)
+    (λ ready are numbers has. refl)
 
 pub store-requires-clause-place : goal.store-requires-clause-place
 store-requires-clause-place c =
@@ -64,7 +65,7 @@ abbrev refused : goal.After-from_residual → Running
 refused c = with_parts (before c) c.store.new.self (before c).workers (before c).threads
 
 stands : (c : goal.After-from_residual) → SameState (before c) (refused c)
-stands c = subst (λ (s : Parts). SameState (before c) (with_parts (before c) s (before c).workers (before c).threads)) (sym c.in_err-store.ensures.err) (λ st is. is)
+stands c = subst (λ (s : Parts). SameState (before c) (with_parts (before c) s (before c).workers (before c).threads)) (sym c.in_err-store.ensures.err) (λ st is. (is, refl))
 
 pub invariant_of-self : goal.invariant_of-self
 invariant_of-self c = running_stands (before c) (refused c) c.self.invariant (stands c)

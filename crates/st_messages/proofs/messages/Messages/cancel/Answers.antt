@@ -1,5 +1,5 @@
 use Rattle.std.proofs.Common.{◌≡◌, ◌∙◌, ◌++◌, Some, None, ap, sym, subst}
-use Rattle.st_messages.specs.Messages.{HeldCalls, calls_after_cancel, kept_of_message, message_of_number, seq_left, without_number, AreValidCalls, ChangesSeq, ChangesState, ChangesKept}
+use Rattle.st_messages.specs.Messages.{HeldCalls, calls_after_cancel, kept_of_message, message_of_drawing, seq_left, without_drawing, AreValidCalls, ChangesSeq, ChangesState, ChangesKept}
 use Rattle.st_messages.proofs.Ahead.{ahead_cancelled, AreAhead}
 use Rattle.st_messages.proofs.Seqs.{seqs_cancelled, kept_cancelled}
 use Rattle.st_messages.proofs.Whole.{states_cancelled, whole-cancelled}
@@ -8,14 +8,14 @@ use Rattle.st_messages.proofs.messages.Messages.cancel.Goals as goal
 whole : (c : goal.After-add_if) → AreValidCalls c.args.self.now
 whole c = subst AreValidCalls c.self.view_is c.self.invariant.0
 
-found : (c : goal.After-add_if) → message_of_number c.args.self.now c.args.drawing ≡ Some c.take-message.result
-found c = sym (ap (λ (calls : HeldCalls). message_of_number calls c.args.drawing) c.self.view_is) ∙ c.take-message.ensures.message
+found : (c : goal.After-add_if) → message_of_drawing c.args.self.now c.args.drawing ≡ Some c.take-message.result
+found c = sym (ap (λ (calls : HeldCalls). message_of_drawing calls c.args.drawing) c.self.view_is) ∙ c.take-message.ensures.message
 
 left : (c : goal.After-add_if) → record { workers = c.self.inside.workers; next = c.self.inside.next; greatest = 65535; last = c.self.inside.last; live = c.take-message.new.live.items; kept = c.add_if.new.self } ≡ calls_after_cancel c.args.self.now c.args.drawing c.args.kept
 left c =
     let inside : HeldCalls = record { workers = c.self.inside.workers; next = c.self.inside.next; greatest = 65535; last = c.self.inside.last; live = c.self.inside.live.items; kept = c.self.inside.kept } in
     (λ i. record inside { live = c.take-message.ensures.others i; kept = c.add_if.ensures i })
-    ∙ sym (ap (λ o. record inside { live = without_number inside.live c.args.drawing; kept = inside.kept ++ kept_of_message c.args.kept o }) c.take-message.ensures.message)
+    ∙ sym (ap (λ o. record inside { live = without_drawing inside.live c.args.drawing; kept = inside.kept ++ kept_of_message c.args.kept o }) c.take-message.ensures.message)
     ∙ ap (λ (calls : HeldCalls). calls_after_cancel calls c.args.drawing c.args.kept) c.self.view_is
 
 pub invariant_of-self : goal.invariant_of-self

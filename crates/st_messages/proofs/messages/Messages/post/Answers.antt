@@ -2,7 +2,7 @@ use Rattle.std.proofs.Common.{◌≡◌, ◌+◌, ◌∙◌, add-one, ap, refl, 
 use Rattle.std.proofs.lemmas.Bool.{eq-eqb}
 use Rattle.std.specs.Option.{option_map}
 use Rattle.st_messages.specs.Circle.{AreFreeAhead}
-use Rattle.st_messages.specs.Messages.{seqs_in_use, seqs_in, HeldCalls, calls_after_post, calls_after_post_as, next_seq, thread_of_number, AreValidCalls, ChangesSeq, ChangesState}
+use Rattle.st_messages.specs.Messages.{seqs_in_use, seqs_in, HeldCalls, calls_after_post, calls_after_post_as, next_seq, thread_of_drawing, AreValidCalls, ChangesSeq, ChangesState}
 use Rattle.st_messages.specs.declared.message.Message.{Message}
 use Rattle.st_messages.specs.declared.message.MsgState.TheVariants.{Waiting}
 use Rattle.st_messages.proofs.Ahead.{ahead_posted, AreAhead}
@@ -51,4 +51,4 @@ returns-clause-seqs c = subst (ChangesSeq c.args.self.now c.args.self.now.next (
 pub returns-clause-thread : goal.returns-clause-thread
 returns-clause-thread c =
     let now = c.args.self.now in
-    ap (λ (calls : HeldCalls). thread_of_number calls now.next) (left c) ∙ threads_posted now c.args.tid (next_seq now) (whole c) now.next ∙ rw (eq-eqb now.next now.next refl) refl
+    ap (λ (calls : HeldCalls). thread_of_drawing calls now.next) (left c) ∙ threads_posted now c.args.tid (next_seq now) (whole c) now.next ∙ rw (eq-eqb now.next now.next refl) refl

@@ -1,7 +1,7 @@
 use Rattle.std.proofs.Common.{◌≡◌, ◌+◌, ◌∙◌, List, [], ◌∷◌, ◌++◌, add-one, ap, Some, sym, subst}
 use Rattle.std.specs.Option.{option_map}
 use Rattle.st_messages.specs.Circle.{AreFreeAhead}
-use Rattle.st_messages.specs.Messages.{seqs_in, seqs_in_use, HeldCalls, calls_after_cancel, calls_after_post_as, calls_after_renew, calls_after_renew_of, next_seq, kept_of_message, message_of_number, thread_of_number, waiting_message, AreValidCalls, RenewsSeq, RenewsState, ChangesKept}
+use Rattle.st_messages.specs.Messages.{seqs_in, seqs_in_use, HeldCalls, calls_after_cancel, calls_after_post_as, calls_after_renew, calls_after_renew_of, next_seq, kept_of_message, message_of_drawing, thread_of_drawing, waiting_message, AreValidCalls, RenewsSeq, RenewsState, ChangesKept}
 use Rattle.st_messages.specs.declared.message.Message.{Message}
 use Rattle.st_messages.proofs.Ahead.{ahead_renewed, AreAhead}
 use Rattle.st_messages.proofs.Whole.{next_free, next_none, seqs_renewed, states_renewed, thread_renewed, whole-renewed, kept_renewed}
@@ -10,8 +10,8 @@ use Rattle.st_messages.proofs.messages.Messages.renew.Goals as goal
 whole : (c : goal.After-push_back_reserved) → AreValidCalls c.args.self.now
 whole c = subst AreValidCalls c.self.view_is c.self.invariant.0
 
-found : (c : goal.After-push_back_reserved) → message_of_number c.args.self.now c.args.drawing ≡ Some c.take-message.result
-found c = sym (ap (λ (calls : HeldCalls). message_of_number calls c.args.drawing) c.self.view_is) ∙ c.take-message.ensures.message
+found : (c : goal.After-push_back_reserved) → message_of_drawing c.args.self.now c.args.drawing ≡ Some c.take-message.result
+found c = sym (ap (λ (calls : HeldCalls). message_of_drawing calls c.args.drawing) c.self.view_is) ∙ c.take-message.ensures.message
 
 left : (c : goal.After-push_back_reserved) → record { workers = c.self.inside.workers; next = c.self.inside.next + 1; greatest = 65535; last = c.draw-drawn.result.seq; live = c.push_back_reserved.new.self.items; kept = c.add_if.new.self } ≡ calls_after_renew c.args.self.now c.args.drawing c.args.kept
 left c =
@@ -41,8 +41,8 @@ invariant_of-self c =
 
 pub returns-clause-thread : goal.returns-clause-thread
 returns-clause-thread c =
-    ap (λ (calls : HeldCalls). thread_of_number calls c.self.inside.next) (left c)
-    ∙ ap (λ (calls : HeldCalls). thread_of_number (calls_after_renew c.args.self.now c.args.drawing c.args.kept) calls.next) c.self.view_is
+    ap (λ (calls : HeldCalls). thread_of_drawing calls c.self.inside.next) (left c)
+    ∙ ap (λ (calls : HeldCalls). thread_of_drawing (calls_after_renew c.args.self.now c.args.drawing c.args.kept) calls.next) c.self.view_is
     ∙ thread_renewed c.args.self.now c.args.drawing c.args.kept (whole c) c.requires.few c.take-message.result (found c)
 
 pub returns-clause-fresh : goal.returns-clause-fresh

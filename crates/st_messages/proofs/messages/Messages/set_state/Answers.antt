@@ -3,7 +3,7 @@ use Rattle.std.proofs.lemmas.Bool.{eqb-true, true≢false}
 use Rattle.std.proofs.lemmas.List.Quantifiers.{position-Some}
 use Rattle.std.specs.List.{position}
 use Rattle.std.specs.Prelude.{is_some}
-use Rattle.st_messages.specs.Messages.{HeldCalls, is_message_of, is_live_number, message_in, waiting_message, with_state, ChangesState}
+use Rattle.st_messages.specs.Messages.{HeldCalls, is_message_of, is_live_drawing, message_in, waiting_message, with_state, ChangesState}
 use Rattle.st_messages.proofs.Lookups.{found_nowhere}
 use Rattle.st_messages.proofs.messages.Messages.set_state.Goals as goal
 
@@ -24,7 +24,7 @@ returns-in-Some-clause-states c = subst (λ drawing. ChangesState c.args.self.no
 nowhere : (c : goal.In_default) → ⊥
 nowhere c =
     let none : message_in c.self.inside.live.items c.args.drawing ≡ None = found_nowhere (is_message_of c.args.drawing) c.self.inside.live.items (sym c.place_of.ensures ∙ c.in_default.is) in
-    true≢false (sym c.requires.live ∙ sym (ap (λ (calls : HeldCalls). is_live_number calls c.args.drawing) c.self.view_is) ∙ ap is_some none)
+    true≢false (sym c.requires.live ∙ sym (ap (λ (calls : HeldCalls). is_live_drawing calls c.args.drawing) c.self.view_is) ∙ ap is_some none)
 
 pub returns-in_default-clause-calls : goal.returns-in_default-clause-calls
 returns-in_default-clause-calls c = absurd (nowhere c)

@@ -1,12 +1,12 @@
 use Rattle.std.proofs.Common.{◌≡◌, ◌∙◌, Some, ap, sym, subst}
 use Rattle.std.specs.Option.{option_map}
-use Rattle.st_messages.specs.Messages.{HeldCalls, message_of_number, AreValidCalls}
+use Rattle.st_messages.specs.Messages.{HeldCalls, message_of_drawing, AreValidCalls}
 use Rattle.st_messages.specs.declared.message.Message.{Message}
 use Rattle.st_messages.proofs.Ordered.{found_below}
 use Rattle.st_messages.proofs.messages.Messages.state.Goals as goal
 
-found : (c : goal.In_ok-message_of) → message_of_number c.args.self.now c.args.drawing ≡ Some c.in_ok-message_of.field-0
-found c = sym (c.message_of.ensures ∙ ap (λ (calls : HeldCalls). message_of_number calls c.args.drawing) c.self.view_is) ∙ c.in_ok-message_of.was
+found : (c : goal.In_ok-message_of) → message_of_drawing c.args.self.now c.args.drawing ≡ Some c.in_ok-message_of.field-0
+found c = sym (c.message_of.ensures ∙ ap (λ (calls : HeldCalls). message_of_drawing calls c.args.drawing) c.self.view_is) ∙ c.in_ok-message_of.was
 
 whole : (c : goal.In_ok-message_of) → AreValidCalls c.args.self.now
 whole c = subst AreValidCalls c.self.view_is c.self.invariant.0

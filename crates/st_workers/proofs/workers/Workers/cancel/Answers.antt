@@ -1,13 +1,13 @@
 use Rattle.std.proofs.Common.{◌≡◌, ◌++◌, ◌∙◌, drop, length, take, List, Option, true, ap, sym, subst, Bool, ℕ, ◌↔◌}
-use Rattle.st_messages.specs.Messages.{is_live_number, message_state, calls_after_cancel}
+use Rattle.st_messages.specs.Messages.{is_live_drawing, message_state, calls_after_cancel}
 use Rattle.st_messages.specs.declared.message.MsgState.{MsgState}
 use Rattle.st_workers.specs.Refinement.{RepresentsMachineMessages, AreValidWorkers}
 use Rattle.st_workers.specs.Leaving.{HasLeft, is_claimer_ready}
 use Rattle.st_workers.specs.UnderWay.{UnderWay}
 use Rattle.st_workers.specs.declared.turn.Turn.{Turn}
-use Rattle.st_workers.proofs.Cancels.{cancelled_kept, cancelled_whole, cancelled_numbers, cancelled_ready, cancelled_stays}
+use Rattle.st_workers.proofs.Cancels.{cancelled_fewer, cancelled_kept, cancelled_whole, cancelled_numbers, cancelled_ready, cancelled_stays}
 use Rattle.st_workers.proofs.Turns.{whole_again}
-use Rattle.st_workers.specs.Numbers.{AreNumbered, AreReady, CarriesNumbers, IsReadyWith}
+use Rattle.st_workers.specs.Numbers.{AreNumbered, AreReady, CarriesNumbers, IsReadyWith, KeepsNumbers}
 use Rattle.st_law.specs.Numbers.{without_replaced}
 use Rattle.st_workers.proofs.workers.Workers.cancel.Goals as goal
 
@@ -17,8 +17,8 @@ old c = record { calls = c.self.inside.messages; slots = c.self.inside.slots; tu
 abbrev new : goal.After-drop_of → UnderWay
 new c = record { calls = c.cancel.new.self; slots = c.drop_of.new.self; turns = c.leave-keeps.new.turns }
 
-here : (c : goal.After-drop_of) → is_live_number (old c).calls c.args.drawing ≡ true
-here c = ap (λ (k : UnderWay). is_live_number k.calls c.args.drawing) c.self.view_is ∙ c.requires
+here : (c : goal.After-drop_of) → is_live_drawing (old c).calls c.args.drawing ≡ true
+here c = ap (λ (k : UnderWay). is_live_drawing k.calls c.args.drawing) c.self.view_is ∙ c.requires
 
 turns_left : (c : goal.After-drop_of) → HasLeft (old c).turns (message_state (old c).calls c.args.drawing) (new c).turns
 turns_left c = subst (λ (ts : List Turn). HasLeft ts (message_state (old c).calls c.args.drawing) (new c).turns) c.deref_mut.ensures.value (subst (λ (o : Option MsgState). HasLeft c.deref_mut.result.now o (new c).turns) c.state.ensures.state c.leave-keeps.ensures.left)
@@ -52,6 +52,11 @@ pub returns-clause-numbers : goal.returns-clause-numbers
 returns-clause-numbers c =
     subst (λ (k : UnderWay). (ready : ℕ → Bool) → AreReady ready k → CarriesNumbers (without_replaced ready c.args.drawing) k.calls (new c).calls) c.self.view_is
     (cancelled_numbers (old c) (new c) c.args.drawing c.leave-keeps.result (here c) c.cancel.ensures.calls c.cancel.ensures.states c.drop_of.ensures (turns_left c) (count c) (keeps_is c) c.self.invariant.0 c.self.invariant.1)
+
+pub returns-clause-fewer : goal.returns-clause-fewer
+returns-clause-fewer c =
+    subst (λ (k : UnderWay). KeepsNumbers k.calls (new c).calls) c.self.view_is
+    (cancelled_fewer (old c) (new c) c.args.drawing c.leave-keeps.result (here c) c.cancel.ensures.calls c.cancel.ensures.states c.drop_of.ensures (turns_left c) (count c) (keeps_is c) c.self.invariant.1)
 
 pub returns-clause-ready : goal.returns-clause-ready
 returns-clause-ready c =

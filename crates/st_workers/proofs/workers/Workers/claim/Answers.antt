@@ -2,7 +2,8 @@ use Rattle.std.proofs.Common.{◌≡◌, ◌≤◌, ◌∙◌, ◌-◌, ℕ, Lis
 use Rattle.std.specs.Prelude.{is_some, Err, IsSome, Ok, OnErr, Result}
 use Rattle.st_lookaside.specs.Slot.{Slot}
 use Rattle.st_lookaside.specs.Slots.{slot_at, ChangesSlot}
-use Rattle.st_messages.specs.Messages.{first_waiting, with_state, HeldCalls, HasWorker}
+use Rattle.st_messages.specs.Messages.{first_waiting, seq_of, with_state, HeldCalls, HasWorker}
+use Rattle.st_messages.proofs.Seqs.{seqs_moved}
 use Rattle.st_messages.specs.declared.message.MsgState.TheVariants.{Waiting, Claimed}
 use Rattle.st_law.specs.State.{is_live}
 use Rattle.st_trace.specs.declared.entry.Entry.TheVariants as entry
@@ -12,7 +13,7 @@ use Rattle.st_workers.specs.Tasks.{task_of}
 use Rattle.st_workers.specs.UnderWay.{turn_of_worker, UnderWay}
 use Rattle.st_workers.specs.declared.task.Task.TheVariants.{Claim}
 use Rattle.st_workers.specs.declared.turn.Turn.TheVariants.{Idle}
-use Rattle.st_workers.proofs.Claims.{claimed_follows, claimed_whole, claimed_numbered}
+use Rattle.st_workers.proofs.Claims.{claimed_follows, claimed_live, claimed_whole, claimed_numbered}
 use Rattle.st_workers.proofs.Filled.{known}
 use Rattle.st_workers.proofs.Tasks.{claim_entry, claims_idle, state_slot, worker_there}
 use Rattle.st_workers.proofs.Turns.{number_within}
@@ -87,6 +88,16 @@ turn c = known (slot_at (old c).slots c.in-Some.drawing) (λ s. IsTurnFor c.in-S
 
 pub returns-clause-calls : goal.returns-clause-calls
 returns-clause-calls c = calls c ∙ ap (λ (k : UnderWay). with_state k.calls c.in-Some.drawing (Claimed c.args.worker)) c.self.view_is
+
+pub returns-clause-live : goal.returns-clause-live
+returns-clause-live c =
+    claimed_live (old c) (new c) c.args.worker c.in-Some.drawing (slot c).0 c.in_ok-turn.turn (idle c) c.in-Some.ensures.least.waiting (slot c).1 (calls c) (slots_now c) (put c) (turn c) (its_worker c)
+
+pub returns-clause-seqs : goal.returns-clause-seqs
+returns-clause-seqs c q = ap (λ (k : HeldCalls). seq_of k q) (calls c) ∙ seqs_moved (old c).calls c.in-Some.drawing (Claimed c.args.worker) q ∙ ap (λ (k : UnderWay). seq_of k.calls q) c.self.view_is
+
+pub returns-in_err-turn-clause-seqs : goal.returns-in_err-turn-clause-seqs
+returns-in_err-turn-clause-seqs c q = ap (λ (k : UnderWay). seq_of k.calls q) c.self.view_is
 
 pub returns-clause-workers : goal.returns-clause-workers
 returns-clause-workers c = ap (λ (k : HeldCalls). k.workers) (calls c) ∙ ap (λ (k : UnderWay). k.calls.workers) c.self.view_is

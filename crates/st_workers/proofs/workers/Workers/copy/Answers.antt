@@ -32,7 +32,7 @@ invariant_of-self c =
     (subst (λ (k : UnderWay). IsCopy (task_of k c.args.worker)) (sym c.self.view_is) c.requires) c.self.invariant.1)
     (λ both.
     let turns = put_again old new c.args.worker (Working c.drawing_at-drawing.result) c.index_mut-turn.result.now c.take_word.new.turn working c.index_mut-turn.ensures.value both.1 refl in
-    (whole_by old new refl both.0 turns c.self.invariant.0, same_numbered old new refl turns c.self.invariant.1))
+    (whole_by old new refl both.0 turns c.self.invariant.0, same_numbered old new refl both.0 turns c.self.invariant.1))
     (both_ok c.take_word.result _ _ c.take_word.ensures.slot c.take_word.ensures.turn)
     (both_err c.take_word.result _ _ c.take_word.ensures.err c.take_word.ensures.stays)
 

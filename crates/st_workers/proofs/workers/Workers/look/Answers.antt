@@ -33,7 +33,7 @@ invariant_of-self c =
     (subst (λ (k : UnderWay). IsLook (task_of k c.args.worker)) (sym c.self.view_is) c.requires) c.self.invariant.1)
     (λ both.
     let turns = put_again old new c.args.worker (Working c.drawing_at-drawing.result) c.index_mut-turn.result.now c.take_look.new.turn working c.index_mut-turn.ensures.value both.1 refl in
-    (whole_by old new refl both.0 turns c.self.invariant.0, same_numbered old new refl turns c.self.invariant.1))
+    (whole_by old new refl both.0 turns c.self.invariant.0, same_numbered old new refl both.0 turns c.self.invariant.1))
     (both_ok c.take_look.result _ _ c.take_look.ensures.slot c.take_look.ensures.turn)
     (both_err c.take_look.result _ _ c.take_look.ensures.err c.take_look.ensures.stays)
 
