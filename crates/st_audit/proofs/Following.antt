@@ -1,7 +1,7 @@
 -- The ledger follows the entries.
 use Rattle.std.proofs.Common.{◌≡◌, ℕ, Bool, false, List, [], ◌∷◌, ◌++◌, Option, reverse, refl, ap, sym, subst, ◌∙◌}
 use Rattle.std.specs.BTreeMap.{BTreeMap}
-use Rattle.std.proofs.lemmas.List.{append-nil, reverse-append}
+use Rattle.std.proofs.lemmas.List.{append-nil, reverse-append, reverse-reverse}
 use Rattle.st_base.specs.declared.ids.Ids.{Ids}
 use Rattle.st_calls.specs.declared.argument.ArgText.{ArgText}
 use Rattle.st_calls.specs.declared.call.SysCall.{SysCall}
@@ -9,6 +9,7 @@ use Rattle.st_effects.specs.Changes.{owner_after}
 use Rattle.st_filter.specs.declared.set.BinaryPolicy.{BinaryPolicy}
 use Rattle.st_law.specs.declared.input.Input.{Input}
 use Rattle.st_law.specs.History.{session_at}
+use Rattle.st_law.specs.Numbers.{drawn, drawn_back}
 use Rattle.st_law.specs.Processes.{process_at}
 use Rattle.st_law.specs.Sessions.{SessionFilter}
 use Rattle.st_law.specs.Threads.{History, changes_of, left_at, owner_at, pending_at, thread_of}
@@ -31,7 +32,7 @@ pub record Follows (i : Input) (old new : Ledger) (e : Entry) : Type 0 where
   pub owners : (t : ℕ) → owner_in i new.owners t ≡ owner_after t (owner_in i old.owners t) (changes_of e)
   pub rows : (p : ℕ) → row_in i new.rows p ≡ row_after (row_in i old.rows (owner_in i old.owners (thread_of e))) (owner_in i old.owners (thread_of e)) p (row_in i old.rows p) (changes_of e)
   pub entered : (t : ℕ) → entered_in new.entered t ≡ entered_after e t (entered_in old.entered t)
-  pub answers : (q : ℕ) → recorded_answer new.answers q ≡ answer_after e q (recorded_answer old.answers q)
+  pub answers : (n : ℕ) → recorded_answer new.answers n ≡ answer_after e n (recorded_answer old.answers n)
 
 pub followed : (i : Input) (old new : Ledger) (e : Entry) (h : History) → Follows i old new e → IsLedger i old h → IsLedger i new (e ∷ h)
 followed i old new e h f is = record {
@@ -41,23 +42,23 @@ followed i old new e h f is = record {
       ∙ (λ k. row_after (is.rows (owner_at i h (thread_of e)) k) (owner_at i h (thread_of e)) p (is.rows p k) (changes_of e))
       ∙ sym (row_of_changed (process_at i h) (owner_at i h (thread_of e)) p (changes_of e));
   entered = λ t. f.entered t ∙ ap (entered_after e t) (is.entered t) ∙ sym (entered_changed e t (left_at i h t) (pending_at i h t));
-  answers = λ q. f.answers q ∙ ap (answer_after e q) (is.answers q);
+  answers = λ n. f.answers n ∙ ap (answer_after e n) (is.answers n);
 }
 
 -- an entry that prints adds nothing to the session
 printing_adds_nothing : (i : Input) (h : History) (e : Entry) (owners : ℕ → ℕ) (rows : ℕ → Row) (entered : ℕ → Option EnteredCall) (decided : List SessionFilter → ℕ → Option Decided)
-    → line_by i owners rows entered (decided (session_at i (e ∷ h))) e ≡ line_by i owners rows entered (decided (session_at i h)) e
-printing_adds_nothing i h (Learned q n) owners rows entered decided = refl
-printing_adds_nothing i h (Replied q reply n) owners rows entered decided = refl
+    → line_by i owners rows entered (decided (session_at i (drawn_back (e ∷ h)))) e ≡ line_by i owners rows entered (decided (session_at i (drawn_back h))) e
+printing_adds_nothing i h (Learned n k) owners rows entered decided = refl
+printing_adds_nothing i h (Replied n reply k) owners rows entered decided = refl
 printing_adds_nothing i h _ owners rows entered decided = refl
 
 -- what an entry prints by the filters that were read, by the session after the entry and by a ledger is what it prints by the entries
 -- before it
-pub line_printed : (i : Input) (policies : List BinaryPolicy) (session : List SessionFilter) (ledger : Ledger) (h : History) (e : Entry) → policies ≡ i.policies → session ≡ session_at i (e ∷ h) → IsLedger i ledger h
+pub line_printed : (i : Input) (policies : List BinaryPolicy) (session : List SessionFilter) (ledger : Ledger) (h : History) (e : Entry) → policies ≡ i.policies → session ≡ session_at i (drawn_back (e ∷ h)) → IsLedger i ledger h
     → kept_line i policies session ledger e ≡ line_from_history i h e
 line_printed i policies session ledger h e read same is =
-    (λ k. line_by i (λ t. is.owners t k) (λ p. is.rows p k) (λ t. is.entered t k) (λ q. decided_from_history (read k) (same k) (is.answers q k)) e)
-    ∙ printing_adds_nothing i h e (owner_at i h) (row_at i h) (entered_at i h) (λ session q. decided_from_history i.policies session (applied_answer h q))
+    (λ k. line_by i (λ t. is.owners t k) (λ p. is.rows p k) (λ t. is.entered t k) (λ n. decided_from_history (read k) (same k) (is.answers n k)) e)
+    ∙ printing_adds_nothing i h e (owner_at i h) (row_at i h) (entered_at i h) (λ session n. decided_from_history i.policies session (applied_answer h n))
 
 -- the rows after the changes of a call, by its entry
 pub rows_noted : (i : Input) (owners : BTreeMap ℕ ℕ) (old new : BTreeMap ℕ Row) (e : Entry) (t pid : ℕ) (changes : List Change) → thread_of e ≡ t → changes_of e ≡ changes → pid ≡ owner_in i owners t
@@ -111,20 +112,23 @@ module _ (i : Input) (trace : List Entry) (e : Entry) where
   newest_first : reverse (trace ++ e ∷ []) ≡ e ∷ reverse trace
   newest_first = reverse-append trace (e ∷ [])
 
+  newest_drawn : reverse (drawn (trace ++ e ∷ [])) ≡ drawn_back (e ∷ reverse trace)
+  newest_drawn = reverse-reverse (drawn_back (reverse (trace ++ e ∷ []))) ∙ ap drawn_back newest_first
+
   pub kept_more : (old new : Ledger) → IsLedger i old (reverse trace) → ((h : History) → IsLedger i old h → IsLedger i new (e ∷ h)) → IsLedger i new (reverse (trace ++ e ∷ []))
   kept_more old new kept noted = subst (IsLedger i new) (sym newest_first) (noted (reverse trace) kept)
 
-  pub audit_more : (policies : List BinaryPolicy) (session : List SessionFilter) (ledger : Ledger) (text new : List ℕ) → policies ≡ i.policies → session ≡ session_at i (reverse (trace ++ e ∷ [])) → text ≡ audit_from_history i trace
+  pub audit_more : (policies : List BinaryPolicy) (session : List SessionFilter) (ledger : Ledger) (text new : List ℕ) → policies ≡ i.policies → session ≡ session_at i (reverse (drawn (trace ++ e ∷ []))) → text ≡ audit_from_history i trace
       → IsLedger i ledger (reverse trace) → new ≡ text ++ kept_line i policies session ledger e → new ≡ audit_from_history i (trace ++ e ∷ [])
   audit_more policies session ledger text new read same written kept more =
-      more ∙ ap (λ line. text ++ line) (line_printed i policies session ledger (reverse trace) e read (same ∙ ap (session_at i) newest_first) kept)
+      more ∙ ap (λ line. text ++ line) (line_printed i policies session ledger (reverse trace) e read (same ∙ ap (session_at i) newest_drawn) kept)
       ∙ ap (λ front. front ++ line_from_history i (reverse trace) e) written ∙ sym (ap (text_from_history i) newest_first)
 
 -- what a call that was made prints, by what is known of it
 pub used_line : (i : Input) (policies : List BinaryPolicy) (session : List SessionFilter) (ledger : Ledger) (e : Entry) (t : ℕ) (seq : Option ℕ) (call : SysCall) (regs : List ℕ) (args : List ArgText) (ids : Ids) (result : CallResult) (changes : List Change)
     (text new : List ℕ) (slice printed : List ArgText) (how : How) (log : Bool) (decided : Option Decided)
     → e ≡ Used t seq call regs args ids result changes
-    → decided ≡ decided_on (λ q. decided_from_history policies session (recorded_answer ledger.answers q)) seq
+    → decided ≡ decided_on (λ n. decided_from_history policies session (recorded_answer ledger.answers n)) seq
     → slice ≡ args → printed ≡ args_used seq slice → how ≡ how_used seq decided ids → log ≡ is_logged decided
     → new ≡ text ++ call_line i (row_in i ledger.rows) (owner_in i ledger.owners t) t call regs (ending_text printed how result log)
     → new ≡ text ++ kept_line i policies session ledger e

@@ -1,10 +1,11 @@
 -- What more entries add to an audit comes after it.
-use Rattle.std.proofs.Common.{List, [], ◌∷◌, ◌++◌, reverse, sym, ap, ◌∙◌}
-use Rattle.std.proofs.lemmas.List.{append-nil, append_assoc, reverse-append}
+use Rattle.std.proofs.Common.{◌≡◌, List, [], ◌∷◌, ◌++◌, reverse, refl, sym, ap, subst, ◌∙◌}
+use Rattle.std.proofs.lemmas.List.{append-nil, append_assoc, reverse-append, reverse-reverse}
 use Rattle.st_trace.specs.declared.entry.Entry.{Entry}
 use Rattle.st_law.specs.declared.input.Input.{Input}
+use Rattle.st_law.specs.Numbers.{drawings_at, drawn, drawn_back, drawn_entry}
 use Rattle.st_law.specs.Threads.{History}
-use Rattle.st_audit.specs.AuditText.{BeginsWith, audit, audit_back, audit_line}
+use Rattle.st_audit.specs.AuditText.{BeginsWith, audit, audit_back, audit_by_number, audit_line}
 
 one_line_more : (i : Input) (e : Entry) (newer older : History) → BeginsWith (audit_back i (newer ++ older)) (audit_back i older) → BeginsWith (audit_back i (e ∷ (newer ++ older))) (audit_back i older)
 one_line_more i e newer older (following, is) =
@@ -16,3 +17,19 @@ after_older i (e ∷ newer) older = one_line_more i e newer older (after_older i
 
 pub grows : (i : Input) (trace more : List Entry) → BeginsWith (audit i (trace ++ more)) (audit i trace)
 grows i trace more = rw (reverse-append trace more) (after_older i (reverse more) (reverse trace))
+
+-- ---- numbers
+
+-- the drawings of more entries come after those of the older ones
+drawn_over : (newer older : History) → (front : History) × (drawn_back (newer ++ older) ≡ front ++ drawn_back older)
+drawn_over [] older = ([], refl)
+drawn_over (e ∷ newer) older = let rest = drawn_over newer older in
+    (drawn_entry (drawings_at (newer ++ older)) e ∷ rest.0, ap (λ h. drawn_entry (drawings_at (newer ++ older)) e ∷ h) rest.1)
+
+pub grows_by_number : (i : Input) (trace more : List Entry) → BeginsWith (audit_by_number i (trace ++ more)) (audit_by_number i trace)
+grows_by_number i trace more = let rest = drawn_over (reverse more) (reverse trace) in
+    let shorter : reverse (drawn trace) ≡ drawn_back (reverse trace) = reverse-reverse (drawn_back (reverse trace)) in
+    let longer : reverse (drawn (trace ++ more)) ≡ rest.0 ++ drawn_back (reverse trace) =
+    reverse-reverse (drawn_back (reverse (trace ++ more))) ∙ ap drawn_back (reverse-append trace more) ∙ rest.1 in
+    subst (λ h. BeginsWith (audit_back i h) (audit_by_number i trace)) (sym longer)
+    (subst (λ h. BeginsWith (audit_back i (rest.0 ++ drawn_back (reverse trace))) (audit_back i h)) (sym shorter) (after_older i rest.0 (drawn_back (reverse trace))))

@@ -14,6 +14,7 @@ use Rattle.st_trace.specs.declared.entry.Entry.{Entry}
 use Rattle.st_trace.specs.declared.entry.Entry.TheVariants.{Used, Denied}
 use Rattle.st_law.specs.declared.input.Input.{Input}
 use Rattle.st_law.specs.History.{looking_back}
+use Rattle.st_law.specs.Numbers.{drawn}
 use Rattle.st_law.specs.Threads.{History, owner_at}
 use Rattle.st_audit.specs.declared.how.How.{How}
 use Rattle.st_audit.specs.How.{Decided, args_used, decided_in, decided_on, how_denied, how_text, how_used, is_logged, parts_of, seq_of_decision}
@@ -75,9 +76,13 @@ abbrev pub audit_back : Input → History → List ℕ
 audit_back i [] = []
 audit_back i (e ∷ h) = audit_back i h ++ audit_line i h e
 
--- the audit of a trace: the lines of its entries, in order
+-- the audit of a trace of drawings: the lines of its entries, in order
 abbrev pub audit : Input → List Entry → List ℕ
 audit i trace = audit_back i (reverse trace)
+
+-- the audit of a trace of numbers: that of its drawings
+abbrev pub audit_by_number : Input → List Entry → List ℕ
+audit_by_number i trace = audit i (drawn trace)
 
 -- ---- longer runs
 
@@ -85,6 +90,6 @@ audit i trace = audit_back i (reverse trace)
 abbrev pub BeginsWith : List ℕ → List ℕ → Type 0
 BeginsWith text front = (following : List ℕ) × (text ≡ front ++ following)
 
--- the audit of a longer run begins with that of the shorter one
-abbrev pub GrowsWithTheRun : Type 0
-GrowsWithTheRun = (input : Input) (trace more : List Entry) → BeginsWith (audit input (trace ++ more)) (audit input trace)
+-- what is printed of a longer run begins with what is printed of the shorter one
+abbrev pub GrowsWithTheRun : (Input → List Entry → List ℕ) → Type 0
+GrowsWithTheRun text = (input : Input) (trace more : List Entry) → BeginsWith (text input (trace ++ more)) (text input trace)

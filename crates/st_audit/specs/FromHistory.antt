@@ -1,5 +1,7 @@
--- What the entries themselves record of held calls: their applied answers.
+-- What the entries themselves record of held calls: their applied answers, by the numbers of messages. A number that is drawn again means another
+-- call from then on.
 use Rattle.std.specs.Prelude.{ℕ, suc, Bool, true, false, ◌==◌, ◌&&◌, if◌then◌else◌, List, [], ◌∷◌, ◌++◌, reverse, length, Option, Some, None, option_map}
+use Rattle.std.specs.List.{fold}
 use Rattle.st_base.specs.Numbered.{item_at_number}
 use Rattle.st_calls.specs.declared.judged.Snapshot.{Snapshot}
 use Rattle.st_calls.specs.declared.judged.Verdict.{Verdict}
@@ -8,10 +10,14 @@ use Rattle.st_filter.specs.Judging.{verdict_from}
 use Rattle.st_filter.specs.Policies.{read_filters}
 use Rattle.st_filter.specs.declared.set.BinaryPolicy.{BinaryPolicy}
 use Rattle.st_model.specs.Tree.{is_number}
+use Rattle.st_trace.specs.declared.entry.Change.{Change}
+use Rattle.st_trace.specs.declared.entry.Change.TheVariants.{Renewed}
 use Rattle.st_trace.specs.declared.entry.Entry.{Entry}
 use Rattle.st_trace.specs.declared.entry.Entry.TheVariants.{Stored, Entered, Claimed, Copied, Looked, Faulted, Answered, Used, Denied, Ended, Replied, Learned}
+use Rattle.st_trace.specs.declared.entry.Way.TheVariants.{Held}
 use Rattle.st_law.specs.declared.input.Input.{Input}
 use Rattle.st_law.specs.History.{session_at}
+use Rattle.st_law.specs.Numbers.{drawn_back}
 use Rattle.st_law.specs.Sessions.{SessionFilter, session_filters}
 use Rattle.st_law.specs.Threads.{History, owner_at}
 use Rattle.st_audit.specs.How.{Decided, decided_by, decided_with, deciding_number, marks_of}
@@ -45,18 +51,28 @@ pub record Answer : Type 0 where
 abbrev pub answer_with : Snapshot → Verdict → Answer
 answer_with snapshot verdict = record { snapshot = snapshot; verdict = verdict }
 
--- the applied answer to a number after an entry; it is removed when the call is made or denied
-abbrev pub answer_after : Entry → ℕ → Option Answer → Option Answer
-answer_after (Answered w snapshot verdict applied) q before =
-    if (snapshot.seq == q) && applied then Some (answer_with snapshot verdict) else before
-answer_after (Used t seq call regs args ids result changes) q before = if is_number q seq then None else before
-answer_after (Denied t seq errno cause) q before = if is_number q seq then None else before
-answer_after _ q before = before
+-- an answer to the same call by another number
+abbrev pub answer_as : ℕ → Answer → Answer
+answer_as n answer = answer_with (record answer.snapshot { seq = n }) answer.verdict
 
--- the newest applied answer to a number whose call is neither made nor denied
+-- the answer to a number after a change; it is removed when the number is drawn again, since the number means another call then
+abbrev pub answer_after_change : ℕ → Option Answer → Change → Option Answer
+answer_after_change n before (Renewed old new) = if new == n then None else before
+answer_after_change n before _ = before
+
+-- the applied answer to a number after an entry; it is removed when the call is made or denied, and when the number is drawn again
+abbrev pub answer_after : Entry → ℕ → Option Answer → Option Answer
+answer_after (Entered t call regs (Held m)) n before = if m == n then None else before
+answer_after (Answered w snapshot verdict applied) n before =
+    if (snapshot.seq == n) && applied then Some (answer_with snapshot verdict) else before
+answer_after (Used t seq call regs args ids result changes) n before = fold (answer_after_change n) (if is_number n seq then None else before) changes
+answer_after (Denied t seq errno cause) n before = if is_number n seq then None else before
+answer_after _ n before = before
+
+-- the newest applied answer to a number since it was drawn last, if the call is neither made nor denied
 abbrev pub applied_answer : History → ℕ → Option Answer
-applied_answer [] q = None
-applied_answer (e ∷ h) q = answer_after e q (applied_answer h q)
+applied_answer [] n = None
+applied_answer (e ∷ h) n = answer_after e n (applied_answer h n)
 
 -- ---- what decided
 
@@ -79,15 +95,16 @@ decided_after policies session s Unmatched = decided_by_session policies session
 abbrev pub decided_from_history : List BinaryPolicy → List SessionFilter → Option Answer → Option Decided
 decided_from_history policies session answer = option_map (λ a. decided_after policies session a.snapshot a.verdict) answer
 
--- what an entry prints, by what the entries before it record and by the session after them
+-- what an entry prints, by what the entries before it record under the numbers of messages, and by the session after their drawings
 abbrev pub line_from_history : Input → History → Entry → List ℕ
-line_from_history i h e = line_by i (owner_at i h) (row_at i h) (entered_at i h) (λ q. decided_from_history i.policies (session_at i h) (applied_answer h q)) e
+line_from_history i h e =
+    line_by i (owner_at i h) (row_at i h) (entered_at i h) (λ n. decided_from_history i.policies (session_at i (drawn_back h)) (applied_answer h n)) e
 
--- the audit of a history, by what its entries record and by the session at each
+-- the audit of a history of numbers, by what its entries record and by the session at each
 abbrev pub text_from_history : Input → History → List ℕ
 text_from_history i [] = []
 text_from_history i (e ∷ h) = text_from_history i h ++ line_from_history i h e
 
--- the audit of a trace, by what its entries record and by the session at each
+-- the audit of a trace of numbers, by what its entries record and by the session at each
 abbrev pub audit_from_history : Input → List Entry → List ℕ
 audit_from_history i trace = text_from_history i (reverse trace)

@@ -49,19 +49,19 @@ entered_in entered t = get nat_cmp entered t
 
 -- what the map has for a number
 abbrev pub recorded_answer : BTreeMap ℕ Answer → ℕ → Option Answer
-recorded_answer answers q = get nat_cmp answers q
+recorded_answer answers n = get nat_cmp answers n
 
 -- ---- all of it
 
--- the ledger has what looking back says of threads and processes, and what the entries record of held calls
+-- the ledger of a history of numbers has what looking back says of threads and processes, and what the entries record of held calls
 pub record IsLedger (i : Input) (ledger : Ledger) (h : History) : Type 0 where
   pub owners : (t : ℕ) → owner_in i ledger.owners t ≡ owner_at i h t
   pub rows : (p : ℕ) → row_in i ledger.rows p ≡ row_at i h p
   pub entered : (t : ℕ) → entered_in ledger.entered t ≡ entered_at i h t
-  pub answers : (q : ℕ) → recorded_answer ledger.answers q ≡ applied_answer h q
+  pub answers : (n : ℕ) → recorded_answer ledger.answers n ≡ applied_answer h n
 
 -- what an entry prints, by the filters that were read, by a session and by a ledger
 abbrev pub kept_line : Input → List BinaryPolicy → List SessionFilter → Ledger → Entry → List ℕ
 kept_line i policies session ledger e =
     line_by i (owner_in i ledger.owners) (row_in i ledger.rows) (entered_in ledger.entered)
-    (λ q. decided_from_history policies session (recorded_answer ledger.answers q)) e
+    (λ n. decided_from_history policies session (recorded_answer ledger.answers n)) e

@@ -6,7 +6,7 @@ use Rattle.st_audit.specs.declared.audit.AuditRecorder.{AuditRecorder}
 use Rattle.st_audit.specs.Ledger.{IsLedger}
 use Rattle.st_audit.specs.FromHistory.{audit_from_history}
 
--- what an audit records: its text is that of these entries, and its ledger is that of their history
+-- what an audit records of a trace of numbers: its text is that of these entries, and its ledger is that of their history
 pub record IsAuditOf (recorder : AuditRecorder) (i : Input) (trace : List Entry) : Type 0 where
   pub text : recorder.text ≡ audit_from_history i trace
   pub kept : IsLedger i recorder.ledger (reverse trace)

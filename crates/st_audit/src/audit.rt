@@ -1,10 +1,10 @@
 ghost use Rattle.std.specs.Prelude.{◌≡◌, ◌++◌, [], List, OnOk};
 ghost use Rattle.st_calls.specs.Call.{rule_of};
 ghost use Rattle.st_law.specs.Inputs.{IsStartable};
-ghost use Rattle.st_law.specs.Lawful.{Lawful};
+ghost use Rattle.st_law.specs.Numbers.{IsLawfulByNumber};
 ghost use Rattle.st_law.specs.declared.input.Input.{Input};
 ghost use Rattle.st_trace.specs.declared.entry.Entry.{Entry};
-ghost use Rattle.st_audit.specs.AuditText.{GrowsWithTheRun, audit, call_line, ending_text};
+ghost use Rattle.st_audit.specs.AuditText.{GrowsWithTheRun, audit, audit_by_number, call_line, ending_text};
 ghost use Rattle.st_audit.specs.How.{args_used, is_logged, parts_of, seq_of_decision};
 ghost use Rattle.st_audit.specs.Ledger.{kept_line, owner_in, row_in};
 ghost use Rattle.st_audit.specs.Recording.{IsAuditOf};
@@ -168,10 +168,10 @@ impl AuditRecorder {
         }
     }
 
-    /// The audit of the run whose entries were recorded.
+    /// The audit of the run whose entries were recorded: that of the drawings of their numbers.
     pub fn into_text(self) -> Text
         ensures printed { (i : Input) (trace : List Entry) → IsAuditOf self i trace → result ≡ audit_from_history i trace }
-        ensures audit { (i : Input) (trace : List Entry) → IsAuditOf self i trace → IsStartable i → Lawful i trace → result ≡ audit i trace }
+        ensures audit { (i : Input) (trace : List Entry) → IsAuditOf self i trace → IsStartable i → IsLawfulByNumber i trace → result ≡ audit_by_number i trace }
     {
         self.text
     }
@@ -202,5 +202,6 @@ impl Recorder for AuditRecorder {
 
 /// The audit of a longer run begins with that of the shorter one.
 pub fn longer_runs_extend_the_audit()
-    ensures { GrowsWithTheRun }
+    ensures drawings { GrowsWithTheRun audit }
+    ensures numbers { GrowsWithTheRun audit_by_number }
 {}

@@ -8,6 +8,7 @@ mod concern;
 mod decided;
 mod entered;
 mod how;
+mod law;
 mod ledger;
 mod line;
 mod marks;
@@ -16,5 +17,6 @@ mod process;
 mod summary;
 
 pub use audit::{AuditRecorder, longer_runs_extend_the_audit};
+pub use law::{a_summary_counts_no_numbers, numbers_print_as_their_drawings};
 pub use policies::policies_text;
 pub use summary::{Summary, SummaryRecorder};

@@ -3,6 +3,7 @@ use native.Mathlib.Omega.{arith}
 use Rattle.std.proofs.Common.{◌≡◌, ◌≢◌, ◌≤◌, ◌<◌, ◌+◌, ◌∙◌, ◌||◌, ◌++◌, ◌∷◌, ℕ, zero, suc, Bool, true, false, cond, inl, inr, List, [], Option, Some, None, refl, ap, sym, subst}
 use Rattle.std.proofs.lemmas.Bool.{cases_eq, eq-eqb, ne_eqb}
 use Rattle.std.proofs.lemmas.Option.{none-some, same_Some}
+use Rattle.std.specs.Option.{option_map}
 use Rattle.std.specs.Prelude.{is_some}
 use Rattle.st_calls.specs.declared.judged.Snapshot.{Snapshot}
 use Rattle.st_calls.specs.declared.judged.Verdict.{Verdict}
@@ -14,16 +15,20 @@ use Rattle.st_trace.specs.declared.entry.Entry.{Entry}
 use Rattle.st_trace.specs.declared.entry.Entry.TheVariants.{Answered}
 use Rattle.st_law.specs.declared.input.Input.{Input}
 use Rattle.st_law.specs.Machine.{entry_of, state_after, state_of_run, IsEnabled}
+use Rattle.st_effects.specs.Progress.{Progress, Word, Look, Stuck, Ready as Whole}
 use Rattle.st_law.specs.Meaning.{IsWorker}
-use Rattle.st_law.specs.State.{State, is_live, is_ready, progress_in, seq_at_work, snapshot_in, worker_at}
+use Rattle.st_law.specs.Messages.{Head}
+use Rattle.st_law.specs.State.{State, is_live, is_ready, progress_in, seq_at_work, snapshot_in, snapshot_of_progress, worker_at}
+use Rattle.st_filter.specs.Policies.{read_filters}
+use Rattle.st_workers.specs.Refinement.{drawn_copies}
 use Rattle.st_workers.specs.UnderWay.{turn_of_worker}
 use Rattle.st_workers.specs.declared.turn.Turn.{Turn}
 use Rattle.st_workers.specs.declared.turn.Turn.TheVariants.{Idle, Working, Ready}
+use Rattle.st_workers.proofs.Copies.{same_verdict}
 use Rattle.st_decide.specs.Machine.{IsStep, Running}
-use Rattle.st_decide.proofs.Asked.{drawing_is}
-use Rattle.st_kernel.specs.Kernel.{RunSoFar, HasRoom, IsRunSoFar, copies_at, kept_copies, ready_workers, state_in, with_choice}
-use Rattle.st_kernel.proofs.RunsSoFar.{spelled_more, state_more}
-use Rattle.st_kernel.proofs.Working.{at_turn, copies_of, no_copies, ready_answers, ready_keeps}
+use Rattle.st_kernel.specs.Kernel.{RunSoFar, HasRoom, IsRunSoFar, copies_at, entry_now, kept_copies, number_now, numbered_next, ready_workers, state_in, with_choice}
+use Rattle.st_kernel.proofs.RunsSoFar.{given_is, spelled_more, state_more}
+use Rattle.st_kernel.proofs.Working.{at_turn, copies_of, no_copies, ready_answers, ready_at, ready_keeps}
 
 -- ---- the count of ready workers, if one is ready no more
 
@@ -101,9 +106,20 @@ pub record IsReadyIn (m : Running) (made : List Repeat) (first : ℕ) (asleep : 
 pub record HasAnswered (old : RunSoFar) (w : ℕ) (judged : JudgedCall) (added : Option Entry) (new : RunSoFar) : Type 0 where
   pub ok : new ≡ with_choice old (Worker w)
   pub enabled : IsEnabled old.input (state_in old) (Worker w)
-  pub entry : added ≡ entry_of old.input (state_in old) (Worker w)
+  pub entry : added ≡ entry_now old (Worker w)
   pub kept : kept_copies old w ≡ Some judged.snapshot
-  pub answered : added ≡ Some (Answered w judged.snapshot judged.verdict (is_live (state_in old) judged.snapshot.seq))
+  pub answered : (q : ℕ) × (worker_at (state_in old) w ≡ Some q) × (added ≡ Some (Answered w judged.snapshot judged.verdict (is_live (state_in old) q)))
+
+-- the copies of a drawing have that drawing
+own_number : (q : ℕ) (o : Option Head) (p : Progress) (s : Snapshot) → snapshot_of_progress q o p ≡ Some s → s.seq ≡ q
+own_number q None p s e = cc
+own_number q (Some head) (Word part place) s e = cc
+own_number q (Some head) (Look part name) s e = cc
+own_number q (Some head) (Stuck errno) s e = cc
+own_number q (Some head) (Whole args) s e = sym (ap (λ (u : Snapshot). u.seq) (same_Some _ s e))
+
+drawing_is : (st : State) (q : ℕ) (s : Snapshot) → snapshot_in st q ≡ Some s → s.seq ≡ q
+drawing_is st q s e = own_number q (st.messages q).head _ s e
 
 module _ (m : Running) (made : List Repeat) (first : ℕ) (asleep : List Bool) (w q : ℕ) (s : Snapshot) (ready : IsReadyIn m made first asleep w q s) where
   abbrev pub here : RunSoFar
@@ -112,26 +128,40 @@ module _ (m : Running) (made : List Repeat) (first : ℕ) (asleep : List Bool) (
   abbrev st : State
   st = state_in here
 
-  -- the entry that its answer adds
+  -- the entry that its answer adds, by the drawing
+  abbrev its_drawn : Entry
+  its_drawn = Answered w (drawn_copies q s) (verdict_under m.input.policies s) (is_live st q)
+
+  -- the same with the number of the drawing
   abbrev pub its_answer : Entry
-  its_answer = Answered w s (verdict_under m.input.policies s) (is_live st s.seq)
+  its_answer = Answered w s (verdict_under m.input.policies s) (is_live st q)
 
   abbrev new : State
-  new = state_after m.input st its_answer
+  new = state_after m.input st its_drawn
+
+  drawn_kept : copies_at st (worker_at st w) ≡ Some (drawn_copies q s)
+  drawn_kept = ready_keeps m.input st m.workers w ready.so_far.machine.workers q s ready.turn_is
 
   pub its_copies : kept_copies here w ≡ Some s
-  its_copies = ready_keeps m.input st m.workers w ready.so_far.machine.workers q s ready.turn_is
+  its_copies = (at_turn m made first asleep ready.so_far here refl w (Ready q s) ready.turn_is).1
 
-  pub adds_answer : entry_of m.input st (Worker w) ≡ Some its_answer
+  its_number : number_now here q ≡ s.seq
+  its_number = ready.so_far.numbers.seqs q s.seq (ready.so_far.machine.workers.numbered.seqs.copies w q s ready.turn_is)
+
+  answer_numbered : numbered_next here its_drawn ≡ its_answer
+  answer_numbered = ap (λ (n : ℕ). Answered w (record s { seq = n }) (verdict_under m.input.policies s) (is_live st q)) its_number
+
+  pub adds_answer : entry_of m.input st (Worker w) ≡ Some its_drawn
   adds_answer =
-      let own = ready_answers m.input st w ready.there s its_copies in
-      own.3 ∙ ap (λ (n : ℕ). Some (Answered w s (verdict_under m.input.policies s) (is_live st n))) (sym (drawing_is st own.0 s own.2))
+      let own = ready_answers m.input st w ready.there (drawn_copies q s) drawn_kept in
+      own.3 ∙ ap (λ (n : ℕ). Some (Answered w (drawn_copies q s) (verdict_under m.input.policies (drawn_copies q s)) (is_live st n))) (sym (drawing_is st own.0 (drawn_copies q s) own.2))
+      ∙ ap (λ (v : Verdict). Some (Answered w (drawn_copies q s) v (is_live st q))) (same_verdict q s 1 (read_filters m.input.policies s.policy s.rule))
 
   pub one_ready_less : ready_workers st m.input.options.workers ≡ suc (ready_workers new m.input.options.workers)
   one_ready_less =
       let v = verdict_under m.input.policies s in
-      let applied = is_live st s.seq in
-      one_less st new w ready.there.0 (answered_others m.input st w s v applied) (answered_none m.input st w s v applied) s its_copies m.input.options.workers ready.there.1
+      let applied = is_live st q in
+      one_less st new w ready.there.0 (answered_others m.input st w (drawn_copies q s) v applied) (answered_none m.input st w (drawn_copies q s) v applied) (drawn_copies q s) drawn_kept m.input.options.workers ready.there.1
 
   -- there is room for its choice
   pub has_room : (count capacity : ℕ) → HasRoom here count capacity → count < capacity
@@ -144,12 +174,15 @@ module _ (m : Running) (made : List Repeat) (first : ℕ) (asleep : List Bool) (
       let now : ready_workers (state_in then) then.input.options.workers ≡ ready_workers new m.input.options.workers = λ k. ready_workers (state_is k) (same k).options.workers in
       omega (arith, less, now, more, kept, room)
 
-  -- the entry that a step of the machine adds is this one
-  pub its_entry : (e : Entry) (then : Running) → IsStep m (Worker w) (Some e) then → e ≡ its_answer
-  its_entry e then step = same_Some e its_answer (sym (step st ready.so_far.machine).0 ∙ adds_answer)
+  -- the entry that a step of the machine gives is this one
+  pub its_entry : (given : Entry) (then : Running) → IsStep m (Worker w) (Some given) then → given ≡ its_answer
+  its_entry given then step =
+      given_is m made first asleep ready.so_far step.0 given step.2
+      ∙ ap (numbered_next here) (same_Some step.0 its_drawn (sym (step.1 st ready.so_far.machine).0 ∙ adds_answer))
+      ∙ answer_numbered
 
   pub adds_one : (then : Running) → IsStep m (Worker w) None then → ⊥
-  adds_one then step = none-some its_answer (sym (step st ready.so_far.machine).0 ∙ adds_answer)
+  adds_one then step = none-some its_drawn (sym (step st ready.so_far.machine).0 ∙ adds_answer)
 
   module _ (input : Input) (same : input ≡ m.input) (made_then : List Repeat) (noted : made_then ≡ repeats_with made (Worker w)) where
     abbrev pub there_then : RunSoFar
@@ -163,16 +196,20 @@ module _ (m : Running) (made : List Repeat) (first : ℕ) (asleep : List Bool) (
 
     pub room_then : (count count_then capacity capacity_then : ℕ) → count_then ≤ count + 1 → capacity_then ≡ capacity → HasRoom here count capacity → HasRoom there_then count_then capacity_then
     room_then count count_then capacity capacity_then more kept room =
-        room_left there_then count count_then capacity capacity_then same ((λ k. state_of_run (same k) (spelled k)) ∙ state_more m.input (spelled_choices made) (Worker w) its_answer adds_answer) more kept room
+        room_left there_then count count_then capacity capacity_then same ((λ k. state_of_run (same k) (spelled k)) ∙ state_more m.input (spelled_choices made) (Worker w) its_drawn adds_answer) more kept room
 
     -- what an answer with a judged call is
     pub has_answered : (old : RunSoFar) → here ≡ old → (judged : JudgedCall) → s ≡ judged.snapshot → judged.verdict ≡ verdict_under m.input.policies judged.snapshot → (e : Entry) → e ≡ its_answer → (added : Option Entry) → added ≡ Some e → HasAnswered old w judged added there_then
     has_answered old view judged same_s verdict_is e e_is added added_is = subst (λ (k : RunSoFar). HasAnswered k w judged added there_then) view (record {
       ok = one_choice_more;
-      enabled = (its_answer, adds_answer);
-      entry = added_is ∙ ap Some e_is ∙ sym adds_answer;
+      enabled = (its_drawn, adds_answer);
+      entry = added_is ∙ ap Some e_is ∙ sym (ap (option_map (numbered_next here)) adds_answer ∙ ap (λ (next : Entry). Some next) answer_numbered);
       kept = its_copies ∙ ap Some same_s;
-      answered = added_is ∙ ap Some e_is ∙ (λ k. Some (Answered w (same_s k) (verdict_under m.input.policies (same_s k)) (is_live st (same_s k).seq))) ∙ ap (λ (v : Verdict). Some (Answered w judged.snapshot v (is_live st judged.snapshot.seq))) (sym verdict_is);
+      answered = (
+        q,
+        ready_at m.input st m.workers w ready.so_far.machine.workers q s ready.turn_is,
+        added_is ∙ ap Some e_is ∙ (λ k. Some (Answered w (same_s k) (verdict_under m.input.policies (same_s k)) (is_live st q))) ∙ ap (λ (v : Verdict). Some (Answered w judged.snapshot v (is_live st q))) (sym verdict_is),
+      );
     })
 
 -- a worker is ready with one snapshot

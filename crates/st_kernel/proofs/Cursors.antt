@@ -9,8 +9,8 @@ use Rattle.st_law.specs.Machine.{entry_of}
 use Rattle.st_law.specs.Schedules.{EnabledChoice, choice_or, first_enabled, first_enabled_of}
 use Rattle.st_law.specs.State.{State, thread_count}
 use Rattle.st_law.specs.declared.input.Input.{Input}
+use Rattle.st_waking.specs.Waking.{is_asleep}
 use Rattle.st_kernel.specs.Kernel.{RunSoFar, state_in, HasMadeFirstEnabled, IsChosen, IsNextEntry}
-use Rattle.st_kernel.specs.Waking.{is_asleep}
 
 -- no thread is marked at first
 pub nobody_asleep : (n place : ℕ) → is_asleep (replicate n false) place ≡ false

@@ -2,10 +2,12 @@ mod NumbersDrawn
 mod RunsSoFar
 mod Answering
 mod Cursors
+mod Holders
+pub mod KeptLives
+mod LiveNumbers
 pub mod Plays
 mod Rests
 mod Room
 mod Settled
-mod Unwoken
-mod Woken
 mod Working
+mod WokenBy

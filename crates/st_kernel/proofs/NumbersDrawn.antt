@@ -1,4 +1,4 @@
--- How many numbers a run has drawn, and how many it draws at most.
+-- How many drawings a run has made, and how many it makes at most.
 use Rattle.std.proofs.Common.{◌≡◌, ◌≤◌, suc, subst, sym}
 use Rattle.st_law.specs.State.{State}
 use Rattle.st_reached.specs.Reached.{most_numbers}

@@ -10,14 +10,15 @@ use Rattle.st_law.proofs.Resting.{rest_settles}
 use Rattle.st_law.specs.History.{session_at}
 use Rattle.st_law.specs.Inputs.{IsStartable}
 use Rattle.st_law.specs.Machine.{entry_of, state_after, state_of_run}
+use Rattle.st_law.specs.Numbers.{drawn}
 use Rattle.st_law.specs.Schedules.{Played, further_on, line_played, most_steps, repeated, rest_from}
 use Rattle.st_law.specs.Sessions.{SessionFilter}
 use Rattle.st_law.specs.State.{State}
 use Rattle.st_law.specs.declared.input.Input.{Input}
 use Rattle.st_law.specs.declared.input.What.TheVariants.{Rest}
 use Rattle.st_kernel.specs.declared.kernel.StepFault.{StepFault}
-use Rattle.st_kernel.specs.Kernel.{RunSoFar, rested, played_so_far, state_in, trace_of, with_choice, Continues}
-use Rattle.st_kernel.proofs.RunsSoFar.{run_more, state_more}
+use Rattle.st_kernel.specs.Kernel.{RunSoFar, numbered_next, rested, played_so_far, state_in, trace_of, with_choice, Continues}
+use Rattle.st_kernel.proofs.RunsSoFar.{state_more, trace_more}
 
 module _ (i : Input) (made : List Choice) where
   abbrev here : RunSoFar
@@ -68,13 +69,13 @@ module _ (old : RunSoFar) (c : Choice) (count k : ℕ) (within : k < count) wher
 -- ---- entries that are given to the recorder
 
 -- what holds of the run so far, and is preserved by each entry, holds after a choice
-pub noted_on : (P Q : Input → List Entry → Type 0) (old : RunSoFar) (c : Choice) (e : Entry) (new : RunSoFar) (i : Input) (session : List SessionFilter)
-    → new ≡ with_choice old c → i ≡ new.input → session ≡ session_at new.input (reverse (trace_of new)) → entry_of old.input (state_in old) c ≡ Some e
-    → ((trace : List Entry) → session ≡ session_at i (reverse (trace ++ e ∷ [])) → P i trace → Q i (trace ++ e ∷ [])) → P old.input (trace_of old) → Q new.input (trace_of new)
-noted_on P Q old c e new i session on same following adds noted x =
+pub noted_on : (P Q : Input → List Entry → Type 0) (old : RunSoFar) (c : Choice) (e given : Entry) (new : RunSoFar) (i : Input) (session : List SessionFilter)
+    → new ≡ with_choice old c → i ≡ new.input → session ≡ session_at new.input (reverse (drawn (trace_of new))) → entry_of old.input (state_in old) c ≡ Some e → numbered_next old e ≡ given
+    → ((trace : List Entry) → session ≡ session_at i (reverse (drawn (trace ++ given ∷ []))) → P i trace → Q i (trace ++ given ∷ [])) → P old.input (trace_of old) → Q new.input (trace_of new)
+noted_on P Q old c e given new i session on same following adds its noted x =
     let was : i ≡ old.input = same ∙ ap (λ (so_far : RunSoFar). so_far.input) on in
-    let longer : trace_of new ≡ trace_of old ++ e ∷ [] = ap trace_of on ∙ run_more old.input old.choices c e adds in
-    let here : session ≡ session_at i (reverse (trace_of old ++ e ∷ [])) = following ∙ (λ k. session_at (sym same k) (reverse (longer k))) in
+    let longer : trace_of new ≡ trace_of old ++ given ∷ [] = ap trace_of on ∙ trace_more old.input old.choices c e adds ∙ ap (λ (next : Entry). trace_of old ++ next ∷ []) its in
+    let here : session ≡ session_at i (reverse (drawn (trace_of old ++ given ∷ []))) = following ∙ (λ k. session_at (sym same k) (reverse (drawn (longer k)))) in
     subst (λ (j : Input). Q j (trace_of new)) same
     (subst (Q i) (sym longer) (noted (trace_of old) here (subst (λ (j : Input). P j (trace_of old)) (sym was) x)))
 

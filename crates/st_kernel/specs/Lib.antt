@@ -1,3 +1,2 @@
 pub mod Kernel
 pub mod Runners
-pub mod Waking

@@ -1,12 +1,12 @@
-// How many numbers a run draws, and whether one is live.
-ghost use Rattle.std.specs.Prelude.{◌≡◌, ◌≤◌, ◌+◌, ◌*◌, length, sum_by, count_by};
+// How many drawings a run makes, the number of a drawing, and whether a number is live.
+ghost use Rattle.std.specs.Prelude.{◌≡◌, ◌↔◌, true, ◌≤◌, ◌+◌, ◌*◌, length, sum_by, count_by};
+ghost use Rattle.st_law.specs.Inputs.{IsStartable};
 ghost use Rattle.st_law.specs.Schedules.{is_set_id_instruction};
-ghost use Rattle.st_law.specs.State.{is_live};
 ghost use Rattle.st_reached.specs.Reached.{most_numbers};
-ghost use Rattle.st_kernel.specs.Kernel.{state_in};
+ghost use Rattle.st_kernel.specs.Kernel.{live_number, state_in, IsLiveNumber};
 
 use crate::kernel::Kernel;
-use st_base::Seq;
+use st_base::{Drawing, Seq};
 use st_trace::{Instr, ThreadRow};
 
 // Whether an instruction is a call that sets ids.
@@ -20,7 +20,7 @@ fn sets_ids(instr: &Instr) -> bool
     }
 }
 
-// The most numbers that the instructions of a body draw: one each, and 64 more for each call that sets ids.
+// The most drawings that the instructions of a body draw: one each, and 64 more for each call that sets ids.
 fn most_of_body(body: &[Instr]) -> u32
     requires { length body.now ≤ 4096 }
     ensures most { result ≡ length body.now + 64 * count_by is_set_id_instruction body.now }
@@ -30,7 +30,7 @@ fn most_of_body(body: &[Instr]) -> u32
     body.len() as u32 + 64 * calls as u32
 }
 
-// The most numbers that all instructions of a script draw.
+// The most drawings that all instructions of a script draw.
 fn most_of_script(threads: &[ThreadRow]) -> u32
     requires { sum_by (λ row. length row.body) threads.now ≤ 4096 }
     ensures { result ≡ sum_by (λ row. length row.body) threads.now + 64 * sum_by (λ row. count_by is_set_id_instruction row.body) threads.now }
@@ -43,25 +43,37 @@ fn most_of_script(threads: &[ThreadRow]) -> u32
 }
 
 impl<'a> Kernel<'a> {
-    /// The most numbers that the run can draw, from its beginning to its end. It takes no memory.
+    /// The most drawings that the run can make, from its beginning to its end. It takes no memory.
     pub fn most_messages(&self) -> u32
         ensures { result ≡ most_numbers self.now.input }
     {
         most_of_script(self.machine.input().start.threads.as_slice())
     }
 
-    /// How many numbers were drawn so far. It takes no memory.
+    /// How many drawings were made so far. It takes no memory.
     pub fn drawings(&self) -> u64
         ensures drawn { result ≡ (state_in self.now).posted }
         ensures most { result ≤ most_numbers self.now.input }
+        ensures startable { IsStartable self.now.input }
     {
         let machine = self.machine.view();
         machine.workers.next_drawing() - 1
     }
 
+    /// The number of a live drawing; none iff the drawing isn't live. It takes no memory.
+    pub fn seq(&self, drawing: Drawing) -> Option<Seq>
+        ensures { result ≡ live_number self.now drawing }
+    {
+        let machine = self.machine.view();
+        match machine.workers.thread(drawing) {
+            Some(_) => Some(machine.workers.seq(drawing)),
+            None => None,
+        }
+    }
+
     /// Whether a number is live. It takes no memory.
     pub fn live(&self, seq: Seq) -> bool
-        ensures { result ≡ is_live (state_in self.now) seq }
+        ensures { (result ≡ true) ↔ IsLiveNumber self.now seq }
     {
         self.holder(seq).is_some()
     }

@@ -1,16 +1,16 @@
-ghost use Rattle.std.specs.Prelude.{◌≡◌, ◌≤◌, [], reverse, None, Some, is_some, IfOk, IfSome, ℕ, true, OnOk, OnErr};
+ghost use Rattle.std.specs.Prelude.{◌≡◌, ◌↔◌, ◌≤◌, [], reverse, None, Some, is_some, IfOk, IfSome, ℕ, true, OnOk, OnErr};
 ghost use Rattle.st_law.specs.History.{session_at};
 ghost use Rattle.st_law.specs.Lawful.{Lawful};
 ghost use Rattle.st_law.specs.Machine.{entry_of, IsEnabled, IsSettled};
+ghost use Rattle.st_law.specs.Numbers.{drawn, IsLawfulByNumber};
 ghost use Rattle.st_law.specs.State.{State, is_live, thread_count};
 ghost use Rattle.st_decide.specs.Machine.{Refines};
 ghost use Rattle.st_reached.specs.Runnable.{CanRun};
 ghost use Rattle.st_reached.specs.Waiting.{is_message_by};
 ghost use Rattle.st_report.specs.ScheduleText.{repeats_of};
 ghost use Rattle.st_trace.specs.declared.entry.Choice.TheVariants.{Thread, Worker};
-ghost use Rattle.st_kernel.specs.Kernel.{rested, state_in, trace_of, with_choice, Continues, HasMadeFirstEnabled, IsChosen, IsNextEntry, IsPlayed, IsTried, NoneMoves};
+ghost use Rattle.st_kernel.specs.Kernel.{drawn_of, entry_now, number_now, rested, state_in, trace_of, with_choice, Continues, HasMadeFirstEnabled, IsChosen, IsLiveNumber, IsNextEntry, IsPlayed, IsTried, NoneMoves};
 
-use crate::waking::woken_by;
 use st_base::{Seq, Tid};
 use st_compile::Compiled;
 use st_decide::View;
@@ -19,6 +19,7 @@ use st_learn::Session;
 use st_machine::Machine;
 use st_report::{Recorder, Repeat, note_choice};
 use st_trace::{Choice, Entry};
+use st_waking::woken_by;
 use std::alloc::{AllocError, Global};
 use std::marker::Model;
 use thiserror::Error;
@@ -58,7 +59,6 @@ fn is_enabled(machine: &View<'_, '_>, choice: Choice) -> bool
 }
 
 /// A run so far: its input, and the choices that were made.
-#[derive(Debug)]
 pub struct Kernel<'a> {
     pub(crate) machine: Machine<'a>,
     // The choices that were made, with equal consecutive ones joined. There is room for the answer of each ready worker.
@@ -127,9 +127,9 @@ impl<'a> Kernel<'a> {
         self.machine.compiled()
     }
 
-    /// The session after the choices that were made.
+    /// The session after the drawings of the trace.
     pub fn session(&self) -> &Session<'a>
-        ensures { result.now.filters ≡ session_at self.now.input (reverse (trace_of self.now)) }
+        ensures { result.now.filters ≡ session_at self.now.input (reverse (drawn (trace_of self.now))) }
     {
         self.machine.session()
     }
@@ -139,17 +139,20 @@ impl<'a> Kernel<'a> {
     pub fn schedule(&self) -> &[Repeat]
         ensures choices { result.now ≡ repeats_of self.now.choices }
         ensures enabled { IsPlayed self.now }
-        ensures lawful { Lawful self.now.input (trace_of self.now) }
+        ensures lawful { Lawful self.now.input (drawn_of self.now) }
+        ensures numbers { IsLawfulByNumber self.now.input (trace_of self.now) }
     {
         self.made.as_slice()
     }
 
     /// The thread that holds the call of a number, if the number is live. No other thread holds it.
     pub fn holder(&self, seq: Seq) -> Option<Tid>
-        ensures only { IfSome result (λ tid. (t : ℕ) → is_message_by (state_in self.now) t seq ≡ true → t ≡ tid) }
-        ensures live { is_some result ≡ is_live (state_in self.now) seq }
+        ensures only { IfSome result (λ tid. (t q : ℕ) → is_live (state_in self.now) q ≡ true → number_now self.now q ≡ seq → is_message_by (state_in self.now) t q ≡ true → t ≡ tid) }
+        ensures live { (is_some result ≡ true) ↔ IsLiveNumber self.now seq }
     {
-        self.machine.view().holder(seq)
+        let machine = self.machine.view();
+        let drawing = machine.workers.drawing(seq)?;
+        machine.holder(drawing)
     }
 
     /// Whether a choice is enabled: it would add an entry now. It takes no memory.
@@ -196,7 +199,7 @@ impl<'a> Kernel<'a> {
     ) -> Result<(), StepFault>
         ensures ok { OnOk result (self.new ≡ with_choice self.old choice) }
         ensures enabled { OnOk result (IsEnabled self.old.input (state_in self.old) choice) }
-        ensures entry { OnOk result (added.new ≡ entry_of self.old.input (state_in self.old) choice) }
+        ensures entry { OnOk result (added.new ≡ entry_now self.old choice) }
         ensures not_enabled { result ≡ Err StepFault.NotEnabled → entry_of self.old.input (state_in self.old) choice ≡ None }
         ensures no_entry { result ≡ Err StepFault.NotEnabled → added.new ≡ None }
         ensures same_place { result ≡ Err StepFault.NoMemory → added.new ≡ added.old }

@@ -6,7 +6,6 @@ mod drawn;
 pub mod kernel;
 pub mod play;
 pub mod runners;
-mod waking;
 
 pub use kernel::{Kernel, StepFault};
 pub use play::PlayFault;

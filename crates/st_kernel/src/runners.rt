@@ -1,20 +1,21 @@
 // What runners ask of a run, and how a worker moves until it is ready. A runner judges a ready worker's copies by itself.
-ghost use Rattle.std.specs.Prelude.{◌≡◌, ◌↔◌, true, None, Some, IfSome, IfOk, IfErr, OnOk, OnErr};
-ghost use Rattle.st_kernel.specs.Kernel.{kept_copies, state_in, with_choice, IsPlayed};
+ghost use Rattle.std.specs.Option.{option_map};
+ghost use Rattle.std.specs.Prelude.{◌≡◌, ◌↔◌, ℕ, true, None, Some, IfSome, IfOk, IfErr, OnOk, OnErr};
+ghost use Rattle.st_kernel.specs.Kernel.{entry_now, kept_copies, number_now, state_in, with_choice, IsPlayed};
 ghost use Rattle.st_kernel.specs.Runners.{HasEnabled, IsAnswerFault, IsWork};
-ghost use Rattle.st_law.specs.Machine.{entry_of, IsEnabled, IsSettled};
+ghost use Rattle.st_law.specs.Machine.{IsEnabled, IsSettled};
 ghost use Rattle.st_law.specs.Meaning.{IsWorker};
 ghost use Rattle.st_law.specs.State.{is_live, thread_count, worker_at};
 ghost use Rattle.st_trace.specs.declared.entry.Choice.TheVariants as choices;
 ghost use Rattle.st_trace.specs.declared.entry.Entry.TheVariants as entries;
 
 use crate::kernel::Kernel;
-use crate::waking::woken_by;
 use st_base::{Seq, Shared, Worker};
 use st_calls::Snapshot;
 use st_filter::Judged;
 use st_report::note_choice;
 use st_trace::{Choice, Entry};
+use st_waking::woken_by;
 use st_workers::Turn;
 use std::alloc::{AllocError, Global};
 
@@ -80,13 +81,13 @@ impl<'a> Kernel<'a> {
     /// The number that a worker is at; none iff it is idle.
     pub fn working_on(&self, worker: Worker) -> Option<Seq>
         requires { IsWorker self.now.input worker }
-        ensures { result ≡ worker_at (state_in self.now) worker }
+        ensures { result ≡ option_map (number_now self.now) (worker_at (state_in self.now) worker) }
     {
         let machine = self.machine.view();
         match machine.workers.turn(worker) {
             Turn::Idle => None,
-            Turn::Working(seq) => Some(*seq),
-            Turn::Ready(seq, _) => Some(*seq),
+            Turn::Working(drawing) => Some(machine.workers.seq(*drawing)),
+            Turn::Ready(drawing, _) => Some(machine.workers.seq(*drawing)),
         }
     }
 
@@ -154,9 +155,9 @@ impl<'a> Kernel<'a> {
         requires policies { judged.policies ≡ self.old.input.policies }
         ensures ok { OnOk result (self.new ≡ with_choice self.old (choices.Worker worker)) }
         ensures enabled { OnOk result (IsEnabled self.old.input (state_in self.old) (choices.Worker worker)) }
-        ensures entry { OnOk result (added.new ≡ entry_of self.old.input (state_in self.old) (choices.Worker worker)) }
+        ensures entry { OnOk result (added.new ≡ entry_now self.old (choices.Worker worker)) }
         ensures kept { OnOk result (kept_copies self.old worker ≡ Some judged.entry.snapshot) }
-        ensures answered { OnOk result (added.new ≡ Some (entries.Answered worker judged.entry.snapshot judged.entry.verdict (is_live (state_in self.old) judged.entry.snapshot.seq))) }
+        ensures answered { OnOk result ((q : ℕ) × (worker_at (state_in self.old) worker ≡ Some q) × (added.new ≡ Some (entries.Answered worker judged.entry.snapshot judged.entry.verdict (is_live (state_in self.old) q)))) }
         ensures fault { IfErr result (λ fault. IsAnswerFault self.old worker judged.entry fault) }
         ensures err { OnErr result (self.new ≡ self.old) }
         ensures place { OnErr result (added.new ≡ added.old) }

@@ -137,7 +137,10 @@ fn append_change(alloc: Global, text: &mut Text, change: &Change) -> Result<(), 
         Change::SetIds(ids) => append_ids(text, b"setids", *ids),
         Change::Cwd(name) => append_named(alloc, text, b"cwd", name),
         Change::Dying(pid) => append_numbered(text, b"dying", &[u64::from(*pid)]),
-        Change::Renewed { old, new } => append_numbered(text, b"renewed", &[*old, *new]),
+        Change::Renewed { old, new } => {
+            let numbers = [u64::from(*old), u64::from(*new)];
+            append_numbered(text, b"renewed", &numbers)
+        }
         Change::Policy(binary) => append_printed(text, b"policy", binary),
     }
 }

@@ -29,7 +29,7 @@ fn append_way(text: &mut Text, way: Way) -> Result<(), AllocError>
     match way {
         Way::Fast => text.append(b" fast"),
         Way::Barred(number) => append_numbered(text, b" barred", &[u64::from(number)]),
-        Way::Held(seq) => append_numbered(text, b" held", &[seq]),
+        Way::Held(seq) => append_numbered(text, b" held", &[u64::from(seq)]),
         Way::Untraced => text.append(b" untraced"),
     }
 }
@@ -99,7 +99,7 @@ fn append_seq(text: &mut Text, seq: Option<Seq>) -> Result<(), AllocError>
     ensures { OnOk result (text.new ≡ text.old ++ seq_field seq) }
 {
     match seq {
-        Some(seq) => append_numbers(text, &[seq]),
+        Some(seq) => append_numbers(text, &[u64::from(seq)]),
         None => text.append(b" -"),
     }
 }
@@ -267,7 +267,7 @@ fn append_copied(
 ) -> Result<(), AllocError>
     ensures { OnOk result (text.new ≡ text.old ++ codes "copied" ++ number_fields (seq ∷ part ∷ place ∷ word ∷ [])) }
 {
-    let numbers = [seq, u64::from(part), u64::from(place), word];
+    let numbers = [u64::from(seq), u64::from(part), u64::from(place), word];
     append_numbered(text, b"copied", &numbers)
 }
 
@@ -282,7 +282,7 @@ fn append_looked(
 ) -> Result<(), AllocError>
     ensures { OnOk result (text.new ≡ text.old ++ codes "looked" ++ number_fields (seq ∷ part ∷ []) ++ name_field name.now ++ seen_fields seen.now) }
 {
-    append_numbered(text, b"looked", &[seq, u64::from(part)])?;
+    append_numbered(text, b"looked", &[u64::from(seq), u64::from(part)])?;
     append_name(alloc, text, name)?;
     append_seen(text, seen)
 }
@@ -308,7 +308,7 @@ fn append_worker_entry(alloc: Global, text: &mut Text, entry: &Entry) -> Result<
 {
     match entry {
         Entry::Claimed { worker, seq } => {
-            append_numbered(text, b"claimed", &[u64::from(*worker), *seq])
+            append_numbered(text, b"claimed", &[u64::from(*worker), u64::from(*seq)])
         }
         Entry::Copied {
             seq,
@@ -323,7 +323,7 @@ fn append_worker_entry(alloc: Global, text: &mut Text, entry: &Entry) -> Result<
             seen,
         } => append_looked(alloc, text, *seq, *part, name, seen),
         Entry::Faulted { seq, errno } => {
-            append_numbered(text, b"faulted", &[*seq])?;
+            append_numbered(text, b"faulted", &[u64::from(*seq)])?;
             append_word(text, errno.name())
         }
         Entry::Answered {
@@ -333,7 +333,11 @@ fn append_worker_entry(alloc: Global, text: &mut Text, entry: &Entry) -> Result<
             applied,
         } => {
             let copies = snapshot.get();
-            append_numbered(text, b"answered", &[u64::from(*worker), copies.seq])?;
+            append_numbered(
+                text,
+                b"answered",
+                &[u64::from(*worker), u64::from(copies.seq)],
+            )?;
             append_judged(text, copies)?;
             append_answer(text, copies, *verdict, *applied)
         }
@@ -359,10 +363,10 @@ pub fn append_entry(alloc: Global, text: &mut Text, entry: &Entry) -> Result<(),
         Entry::Replied { seq, reply, number } => append_numbered(
             text,
             b"replied",
-            &[*seq, u64::from(*reply), u64::from(*number)],
+            &[u64::from(*seq), u64::from(*reply), u64::from(*number)],
         ),
         Entry::Learned { seq, number } => {
-            append_numbered(text, b"learned", &[*seq, u64::from(*number)])
+            append_numbered(text, b"learned", &[u64::from(*seq), u64::from(*number)])
         }
     }
 }

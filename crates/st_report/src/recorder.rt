@@ -1,5 +1,6 @@
 ghost use Rattle.std.specs.Prelude.{◌≡◌, ◌++◌, ◌∷◌, [], ⊤, List, reverse, OnOk};
 ghost use Rattle.st_law.specs.History.{session_at};
+ghost use Rattle.st_law.specs.Numbers.{drawn};
 ghost use Rattle.st_law.specs.declared.input.Input.{Input};
 ghost use Rattle.st_trace.specs.declared.entry.Entry.{Entry};
 
@@ -14,7 +15,8 @@ pub trait Recorder {
     /// Whether exactly these entries of a run of this input were recorded, in order.
     ghost has_noted: { Self → Input → List Entry → Type 0 };
 
-    /// Records the next entry of a run of this input, whose policies are given compiled too. The session is the one after that entry.
+    /// Records the next entry of a run of this input, whose policies are given compiled too. The entries have the numbers of their
+    /// messages. The session is the one after the drawings of these numbers, those of that entry included.
     fn note(
         &mut self,
         alloc: Global,
@@ -24,7 +26,7 @@ pub trait Recorder {
         entry: &Entry,
     ) -> Result<(), AllocError>
         requires { compiled.now ≡ input.now.policies }
-        ensures { OnOk result ((trace : List Entry) → session.now.filters ≡ session_at input.now (reverse (trace ++ entry.now ∷ [])) → has_noted self.old input.now trace → has_noted self.new input.now (trace ++ entry.now ∷ [])) };
+        ensures { OnOk result ((trace : List Entry) → session.now.filters ≡ session_at input.now (reverse (drawn (trace ++ entry.now ∷ []))) → has_noted self.old input.now trace → has_noted self.new input.now (trace ++ entry.now ∷ [])) };
 }
 
 /// Records nothing.

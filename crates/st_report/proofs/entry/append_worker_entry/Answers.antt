@@ -13,7 +13,7 @@ returns-in_ok-append_judged-in-Answered c =
     let copies : Snapshot = c.get-copies.result.now in
     on_ok_weaker c.append_answer.result (λ last.
     six_joined c.args.text.now (codes "answered") (number_fields (x.worker ∷ copies.seq ∷ [])) (judged_fields copies) (asked_fields copies) (verdict_fields x.verdict) (applied_field x.applied)
-    c.append_numbered-in-Answered.new.text c.append_judged.new.text (c.in_ok-append_numbered-in-Answered.ensures ∙ ap (λ worker. c.args.text.now ++ codes "answered" ++ number_fields (worker ∷ copies.seq ∷ [])) c.from-in-Answered.ensures) c.in_ok-append_judged-in-Answered.ensures
+    c.append_numbered-in-Answered.new.text c.append_judged.new.text (c.in_ok-append_numbered-in-Answered.ensures ∙ (λ k. c.args.text.now ++ codes "answered" ++ number_fields (c.from-in-Answered.ensures k ∷ c.from-in-Answered-2.ensures k ∷ []))) c.in_ok-append_judged-in-Answered.ensures
     c.append_answer.new.text last
     ∙ ap (λ (printed : Snapshot). c.args.text.now ++ entry_text (Answered x.worker printed x.verdict x.applied)) c.get-copies.ensures
     ∙ ap (λ e. c.args.text.now ++ entry_text e) (sym x.is)) c.append_answer.ensures

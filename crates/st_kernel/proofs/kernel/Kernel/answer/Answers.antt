@@ -7,10 +7,11 @@ use Rattle.st_trace.specs.declared.entry.Choice.TheVariants.{Worker}
 use Rattle.st_trace.specs.declared.entry.Entry.{Entry}
 use Rattle.st_report.specs.declared.schedule.Repeat.{Repeat}
 use Rattle.st_decide.specs.Machine.{IsStep}
+use Rattle.st_waking.specs.Waking.{is_asleep}
 use Rattle.st_kernel.specs.Kernel.{RunSoFar, IsRunSoFar, kept_copies}
-use Rattle.st_kernel.specs.Waking.{is_asleep}
 use Rattle.st_kernel.proofs.Answering.{IsReadyIn, HasAnswered, adds_one, has_answered, has_room, is_ready_in, its_copies, its_entry, keeps_none, room_then, there_then}
 use Rattle.st_kernel.proofs.RunsSoFar.{HasWoken, WakesNoOther, course_on}
+use Rattle.st_kernel.proofs.WokenBy.{wakes_no_other}
 use Rattle.st_kernel.proofs.Working.{answer_task, worker_here}
 use Rattle.st_kernel.proofs.kernel.Kernel.answer.Goals as goal
 
@@ -71,9 +72,10 @@ invariant_of-self c =
       marked = λ place is. subst (λ (marks : List Bool). is_asleep marks place ≡ true) c.deref_mut.ensures.value (c.wake.ensures.before place is);
       unwoken = c.wake.ensures.woken;
     } in
-    let only : WakesNoOther c.answer.new.self c.in-Some.entry c.woken_by-woken.result = c.woken_by-woken.ensures.law in
-    let on = course_on c.self.inside.machine c.answer.new.self c.self.inside.made.items c.self.inside.first c.self.inside.asleep.items (Worker c.args.worker) c.in-Some.entry c.woken_by-woken.result c.cursor-self-inside.result c.wake.new.asleep
-    c.self.invariant.0 c.answer.ensures.input step only has in
+    let only : WakesNoOther c.answer.new.self step.0 c.woken_by-woken.result =
+    wakes_no_other c.self.inside.machine c.answer.new.self c.self.inside.made.items c.self.inside.first c.self.inside.asleep.items c.self.invariant.0 c.answer.ensures.input (Worker c.args.worker) step.0 step.1 c.in-Some.entry step.2 c.woken_by-woken.result c.woken_by-woken.ensures in
+    let on = course_on c.self.inside.machine c.answer.new.self c.self.inside.made.items c.self.inside.first c.self.inside.asleep.items (Worker c.args.worker) step.0 c.woken_by-woken.result c.cursor-self-inside.result c.wake.new.asleep
+    c.self.invariant.0 c.answer.ensures.input step.1 only has in
     let noted = subst (λ (l : List Repeat). IsRunSoFar c.answer.new.self l c.cursor-self-inside.result c.wake.new.asleep) (sym c.note_choice.ensures.made) on in (
       subst (IsRunSoFar c.answer.new.self c.note_choice.new.repeats.items c.cursor-self-inside.result) (sym written) noted,
       room_then c.self.inside.machine c.self.inside.made.items c.self.inside.first c.self.inside.asleep.items c.args.worker c.in-Ready.field-0 c.in-Ready.copies ready c.answer.new.self.input c.answer.ensures.input c.note_choice.new.repeats.items c.note_choice.ensures.made
@@ -104,3 +106,9 @@ returns-clause-kept c = (answered_here c).kept
 
 pub returns-clause-answered : goal.returns-clause-answered
 returns-clause-answered c = (answered_here c).answered
+
+pub returns-clause-enabled : goal.returns-clause-enabled
+returns-clause-enabled c = (answered_here c).enabled
+
+pub returns-clause-entry : goal.returns-clause-entry
+returns-clause-entry c = (answered_here c).entry

@@ -1,4 +1,5 @@
 use Rattle.std.proofs.Common.{◌≡◌, ◌-◌, ◌≤◌, ◌∙◌, suc, subst, arith}
+use Rattle.st_law.specs.Inputs.{IsStartable}
 use Rattle.st_law.specs.Machine.{state_of_run}
 use Rattle.st_law.specs.State.{State}
 use Rattle.st_report.specs.ScheduleText.{spelled_choices}
@@ -27,3 +28,6 @@ pub returns-clause-most : goal.returns-clause-most
 returns-clause-most c =
     subst (λ (so_far : RunSoFar). (c.next_drawing.result - 1) ≤ most_numbers so_far.input) c.self.view_is
     (omega (arith, next c, at_most c.self.inside.machine (state c) c.self.invariant.0.machine))
+
+pub returns-clause-startable : goal.returns-clause-startable
+returns-clause-startable c = subst (λ (so_far : RunSoFar). IsStartable so_far.input) c.self.view_is c.self.invariant.0.machine.reached.startable

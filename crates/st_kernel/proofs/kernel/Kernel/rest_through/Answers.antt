@@ -1,8 +1,7 @@
 use Rattle.std.proofs.Common.{◌≡◌, ◌∙◌, Some, true, false, ap, sym, subst}
 use Rattle.std.proofs.lemmas.Option.{none-some, same_Some}
 use Rattle.st_law.specs.Machine.{entry_of}
-use Rattle.st_trace.specs.declared.entry.Entry.{Entry}
-use Rattle.st_kernel.specs.Kernel.{IsNextEntry, IsPlayed, next_enabled, state_in}
+use Rattle.st_kernel.specs.Kernel.{IsNextEntry, IsPlayed, next_enabled, numbered_next, state_in}
 use Rattle.st_kernel.proofs.Plays.{noted_on}
 use Rattle.st_kernel.proofs.Rests.{GoesOn, goes_on, made_on, next_adds, rest_over, settled_at}
 use Rattle.st_kernel.proofs.kernel.Kernel.rest_through.Goals as goal
@@ -11,7 +10,7 @@ use Rattle.st_kernel.proofs.kernel.Kernel.rest_through.Goals as goal
 pub unreachable-requires : goal.unreachable-requires
 unreachable-requires g c =
     let made : IsNextEntry c.loop-added.self true c.make_next.new.added c.make_next.new.self = subst (λ made. IsNextEntry c.loop-added.self made c.make_next.new.added c.make_next.new.self) c.if-branch.true c.in_ok-make_next.ensures.made in
-    none-some made.0 (sym c.in_default.is ∙ made.2)
+    none-some (numbered_next c.loop-added.self made.0) (sym c.in_default.is ∙ made.2)
 
 pub loop-added-smaller : goal.loop-added-smaller
 loop-added-smaller g c =
@@ -22,12 +21,12 @@ pub loop-added-preserved : goal.loop-added-preserved
 loop-added-preserved g c =
     let made : IsNextEntry c.loop-added.self true c.make_next.new.added c.make_next.new.self = subst (λ made. IsNextEntry c.loop-added.self made c.make_next.new.added c.make_next.new.self) c.if-branch.true c.in_ok-make_next.ensures.made in
     let goes : GoesOn c.loop-added.self c.make_next.new.self = goes_on c.loop-added.self c.make_next.new.self c.make_next.new.added c.make_next.ensures.played made in
-    let same : made.0 ≡ c.in-Some.entry = same_Some made.0 c.in-Some.entry (sym made.2 ∙ c.in-Some.is) in
-    let adds : entry_of c.loop-added.self.input (state_in c.loop-added.self) made.1 ≡ Some c.in-Some.entry = next_adds c.loop-added.self made.0 made.1 made.3 ∙ ap (λ (e : Entry). Some e) same in
+    let same : numbered_next c.loop-added.self made.0 ≡ c.in-Some.entry = same_Some (numbered_next c.loop-added.self made.0) c.in-Some.entry (sym made.2 ∙ c.in-Some.is) in
+    let adds : entry_of c.loop-added.self.input (state_in c.loop-added.self) made.1 ≡ Some made.0 = next_adds c.loop-added.self made.0 made.1 made.3 in
     record {
       on_the_way = goes.on_the_way ∙ c.loop-added.invariant.on_the_way;
       made = made_on _ c.loop-added.self c.make_next.new.self c.loop-added.invariant.made goes;
-      noted = λ x. noted_on (g.R.Recorder.has_noted c.loop-added.recorder) (g.R.Recorder.has_noted c.note.new.self) c.loop-added.self made.1 c.in-Some.entry c.make_next.new.self c.input.result.now c.session.result.now.filters made.4 c.input.ensures c.session.ensures adds
+      noted = λ x. noted_on (g.R.Recorder.has_noted c.loop-added.recorder) (g.R.Recorder.has_noted c.note.new.self) c.loop-added.self made.1 made.0 c.in-Some.entry c.make_next.new.self c.input.result.now c.session.result.now.filters made.4 c.input.ensures c.session.ensures adds same
           c.in_ok-note.ensures (c.loop-added.invariant.noted x);
     }
 

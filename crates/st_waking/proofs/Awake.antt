@@ -7,7 +7,7 @@ use Rattle.std.specs.Prelude.{nat_le}
 use Rattle.st_decide.specs.Holding.{message_held, message_of, held_drawing}
 use Rattle.st_decide.specs.Machine.{Running}
 use Rattle.st_threads.specs.Thread.{ThreadRow}
-use Rattle.st_kernel.specs.Waking.{is_asleep}
+use Rattle.st_waking.specs.Waking.{is_asleep}
 
 -- of the threads before `tid`, those of the kind are awake, and the others are unchanged
 pub record IsWokenTo (is : ℕ → Bool) (tid : ℕ) (old now : List Bool) : Type 0 where

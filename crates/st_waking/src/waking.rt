@@ -1,14 +1,12 @@
 // Which threads an entry may wake, so that the others needn't be asked again whether they can move.
 ghost use Rattle.std.specs.Prelude.{◌≡◌, ◌⊎◌, ◌==◌, ◌≤◌, ◌<◌, ℕ, suc, true, false, length};
 ghost use Rattle.std.specs.List.{list_any};
-ghost use Rattle.st_law.specs.State.{State};
 ghost use Rattle.st_decide.specs.Holding.{is_same_rule, message_held};
-ghost use Rattle.st_decide.specs.Machine.{Refines};
-ghost use Rattle.st_messages.specs.Messages.{thread_of_number};
-ghost use Rattle.st_reached.specs.Waiting.{is_message_by, wakes, wakes_all};
-ghost use Rattle.st_kernel.specs.Waking.{holder_woken, is_asleep, is_woken, woken_by};
+ghost use Rattle.st_messages.specs.Messages.{drawing_of};
+ghost use Rattle.st_reached.specs.Waiting.{wakes_all};
+ghost use Rattle.st_waking.specs.Waking.{alike_woken, holder_woken, is_asleep, is_woken, thread_if, woken_by};
 
-use st_base::{Seq, Tid};
+use st_base::{Drawing, Seq, Tid};
 use st_decide::View;
 use st_lookaside::Head;
 use st_machine::Machine;
@@ -19,8 +17,8 @@ use st_trace::{Change, Entry};
 pub enum Woken {
     Nobody,
     One(Tid),
-    /// The threads that hold calls of the same policy and rule as the message of this number.
-    SameRule(Seq),
+    /// The threads that hold calls of the same policy and rule as the message of this drawing.
+    SameRule(Drawing),
     Everybody,
 }
 
@@ -43,19 +41,31 @@ fn wakes_some(changes: &[Change]) -> bool
 
 // The thread that holds the call of a number, or all threads if the holder isn't known.
 fn holder(machine: &Machine<'_>, seq: Seq) -> Woken
-    ensures whom { result ≡ holder_woken (thread_of_number machine.now.workers.calls seq) }
-    ensures law { (st : State) → Refines machine.now st → (t : ℕ) → is_message_by st t seq ≡ true → is_woken machine.now result t ≡ true }
+    ensures { result ≡ holder_woken (thread_if machine.now.workers.calls (drawing_of machine.now.workers.calls seq)) }
 {
-    match machine.view().holder(seq) {
+    let view = machine.view();
+    let Some(drawing) = view.workers.drawing(seq) else {
+        return Woken::Everybody;
+    };
+    match view.holder(drawing) {
         Some(tid) => Woken::One(tid),
+        None => Woken::Everybody,
+    }
+}
+
+// The threads that hold calls of the same policy and rule as the message of a number, or all threads if the message isn't known.
+fn alike(machine: &Machine<'_>, seq: Seq) -> Woken
+    ensures { result ≡ alike_woken (drawing_of machine.now.workers.calls seq) }
+{
+    match machine.view().workers.drawing(seq) {
+        Some(drawing) => Woken::SameRule(drawing),
         None => Woken::Everybody,
     }
 }
 
 /// Which threads an entry may wake, according to the machine after it. Most entries wake nobody, and then no view of it is made.
 pub fn woken_by(machine: &Machine<'_>, entry: &Entry) -> Woken
-    ensures whom { result ≡ woken_by machine.now.workers.calls entry.now }
-    ensures law { (st : State) → Refines machine.now st → (t : ℕ) → wakes st entry.now t ≡ true → is_woken machine.now result t ≡ true }
+    ensures { result ≡ woken_by machine.now.workers.calls entry.now }
 {
     match entry {
         Entry::Used { changes, .. } => {
@@ -77,7 +87,7 @@ pub fn woken_by(machine: &Machine<'_>, entry: &Entry) -> Woken
                 Woken::Nobody
             }
         }
-        Entry::Learned { seq, .. } | Entry::Replied { seq, .. } => Woken::SameRule(*seq),
+        Entry::Learned { seq, .. } | Entry::Replied { seq, .. } => alike(machine, *seq),
         _ => Woken::Nobody,
     }
 }
@@ -139,9 +149,9 @@ impl Woken {
             Woken::Nobody => first,
             Woken::One(0) => first,
             Woken::One(tid) => first.min(tid),
-            Woken::SameRule(seq) => {
+            Woken::SameRule(drawing) => {
                 let view = machine.view();
-                match view.message(seq) {
+                match view.message(drawing) {
                     Some(message) => first_alike(&view, message, first),
                     None => 1,
                 }
@@ -162,9 +172,9 @@ impl Woken {
         match self {
             Woken::Nobody => {}
             Woken::One(tid) => mark_awake(tid, asleep),
-            Woken::SameRule(seq) => {
+            Woken::SameRule(drawing) => {
                 let view = machine.view();
-                match view.message(seq) {
+                match view.message(drawing) {
                     Some(message) => wake_alike(&view, message, from, asleep),
                     None => asleep.fill(false),
                 }

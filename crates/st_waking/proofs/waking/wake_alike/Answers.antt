@@ -1,8 +1,8 @@
 use Rattle.std.proofs.Common.{◌∙◌, arith, suc, length, refl, ap, sym, subst, ◌+◌}
 use Rattle.st_decide.specs.Holding.{is_same_rule, message_held}
-use Rattle.st_kernel.proofs.Woken.{IsWokenTo, all_woken, marked, nothing_held, passed}
-use Rattle.st_kernel.proofs.waking.wake_alike.Goals as goal
-use Rattle.st_kernel.proofs.waking.wake_alike.Goals.{then-holds_alike, else-holds_alike}
+use Rattle.st_waking.proofs.Awake.{IsWokenTo, all_woken, marked, nothing_held, passed}
+use Rattle.st_waking.proofs.waking.wake_alike.Goals as goal
+use Rattle.st_waking.proofs.waking.wake_alike.Goals.{then-holds_alike, else-holds_alike}
 
 pub loop-tid-init : goal.loop-tid-init
 loop-tid-init c = record {

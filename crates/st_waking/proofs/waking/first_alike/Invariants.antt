@@ -1,6 +1,6 @@
 use Rattle.std.proofs.Common.{◌≡◌, ◌≤◌, ◌<◌, ℕ, false}
 use Rattle.st_decide.specs.Holding.{is_same_rule, message_held}
-use Rattle.st_kernel.proofs.waking.first_alike.Given as goal
+use Rattle.st_waking.proofs.waking.first_alike.Given as goal
 
 -- none of the threads so far holds such a call
 abbrev pub invariant-loop-tid : goal.invariant-loop-tid

@@ -1,7 +1,7 @@
 use Rattle.std.proofs.Common.{◌≡◌, ◌≤◌, suc, length}
 use Rattle.st_decide.specs.Holding.{is_same_rule, message_held}
-use Rattle.st_kernel.proofs.Woken.{IsWokenTo}
-use Rattle.st_kernel.proofs.waking.wake_alike.Given as goal
+use Rattle.st_waking.proofs.Awake.{IsWokenTo}
+use Rattle.st_waking.proofs.waking.wake_alike.Given as goal
 
 -- the threads so far that hold such a call are awake
 abbrev pub invariant-loop-tid : goal.invariant-loop-tid

@@ -1,0 +1,3 @@
+mod Awake
+pub mod LawWakes
+pub mod Unwoken
