@@ -1,2 +1,4 @@
-mod Draws
+pub mod Draws
+mod Idle
 mod Recording
+mod Working

@@ -1,11 +1,10 @@
 // Steps of a kernel whose entries are given to a recorder.
-ghost use Rattle.std.specs.Prelude.{◌≡◌, ◌≤◌, true, is_some, IfOk, OnOk};
+ghost use Rattle.std.specs.Prelude.{◌≡◌, ◌↔◌, true, is_some, IfOk, OnOk, OnErr};
 ghost use Rattle.st_trace.specs.declared.entry.Choice.{Choice};
 ghost use Rattle.st_trace.specs.declared.entry.Choice.TheVariants as choices;
-ghost use Rattle.st_law.specs.Machine.{entry_of};
 ghost use Rattle.st_law.specs.Meaning.{IsWorker};
-ghost use Rattle.st_kernel.specs.Kernel.{state_in, trace_of, with_choice, RunSoFar};
-ghost use Rattle.st_noted.specs.Steps.{MayHaveMade};
+ghost use Rattle.st_kernel.specs.Kernel.{entry_now, with_choice, RunSoFar};
+ghost use Rattle.st_noted.specs.Steps.{IsAnswerTaken, IsStepMade, IsWorkDone, MayHaveMade, StillNoted};
 
 use crate::last_entry::LastEntry;
 use st_base::Worker;
@@ -23,7 +22,7 @@ fn note_last<R: Recorder>(
     added: &Option<Entry>,
 ) -> Result<(), AllocError>
     requires { is_some added.now ≡ true }
-    ensures { OnOk result ((old : RunSoFar) (choice : Choice) → kernel.now ≡ with_choice old choice → entry_of old.input (state_in old) choice ≡ added.now → R.has_noted recorder.old old.input (trace_of old) → R.has_noted recorder.new kernel.now.input (trace_of kernel.now)) }
+    ensures { OnOk result ((old : RunSoFar) (choice : Choice) → kernel.now ≡ with_choice old choice → entry_now old choice ≡ added.now → StillNoted (R.has_noted recorder.old) old (R.has_noted recorder.new) kernel.now) }
 {
     let Some(entry) = added else { unreachable!() };
     recorder.note(
@@ -44,10 +43,8 @@ pub fn advance<R: Recorder>(
     choice: Choice,
     added: &mut LastEntry,
 ) -> Result<bool, AllocError>
-    ensures input { kernel.new.input ≡ kernel.old.input }
-    ensures posted { (state_in kernel.old).posted ≤ (state_in kernel.new).posted }
-    ensures noted { OnOk result (R.has_noted recorder.old kernel.old.input (trace_of kernel.old) → R.has_noted recorder.new kernel.new.input (trace_of kernel.new)) }
-    ensures made { IfOk result (λ made. made ≡ true → kernel.new ≡ with_choice kernel.old choice) }
+    ensures noted { OnOk result (StillNoted (R.has_noted recorder.old) kernel.old (R.has_noted recorder.new) kernel.new) }
+    ensures made { IfOk result (λ made. IsStepMade kernel.old choice made kernel.new) }
     ensures step { MayHaveMade kernel.old choice kernel.new }
 {
     match kernel.advance(alloc, choice, &mut added.entry) {
@@ -61,7 +58,7 @@ pub fn advance<R: Recorder>(
 
 // Whether there is a worker of this number.
 fn has_worker(kernel: &Kernel<'_>, worker: Worker) -> bool
-    ensures { result ≡ true → IsWorker kernel.now.input worker }
+    ensures { (result ≡ true) ↔ IsWorker kernel.now.input worker }
 {
     0 < worker && worker <= kernel.input().options.workers
 }
@@ -75,9 +72,8 @@ pub fn work<R: Recorder>(
     worker: Worker,
     added: &mut LastEntry,
 ) -> Result<Work, AllocError>
-    ensures input { kernel.new.input ≡ kernel.old.input }
-    ensures posted { (state_in kernel.old).posted ≤ (state_in kernel.new).posted }
-    ensures noted { OnOk result (R.has_noted recorder.old kernel.old.input (trace_of kernel.old) → R.has_noted recorder.new kernel.new.input (trace_of kernel.new)) }
+    ensures noted { OnOk result (StillNoted (R.has_noted recorder.old) kernel.old (R.has_noted recorder.new) kernel.new) }
+    ensures work { IfOk result (λ work. IsWorkDone kernel.old worker work kernel.new) }
     ensures step { MayHaveMade kernel.old (choices.Worker worker) kernel.new }
 {
     if !has_worker(kernel, worker) {
@@ -93,7 +89,7 @@ pub fn work<R: Recorder>(
 }
 
 /// Answers a call that was judged by the policies of the run, under the number of its worker, and gives the entry to the recorder. Returns
-/// whether the worker was ready with this call; if not, nothing changes.
+/// whether the worker was ready with this call; if not, nothing changes. If memory runs out, the answer was made all the same.
 pub fn answer<'a, R: Recorder>(
     kernel: &mut Kernel<'a>,
     recorder: &mut R,
@@ -102,9 +98,9 @@ pub fn answer<'a, R: Recorder>(
     judged: Judged<'a>,
 ) -> Result<bool, AllocError>
     requires { judged.policies ≡ kernel.old.input.policies }
-    ensures input { kernel.new.input ≡ kernel.old.input }
-    ensures posted { (state_in kernel.old).posted ≤ (state_in kernel.new).posted }
-    ensures noted { OnOk result (R.has_noted recorder.old kernel.old.input (trace_of kernel.old) → R.has_noted recorder.new kernel.new.input (trace_of kernel.new)) }
+    ensures noted { OnOk result (StillNoted (R.has_noted recorder.old) kernel.old (R.has_noted recorder.new) kernel.new) }
+    ensures taken { IfOk result (λ taken. IsAnswerTaken kernel.old worker judged.entry.snapshot taken kernel.new) }
+    ensures unnoted { OnErr result (IsAnswerTaken kernel.old worker judged.entry.snapshot true kernel.new) }
     ensures step { MayHaveMade kernel.old (choices.Worker worker) kernel.new }
 {
     if !has_worker(kernel, worker) {

@@ -1,1 +1,4 @@
+mod Invariant
+mod KeptDrawings
 mod Posted
+mod TicketUses

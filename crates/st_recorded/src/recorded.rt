@@ -1,15 +1,15 @@
 // A run whose entries are recorded, and whose tickets are posted, as they are made.
-ghost use Rattle.std.specs.Prelude.{◌≡◌, ◌≤◌, [], true, false, IfOk};
+ghost use Rattle.std.specs.Prelude.{◌≡◌, ◌≤◌, [], Bool, false, IfOk};
 ghost use Rattle.std.specs.Coded.{codes};
 ghost use Rattle.atomic_table.specs.Seated.{TableId};
 ghost use Rattle.st_filter.specs.FormulaCode.{formula_code};
 ghost use Rattle.st_trace.specs.declared.entry.Choice.TheVariants as choices;
 ghost use Rattle.st_law.specs.Machine.{IsSettled};
-ghost use Rattle.st_law.specs.State.{is_live};
 ghost use Rattle.st_law.specs.declared.input.Input.{Input};
-ghost use Rattle.st_kernel.specs.Kernel.{rested, state_in, trace_of, with_choice};
-ghost use Rattle.st_noted.specs.Steps.{MayHaveMade};
+ghost use Rattle.st_kernel.specs.Kernel.{rested, state_in, trace_of, IsLiveNumber};
+ghost use Rattle.st_noted.specs.Steps.{IsAnswerTaken, MayHaveMade};
 ghost use Rattle.st_reached.specs.Reached.{most_numbers};
+ghost use Rattle.st_recorded.specs.Recorded.{IsStepRecorded, IsTicketUsed, IsWorkRecorded};
 
 use crate::news::{News, news_of};
 use crate::run::{Run, TicketUse};
@@ -60,7 +60,7 @@ fn settle<'a, R: Recorder + Drop>(
 }
 
 /// A kernel of the input that `N` names, with what records its run, and the poster of the queue that `N` names. Unless it is stopped, each
-/// entry of the run was recorded. There is a ticket for each number that was drawn, in order, and room for all that can be drawn.
+/// entry of the run was recorded. There is a ticket for each drawing of the run, in order, and room for those of all that it can make.
 #[derive(Drop)]
 pub struct RecordedRun<'a, N: RunName, R: Recorder + Drop> {
     kernel: Kernel<'a>,
@@ -74,24 +74,21 @@ pub struct RecordedRun<'a, N: RunName, R: Recorder + Drop> {
 }
 
 impl<'a, N: RunName, R: Recorder + Drop> Model for RecordedRun<'a, N, R> {
-    ghost use Rattle.std.specs.Prelude.{◌≡◌, ◌≤◌, false};
-    ghost use Rattle.st_kernel.specs.Kernel.{state_in, trace_of, RunSoFar};
-    ghost use Rattle.st_reached.specs.Reached.{most_numbers};
-    ghost use Rattle.st_recorded.specs.Tickets.{tickets_up_to};
     ghost use Rattle.std.specs.Coded.{codes};
     ghost use Rattle.st_filter.specs.FormulaCode.{formula_code};
+    ghost use Rattle.st_recorded.specs.Recorded.{IsRecorded, RecordedSoFar};
 
-    ghost Value = { RunSoFar };
+    ghost Value = { RecordedSoFar };
 
     ghost coded = { Prim.hlevel (codes, formula_code) };
 
-    ghost view = { λ r. r.kernel };
+    ghost view = { λ r. record { so_far = r.kernel; stopped = r.stopped } };
 
-    ghost invariant = { λ r. (r.kernel.input ≡ N.input) × (r.stopped ≡ false → ∥ R.has_noted r.recorder r.kernel.input (trace_of r.kernel) ∥₁) × (most_numbers r.kernel.input ≤ r.poster.capacity) × (r.poster.tickets ≡ tickets_up_to (state_in r.kernel).posted) × (r.poster.queue ≡ N.queue) };
+    ghost invariant = { λ r. IsRecorded N.input N.queue (R.has_noted r.recorder) (record { so_far = r.kernel; stopped = r.stopped }) r.poster };
 }
 
 impl<'a, N: RunName, R: Recorder + Drop> RecordedRun<'a, N, R> {
-    /// A run whose entries so far were recorded, with a poster that hasn't posted. It posts tickets for the numbers drawn so far.
+    /// A run whose entries so far were recorded, with a poster that hasn't posted. It posts tickets for the drawings made so far.
     pub fn new<T: Wait>(
         rt: &T,
         kernel: Kernel<'a>,
@@ -103,6 +100,7 @@ impl<'a, N: RunName, R: Recorder + Drop> RecordedRun<'a, N, R> {
         requires room { most_numbers kernel.input ≤ poster.capacity }
         requires none { poster.tickets ≡ [] }
         requires queue { poster.queue ≡ N.queue }
+        ensures { result ≡ record { so_far = kernel.entry; stopped = false } }
     {
         let mut poster = poster;
         catch_up(rt, &mut poster, &kernel);
@@ -126,7 +124,7 @@ impl<'a, N: RunName, R: Recorder + Drop> RecordedRun<'a, N, R> {
     /// The kernel, settled, and what recorded its run. Makes the choices that are still enabled.
     pub fn finish(self, alloc: Global) -> Result<(Kernel<'a>, R), AllocError>
         ensures input { IfOk result (λ both. both.0.input ≡ N.input) }
-        ensures rested { IfOk result (λ both. both.0 ≡ rested self.entry) }
+        ensures rested { IfOk result (λ both. both.0 ≡ rested self.entry.so_far) }
         ensures settled { IfOk result (λ both. IsSettled both.0.input (state_in both.0)) }
         ensures noted { IfOk result (λ both. ∥ R.has_noted both.1 both.0.input (trace_of both.0) ∥₁) }
     {
@@ -148,8 +146,8 @@ impl<'a, N: RunName, R: Recorder + Drop> RecordedRun<'a, N, R> {
 
     /// Makes a choice. Returns whether it was enabled. If memory runs out, the run is stopped.
     pub fn advance<T: Wait>(&mut self, rt: &T, alloc: Global, choice: Choice) -> bool
-        ensures made { result ≡ true → self.new ≡ with_choice self.old choice }
-        ensures step { MayHaveMade self.old choice self.new }
+        ensures made { IsStepRecorded self.old choice result self.new }
+        ensures step { MayHaveMade self.old.so_far choice self.new.so_far }
     {
         let made = steps::advance(
             &mut self.kernel,
@@ -170,7 +168,8 @@ impl<'a, N: RunName, R: Recorder + Drop> RecordedRun<'a, N, R> {
 
     /// Moves a worker, unless it is ready. If memory runs out, the run is stopped.
     pub fn work<T: Wait>(&mut self, rt: &T, alloc: Global, worker: Worker) -> Work
-        ensures step { MayHaveMade self.old (choices.Worker worker) self.new }
+        ensures work { IsWorkRecorded self.old worker result self.new }
+        ensures step { MayHaveMade self.old.so_far (choices.Worker worker) self.new.so_far }
     {
         let made = steps::work(
             &mut self.kernel,
@@ -198,21 +197,24 @@ impl<'a, N: RunName, R: Recorder + Drop> RecordedRun<'a, N, R> {
         worker: Worker,
         ticket: Ticket,
     ) -> TicketUse
-        ensures skipped { is_live (state_in self.old) ticket.seq ≡ false → (self.new ≡ self.old) × (result ≡ TicketUse.Skipped) }
+        ensures skipped { (IsLiveNumber self.old.so_far ticket.seq → ⊥) → (self.new ≡ self.old) × (result ≡ TicketUse.Skipped) }
+        ensures used { IsTicketUsed self.old worker ticket result self.new }
     {
         if !self.kernel.live(ticket.seq) {
             return TicketUse::Skipped;
         }
         match self.work(rt, alloc, worker) {
             Work::Idle => TicketUse::Spent,
-            _ => TicketUse::Claimed,
+            Work::Judge(_) => TicketUse::Claimed,
+            Work::Went => TicketUse::Claimed,
         }
     }
 
     /// Answers under the number of a worker, if it is ready with this call. If memory runs out, the run is stopped.
     pub fn answer<T: Wait>(&mut self, rt: &T, alloc: Global, worker: Worker, judged: Judged<'a>)
         requires { judged.policies ≡ N.input.policies }
-        ensures step { MayHaveMade self.old (choices.Worker worker) self.new }
+        ensures taken { (taken : Bool) × IsAnswerTaken self.old.so_far worker judged.entry.snapshot taken self.new.so_far }
+        ensures step { MayHaveMade self.old.so_far (choices.Worker worker) self.new.so_far }
     {
         let made = steps::answer(&mut self.kernel, &mut self.recorder, alloc, worker, judged);
         catch_up(rt, &mut self.poster, &self.kernel);

@@ -1,11 +1,12 @@
 // The poster and the takers of a run, and what the poster posts.
-ghost use Rattle.std.specs.Prelude.{◌≡◌, ◌≤◌, [], IfOk, length};
+ghost use Rattle.std.specs.Prelude.{◌≡◌, ◌≤◌, ◌-◌, ◌++◌, [], IfOk, length};
+ghost use Rattle.st_law.specs.Inputs.{IsStartable};
 ghost use Rattle.st_kernel.specs.Kernel.{state_in};
 ghost use Rattle.st_reached.specs.Reached.{most_numbers};
-ghost use Rattle.st_recorded.specs.Tickets.{new_takers, tickets_up_to, AreTicketsWithin};
+ghost use Rattle.st_recorded.specs.Tickets.{new_takers, tickets_after};
 
 use st_kernel::Kernel;
-use st_messages::{Poster, Taker, seq_of, tickets};
+use st_messages::{Poster, Taker, tickets};
 use std::alloc::{AllocError, Global};
 use std::sync::Wait;
 
@@ -20,28 +21,18 @@ pub fn tickets_for(alloc: Global, kernel: &Kernel<'_>) -> Result<(Poster, Vec<Ta
     tickets(alloc, capacity, workers)
 }
 
-// Posts a ticket for each number that was drawn since the last was posted.
-fn post_drawn<T: Wait>(rt: &T, poster: &mut Poster, drawings: u64)
-    requires room { drawings ≤ poster.old.capacity }
-    requires count { length poster.old.tickets ≤ drawings }
-    requires posted { poster.old.tickets ≡ tickets_up_to (length poster.old.tickets) }
-    ensures capacity { poster.new.capacity ≡ poster.old.capacity }
-    ensures queue { poster.new.queue ≡ poster.old.queue }
-    ensures posted { poster.new.tickets ≡ tickets_up_to drawings }
-{
-    while poster.posted() < drawings {
-        let seq = seq_of(poster.posted() + 1);
-        poster.post(rt, seq);
-    }
-}
-
-/// Posts a ticket for each number that the run of a kernel has drawn since the last was posted.
+/// Posts a ticket for each drawing that the run of a kernel has made since the last was posted.
 pub fn catch_up<T: Wait>(rt: &T, poster: &mut Poster, kernel: &Kernel<'_>)
     requires room { most_numbers kernel.now.input ≤ poster.old.capacity }
-    requires posted { AreTicketsWithin poster.old.tickets (state_in kernel.now).posted }
+    requires count { length poster.old.tickets ≤ (state_in kernel.now).posted }
     ensures room { most_numbers kernel.now.input ≤ poster.new.capacity }
     ensures queue { poster.new.queue ≡ poster.old.queue }
-    ensures posted { poster.new.tickets ≡ tickets_up_to (state_in kernel.now).posted }
+    ensures startable { IsStartable kernel.now.input }
+    ensures posted { poster.new.tickets ≡ poster.old.tickets ++ tickets_after kernel.now (length poster.old.tickets) ((state_in kernel.now).posted - length poster.old.tickets) }
 {
-    post_drawn(rt, poster, kernel.drawings());
+    let drawings = kernel.drawings();
+    while poster.posted() < drawings {
+        let seq = kernel.seq(poster.posted() + 1);
+        poster.post(rt, seq.unwrap_or(0));
+    }
 }
