@@ -81,6 +81,21 @@ fn set(threads: &mut [Progress], tid: Tid, progress: Progress) {
     }
 }
 
+// Forgets a number that is drawn again. A dying thread may still have it until it ends.
+fn forget(threads: &mut [Progress], seq: Seq) {
+    for each in threads.iter_mut() {
+        if each.seq() == Some(seq) {
+            *each = Progress::Running;
+        }
+    }
+}
+
+// Notes that a thread's call is posted under this number. It is the only one that has the number then.
+fn set_posted(threads: &mut [Progress], tid: Tid, seq: Seq) {
+    forget(threads, seq);
+    set(threads, tid, Progress::Posted(seq));
+}
+
 // Notes how far the thread has come that holds the call of this number.
 fn set_holder(threads: &mut [Progress], seq: Seq, progress: Progress) {
     for each in threads.iter_mut() {
@@ -90,12 +105,18 @@ fn set_holder(threads: &mut [Progress], seq: Seq, progress: Progress) {
     }
 }
 
+// Notes that the call of the old number is posted again under the new one.
+fn renew(threads: &mut [Progress], old: Seq, new: Seq) {
+    forget(threads, new);
+    set_holder(threads, old, Progress::Posted(new));
+}
+
 // Notes what a call changes.
 fn note_changes(threads: &mut [Progress], changes: &[Change]) {
     for change in changes {
         match change {
             Change::Forked { tid, .. } => set(threads, *tid, Progress::Running),
-            Change::Renewed { old, new } => set_holder(threads, *old, Progress::Posted(*new)),
+            Change::Renewed { old, new } => renew(threads, *old, *new),
             _ => {}
         }
     }
@@ -109,11 +130,15 @@ impl Threads {
                 tid,
                 way: Way::Held(seq),
                 ..
-            } => set(&mut self.items, *tid, Progress::Posted(*seq)),
+            } => set_posted(&mut self.items, *tid, *seq),
             Entry::Claimed { worker, seq } => {
                 set_holder(&mut self.items, *seq, Progress::Claimed(*seq, *worker));
             }
-            Entry::Answered { snapshot, .. } => {
+            Entry::Answered {
+                snapshot,
+                applied: true,
+                ..
+            } => {
                 let seq = snapshot.get().seq;
                 set_holder(&mut self.items, seq, Progress::Answered(seq));
             }

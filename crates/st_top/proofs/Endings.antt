@@ -8,6 +8,7 @@ use Rattle.st_law.specs.declared.input.Input.{Input}
 use Rattle.st_law.specs.declared.input.ReadSchedule.{ReadSchedule}
 use Rattle.st_law.specs.Lawful.{Lawful}
 use Rattle.st_law.specs.Machine.{run}
+use Rattle.st_law.specs.Numbers.{IsLawfulByNumber, numbered}
 use Rattle.st_law.specs.Schedules.{BadLine, Choices, played}
 use Rattle.st_grammar.specs.declared.fault.PolicyRefusal.{PolicyRefusal}
 use Rattle.st_script_faults.specs.declared.fault.ScriptFault.{ScriptFault}
@@ -36,11 +37,11 @@ module _ (words : List Word) (contents : Contents) (c : Command) (faults faults_
   same d is = same_Some c d (sym spelled ∙ is)
 
   pub run_written : end ≡ status.Done → (step : StepWords) → command_in words ≡ Some (Step step) →
-      (input : Input) × (schedule : ReadSchedule) × (choices : List Choice) × Means contents (Step step) (Runs input schedule) × (played input schedule ≡ Choices choices) × Lawful input (run input choices) × Appends old new (printed step.print input choices)
+      (input : Input) × (schedule : ReadSchedule) × (choices : List Choice) × Means contents (Step step) (Runs input schedule) × (played input schedule ≡ Choices choices) × Lawful input (run input choices) × IsLawfulByNumber input (numbered input (run input choices)) × Appends old new (printed step.print input choices)
   run_written is step spells =
       let x = (of status.Done is).0 in
       let m = subst (λ (d : Command). IsMeant contents d x.0) (same (Step step) spells) x.1 in
-      (m.input, m.schedule, m.choices, m.meant, m.played_to, m.lawful, subst (Appends old new) m.text_is x.2)
+      (m.input, m.schedule, m.choices, m.meant, m.played_to, m.lawful, m.by_number, subst (Appends old new) m.text_is x.2)
 
   pub canon_written : end ≡ status.Done → (check : CheckWords) → command_in words ≡ Some (Check check) → (text : List ℕ) × Means contents (Check check) (Prints text) × Appends old new text
   canon_written is check spells =

@@ -4,6 +4,7 @@ use Rattle.st_law.specs.Inputs.{IsStartable}
 use Rattle.st_law.specs.declared.input.Input.{Input}
 use Rattle.st_law.specs.declared.input.ReadSchedule.{ReadSchedule}
 use Rattle.st_law.proofs.Laws.{run_lawful}
+use Rattle.st_reached.proofs.NumbersBack.{run_by_number}
 use Rattle.st_command.specs.Words.{Word}
 use Rattle.st_command.specs.Command.{StepWords}
 use Rattle.st_command.specs.declared.command.Command.{Command}
@@ -37,7 +38,7 @@ module _ (contents : Contents) (faults faults_after : ℕ) (old new : List Word)
   shown_of_step : (step : StepWords) (i : Input) (schedule : ReadSchedule) → IsStartable i → Means contents (Step step) (Runs i schedule) → AskedTo (Step step) (last_file (Step step)) old new →
       (result : Result (List ℕ) Status) → RunShown step.print i schedule result → Prepares contents (Step step) faults faults_after old new result
   shown_of_step step i schedule startable meant asked (Ok text) x =
-      (record { input = i; schedule = schedule; choices = x.0; meant = meant; played_to = x.1; lawful = run_lawful i startable x.0; text_is = x.2 }, asked)
+      (record { input = i; schedule = schedule; choices = x.0; meant = meant; played_to = x.1; lawful = run_lawful i startable x.0; by_number = run_by_number i startable x.0; text_is = x.2 }, asked)
   shown_of_step step i schedule startable meant asked (Err (status.Schedule line)) x = (record { input = i; schedule = schedule; meant = meant; bad = x }, asked)
   shown_of_step step i schedule startable meant asked (Err status.NoMemory) x = inr (record { input = i; schedule = schedule; meant = meant }, asked)
   shown_of_step step i schedule startable meant asked (Err status.Done) x = absurd x

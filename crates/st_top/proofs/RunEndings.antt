@@ -7,6 +7,7 @@ use Rattle.st_trace.specs.declared.entry.Choice.{Choice}
 use Rattle.st_law.specs.declared.input.Input.{Input}
 use Rattle.st_law.specs.Lawful.{Lawful}
 use Rattle.st_law.specs.Machine.{run}
+use Rattle.st_law.specs.Numbers.{IsLawfulByNumber, numbered}
 use Rattle.st_grammar.specs.declared.fault.PolicyRefusal.{PolicyRefusal}
 use Rattle.st_script_faults.specs.declared.fault.ScriptFault.{ScriptFault}
 use Rattle.st_command.specs.Command.{RunWords}
@@ -70,11 +71,11 @@ module _ (words : List Word) (contents : Contents) (threaded : RunWords) (faults
   same other is = same_Some threaded other (sym spelled ∙ is)
 
   pub threads_written : ended.status ≡ status.Done → (other : RunWords) → run_of_words words ≡ Some other →
-      (input : Input) × MeansRun contents other (starts input) × IsWholeRun input ended.schedule × Lawful input (run input ended.schedule) × Appends old new (printed other.print input ended.schedule)
+      (input : Input) × MeansRun contents other (starts input) × IsWholeRun input ended.schedule × Lawful input (run input ended.schedule) × IsLawfulByNumber input (numbered input (run input ended.schedule)) × Appends old new (printed other.print input ended.schedule)
   threads_written is other spells =
       let x = (of status.Done is).0 in
       let m = subst (λ (r : RunWords). IsOfThreads contents r ended.schedule x.0) (same other spells) x.1 in
-      (m.input, m.meant, m.whole, m.whole.lawful, subst (Appends old new) m.text_is x.2)
+      (m.input, m.meant, m.whole, m.whole.lawful, m.whole.by_number, subst (Appends old new) m.text_is x.2)
 
   pub some_run : run_of_words words ≢ None
   some_run none = by (sym spelled ∙ none)

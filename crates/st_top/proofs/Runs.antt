@@ -2,14 +2,15 @@
 use Rattle.std.proofs.Common.{◌≡◌, ◌∙◌, ℕ, List, [], Result, Ok, Err, refl, ap, sym, subst}
 use Rattle.std.specs.Result.{IsErr, IsErrAnd}
 use Rattle.st_law.specs.Inputs.{IsStartable}
-use Rattle.st_law.specs.Lawful.{Lawful}
 use Rattle.st_law.specs.Machine.{run}
+use Rattle.st_law.specs.Numbers.{IsLawfulByNumber, drawn, largest_number, numbered}
 use Rattle.st_law.specs.Schedules.{BadLine, Choices, lines_played, played}
 use Rattle.st_law.specs.declared.input.Input.{Input}
 use Rattle.st_law.specs.declared.input.ReadSchedule.{ReadSchedule}
 use Rattle.st_law.proofs.Laws.{run_lawful}
+use Rattle.st_reached.proofs.NumbersBack.{roomy, run_by_number, trace_back}
 use Rattle.st_command.specs.declared.given.Print.{Print}
-use Rattle.st_kernel.specs.Kernel.{RunSoFar, played_so_far, trace_of}
+use Rattle.st_kernel.specs.Kernel.{RunSoFar, drawn_of, played_so_far, trace_of}
 use Rattle.st_kernel.specs.declared.play.PlayFault.{PlayFault}
 use Rattle.st_kernel.specs.declared.play.PlayFault.TheVariants as play
 use Rattle.st_trace.specs.declared.entry.Choice.{Choice}
@@ -35,7 +36,7 @@ module _ (print : Print) (schedule : ReadSchedule) (course : RunSoFar) (choices 
 
   -- a property of the empty trace holds of the entries before the first choice
   pub none_yet : (P : Input → List Entry → Type 0) → P i [] → P i (trace_of course)
-  none_yet P x = subst (λ (made : List Choice). P i (run i made)) (sym choices) x
+  none_yet P x = subst (λ (made : List Choice). P i (numbered i (run i made))) (sym choices) x
 
   -- the text that is asked for is printed
   pub shown : (new : RunSoFar) (text : List ℕ) → new.input ≡ i → lines_played schedule.lines schedule.bad i (played_so_far course) ≡ Choices new.choices → text ≡ printed print new.input new.choices → RunShown print i schedule (Ok text)
@@ -46,9 +47,14 @@ pub out_of_memory : (print : Print) (i : Input) (schedule : ReadSchedule) (resul
 out_of_memory print i schedule (Ok text) failed same = cc
 out_of_memory print i schedule (Err s) failed same = subst (λ (end : Status). RunShown print i schedule (Err end)) (sym same) tt
 
--- a run keeps the input that it started with, and is lawful
+-- a run keeps the input that it started with, its trace is lawful by the numbers of messages, and has the drawings of the run
 pub starts_so : (i : Input) (new : RunSoFar) → new.input ≡ i → IsStartable i → IsStartable new.input
 starts_so i new same startable = subst IsStartable (sym same) startable
 
-pub lawful_so : (i : Input) (new : RunSoFar) → new.input ≡ i → IsStartable i → Lawful new.input (trace_of new)
-lawful_so i new same startable = run_lawful new.input (starts_so i new same startable) new.choices
+pub lawful_so : (i : Input) (new : RunSoFar) → new.input ≡ i → IsStartable i → IsLawfulByNumber new.input (trace_of new)
+lawful_so i new same startable = run_by_number new.input (starts_so i new same startable) new.choices
+
+pub drawn_so : (i : Input) (new : RunSoFar) → new.input ≡ i → IsStartable i → drawn (trace_of new) ≡ drawn_of new
+drawn_so i new same startable =
+    let starts = starts_so i new same startable in
+    trace_back largest_number new.input starts (roomy new.input starts) (drawn_of new) (run_lawful new.input starts new.choices)

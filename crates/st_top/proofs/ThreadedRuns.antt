@@ -8,6 +8,7 @@ use Rattle.st_law.specs.Machine.{IsEnabled, IsSettled, history, run, state_of_ru
 use Rattle.st_law.specs.Threads.{has_ended_at, owner_at}
 use Rattle.st_law.specs.declared.input.Input.{Input}
 use Rattle.st_law.proofs.Laws.{run_lawful}
+use Rattle.st_reached.proofs.NumbersBack.{run_by_number}
 use Rattle.st_command.specs.Command.{RunWords}
 use Rattle.st_command.specs.Words.{Word}
 use Rattle.st_command.specs.declared.given.Print.{Print}
@@ -43,7 +44,13 @@ module _ (law : SomeChoiceIsEnabled) (new : RunSoFar) (played : IsPlayed new) (s
           absurd (cc)
 
   pub whole : IsWholeRun new.input new.choices
-  whole = record { enabled = played.enabled; lawful = run_lawful new.input played.startable new.choices; settled = settled; ended = all_ended }
+  whole = record {
+    enabled = played.enabled;
+    lawful = run_lawful new.input played.startable new.choices;
+    by_number = run_by_number new.input played.startable new.choices;
+    settled = settled;
+    ended = all_ended;
+  }
 
 -- the text that is asked for is printed, and the choices are returned
 pub threads_show : (print : Print) (i : Input) (new : RunSoFar) (text : List ℕ) (choices : List Choice) → IsWholeRun new.input new.choices → new.input ≡ i → choices ≡ new.choices → text ≡ printed print new.input new.choices →

@@ -7,6 +7,7 @@ use Rattle.st_law.specs.declared.input.Input.{Input}
 use Rattle.st_law.specs.declared.input.ReadSchedule.{ReadSchedule}
 use Rattle.st_law.specs.Lawful.{Lawful}
 use Rattle.st_law.specs.Machine.{run}
+use Rattle.st_law.specs.Numbers.{IsLawfulByNumber, numbered}
 use Rattle.st_law.specs.Schedules.{Choices, BadLine, played}
 use Rattle.st_command.specs.Reading.{command_in}
 use Rattle.st_command.specs.Words.{Word}
@@ -27,7 +28,7 @@ use Rattle.st_top.specs.declared.status.Status.TheVariants.{Done, Missing, Usage
 
 -- ---- what is written
 
--- a text is what `step` and its files ask to be printed of the run that they mean, and the run is lawful
+-- a text is what `step` and its files ask to be printed of the run that they mean, and the run is lawful, by the numbers of its messages too
 pub record IsOfRun (contents : Contents) (step : StepWords) (text : List ℕ) : Type 0 where
   pub input : Input
   pub schedule : ReadSchedule
@@ -35,6 +36,7 @@ pub record IsOfRun (contents : Contents) (step : StepWords) (text : List ℕ) : 
   pub meant : Means contents (command.Step step) (Runs input schedule)
   pub played_to : played input schedule ≡ Choices choices
   pub lawful : Lawful input (run input choices)
+  pub by_number : IsLawfulByNumber input (numbered input (run input choices))
   pub text_is : text ≡ printed step.print input choices
 
 -- a text is what a command and its files ask to be written

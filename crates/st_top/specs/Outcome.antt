@@ -3,6 +3,7 @@ use Rattle.std.specs.Prelude.{◌≡◌, ℕ, Bool, true, false, List, Option, S
 use Rattle.st_trace.specs.declared.entry.Choice.{Choice}
 use Rattle.st_law.specs.declared.input.Input.{Input}
 use Rattle.st_law.specs.Machine.{run}
+use Rattle.st_law.specs.Numbers.{numbered}
 use Rattle.st_law.specs.Schedules.{ScheduleOutcome, Choices, BadLine, played}
 use Rattle.st_report.specs.TraceText.{trace_text}
 use Rattle.st_report.specs.ScheduleText.{schedule_text}
@@ -43,10 +44,10 @@ status_of_play play.NoMemory = NoMemory
 
 -- ---- what is printed of a run
 
--- the text that is asked for of the run by these choices
+-- the text that is asked for of the run by these choices; its trace is printed with the numbers of messages
 abbrev pub printed : Print → Input → List Choice → List ℕ
 printed print.Audit i choices = audit i (run i choices)
-printed print.Trace i choices = trace_text (run i choices)
+printed print.Trace i choices = trace_text (numbered i (run i choices))
 printed print.Schedule i choices = schedule_text choices
 printed print.Policy i choices = policy_text i (run i choices)
 

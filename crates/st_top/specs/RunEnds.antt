@@ -6,6 +6,7 @@ use Rattle.st_trace.specs.declared.entry.Choice.{Choice}
 use Rattle.st_law.specs.declared.input.Input.{Input}
 use Rattle.st_law.specs.Lawful.{Lawful}
 use Rattle.st_law.specs.Machine.{IsSettled, history, run, state_of_run}
+use Rattle.st_law.specs.Numbers.{IsLawfulByNumber, numbered}
 use Rattle.st_law.specs.Threads.{has_ended_at, owner_at}
 use Rattle.st_command.specs.Command.{RunWords}
 use Rattle.st_command.specs.Reading.{run_of_words}
@@ -29,11 +30,12 @@ use Rattle.st_top.specs.declared.status.Status.TheVariants.{Done, Missing, Usage
 abbrev pub HaveAllEnded : Input → List Choice → Type 0
 HaveAllEnded i choices = (t : ℕ) → owner_at i (history i (reverse choices)) t ≢ 0 → has_ended_at (history i (reverse choices)) t ≡ true
 
--- choices make a whole run: each was enabled when it was made, the run is lawful, no choice is enabled after it, and each thread that has
--- started has ended
+-- choices make a whole run: each was enabled when it was made, the run is lawful, by the numbers of its messages too, no choice is enabled
+-- after it, and each thread that has started has ended
 pub record IsWholeRun (i : Input) (choices : List Choice) : Type 0 where
   pub enabled : length (run i choices) ≡ length choices
   pub lawful : Lawful i (run i choices)
+  pub by_number : IsLawfulByNumber i (numbered i (run i choices))
   pub settled : IsSettled i (state_of_run i choices)
   pub ended : HaveAllEnded i choices
 

@@ -6,6 +6,7 @@ ghost use Rattle.st_law.specs.declared.input.Input.{Input};
 ghost use Rattle.st_law.specs.declared.input.ReadSchedule.{ReadSchedule};
 ghost use Rattle.st_law.specs.Lawful.{Lawful};
 ghost use Rattle.st_law.specs.Machine.{run};
+ghost use Rattle.st_law.specs.Numbers.{IsLawfulByNumber, numbered};
 ghost use Rattle.st_law.specs.Schedules.{Choices, BadLine, played};
 ghost use Rattle.st_command.specs.Command.{StepWords, CheckWords};
 ghost use Rattle.st_command.specs.Reading.{command_in, gen_of_words, IsWithinLimits};
@@ -87,12 +88,14 @@ pub fn systrace_plain<F: Files, S: Sink>(
     files: &mut F,
     out: &mut S,
 ) -> Status
-    // `step` writes what its words ask for of the run that the words and files mean, and that run is lawful.
+    // `step` writes what its words ask for of the run that the words and files mean, and that run is lawful. So is its trace with the numbers
+    // of messages, which is printed if the words ask for the trace: its numbers are those that the law gives to its messages.
     ensures step { result ≡ Status.Done → (step : StepWords) → command_in words.now ≡ Some (Step step) →
         (input : Input) × (schedule : ReadSchedule) × (choices : List Choice) ×
         Means (F.contents files.old) (Step step) (Runs input schedule) ×
         (played input schedule ≡ Choices choices) ×
         Lawful input (run input choices) ×
+        IsLawfulByNumber input (numbered input (run input choices)) ×
         Appends (S.written out.old) (S.written out.new) (printed step.print input choices) }
     // `check` writes the canonical text of the policies that its words and files mean.
     ensures check { result ≡ Status.Done → (check : CheckWords) → command_in words.now ≡ Some (Check check) →

@@ -54,6 +54,7 @@ fn policies_of(
     kernel: &mut Kernel<'_>,
     schedule: &ReadSchedule,
 ) -> Result<Text, Status>
+    requires startable { IsStartable kernel.old.input }
     requires none { kernel.old.choices ≡ [] }
     ensures { RunShown print.Policy kernel.old.input schedule.now result }
 {

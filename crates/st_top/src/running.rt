@@ -5,6 +5,7 @@ ghost use Rattle.st_outside.specs.Sink.{Appends, AppendsPrefix};
 ghost use Rattle.st_law.specs.declared.input.Input.{Input};
 ghost use Rattle.st_law.specs.Lawful.{Lawful};
 ghost use Rattle.st_law.specs.Machine.{run};
+ghost use Rattle.st_law.specs.Numbers.{IsLawfulByNumber, numbered};
 ghost use Rattle.st_command.specs.Command.{RunWords};
 ghost use Rattle.st_command.specs.Reading.{run_of_words, IsRunWithinLimits};
 ghost use Rattle.st_grammar.specs.declared.fault.PolicyRefusal.{PolicyRefusal};
@@ -84,11 +85,13 @@ pub fn systrace_run<F: Files, S: Sink, G: Gate + Sync, T: Threads + Wait + Sync>
     gate: &G,
 ) -> Ended
     // `run` writes what its words ask for of a run of the input that the words and files mean. Threads make that run, by the choices that are
-    // returned. Each of them was enabled when it was made, the run is lawful, and each thread that has started has ended.
+    // returned. Each of them was enabled when it was made, the run is lawful, and each thread that has started has ended. The run's trace with
+    // the numbers of messages is lawful too.
     ensures run { result.status ≡ Status.Done → (threaded : RunWords) → run_of_words words.now ≡ Some threaded →
         (input : Input) × MeansRun (F.contents files.old) threaded (starts input) ×
         IsWholeRun input result.schedule ×
         Lawful input (run input result.schedule) ×
+        IsLawfulByNumber input (numbered input (run input result.schedule)) ×
         Appends (S.written out.old) (S.written out.new) (printed threaded.print input result.schedule) }
     ensures served { result.status ≡ Status.Done → run_of_words words.now ≢ None }
     // If a text was written, whole or in part, all names of the words were asked for, in order.

@@ -120,6 +120,7 @@ fn schedule_by_threads<G: Gate + Sync, T: Threads + Wait + Sync>(
 
 // The policies after a run that threads have made, and its choices. It borrows the kernel, so that the kernel is dropped in one place.
 fn policies_made(alloc: Global, kernel: &Kernel<'_>) -> Result<(Text, Schedule), Status>
+    requires startable { IsStartable kernel.now.input }
     requires settled { IsSettled kernel.now.input (state_in kernel.now) }
     ensures { ThreadsShow print.Policy kernel.now.input result }
 {

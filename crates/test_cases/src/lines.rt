@@ -32,3 +32,16 @@ pub fn other_lines(text: &[u8]) -> &[u8] {
     let len = first_line(text).len().saturating_add(1);
     &text[text.len().min(len)..]
 }
+
+/// The last lines of a text each of whose lines ends with a newline, so many of them; all of it, if it has no more.
+pub fn last_lines(text: &[u8], count: u32) -> &[u8] {
+    let mut len = 0usize;
+    for line in text
+        .rsplit(|byte| *byte == b'\n')
+        .skip(1)
+        .take(count as usize)
+    {
+        len = len.saturating_add(line.len()).saturating_add(1);
+    }
+    &text[text.len().saturating_sub(len)..]
+}

@@ -10,18 +10,19 @@
 //! | `x` | how often the next such line or bytes are repeated in the file |
 //! | `f` | which fetch of a file fails |
 //! | `r`, `s`, `w` | how much room there is for what is written; which write takes one byte; which write fails |
-//! | `n` | the number of a status |
-//! | `$`, `&`, `?`, `!`, `^` | words, each after a blank: a call |
+//! | `n` | a number, of a status, of a reason, or of lines |
+//! | `$`, `&`, `%`, `?`, `!`, `^` | words, each after a blank: a call |
 //! | `:` | words that end with the status of the number, if no file can be read |
 //! | `u` | a name, after a blank: a file that can't be read, for the reason of the number |
 //! | `a` | words: whether they are answered, as `--help` and `--version` are |
 //! | `o` | words: whether they are an option of `step` and of `run`, and whether `--help` shows it |
 //!
 //! What is written of a call, after its line: for `$` its output, the number that it ends with, and its message; for `&` its output, and
-//! its status; for `?` its message, for `!` the first line of the message, and for `^` the other lines.
+//! its status; for `%` the last lines of its output, as many as the number says, and its status; for `?` its message, for `!` the first
+//! line of the message, and for `^` the other lines.
 
 use crate::call::{Ended, call, tell_status};
-use crate::lines::{count_of, first_line, other_lines, words_of};
+use crate::lines::{count_of, first_line, last_lines, other_lines, words_of};
 use crate::options::{is_read, is_shown};
 use crate::statuses::{reason_of, status_of};
 use st_base::Text;
@@ -164,7 +165,7 @@ impl Table {
             b'o' => self.tell_option(words.as_slice()),
             b':' => self.report(words.as_slice()),
             b'u' => self.tell_unread(words.as_slice()),
-            b'$' | b'&' | b'?' | b'!' | b'^' => self.call(mark, words.as_slice()),
+            b'$' | b'&' | b'%' | b'?' | b'!' | b'^' => self.call(mark, words.as_slice()),
             _ => self.write_line(b"no such line"),
         }
     }
@@ -234,6 +235,11 @@ impl Table {
             }
             b'&' => {
                 self.written.append(ended.written.bytes())?;
+                self.write_line(ended.shown.bytes())
+            }
+            b'%' => {
+                self.written
+                    .append(last_lines(ended.written.bytes(), self.number))?;
                 self.write_line(ended.shown.bytes())
             }
             b'!' => self.write_line(first_line(ended.known.bytes())),

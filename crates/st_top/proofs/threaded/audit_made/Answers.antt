@@ -1,8 +1,8 @@
-use Rattle.std.proofs.Common.{refl}
+use Rattle.std.proofs.Common.{◌∙◌, ap, refl}
 use Rattle.st_audit.specs.AuditText.{audit}
 use Rattle.st_command.specs.declared.given.Print.TheVariants as print
-use Rattle.st_kernel.specs.Kernel.{trace_of}
-use Rattle.st_top.proofs.Runs.{lawful_so}
+use Rattle.st_kernel.specs.Kernel.{drawn_of, trace_of}
+use Rattle.st_top.proofs.Runs.{drawn_so, lawful_so}
 use Rattle.st_top.proofs.ThreadedRuns.{merely_same, threads_show}
 use Rattle.st_top.proofs.threaded.audit_made.Goals as goal
 
@@ -10,5 +10,6 @@ pub returns : goal.returns
 returns c =
     let made = c.args.kernel.now in
     threads_show print.Audit made.input made c.into_text.result c.in_ok-schedule.schedule (c.choices_of.ensures.whole c.requires.settled) refl c.in_ok-schedule.ensures.made
-    (merely_same c.into_text.result (audit made.input (trace_of made)) c.requires.noted
-    (λ noted. c.into_text.ensures.audit made.input (trace_of made) noted c.requires.startable (lawful_so made.input made refl c.requires.startable)))
+    (merely_same c.into_text.result (audit made.input (drawn_of made)) c.requires.noted
+    (λ noted. c.into_text.ensures.audit made.input (trace_of made) noted c.requires.startable (lawful_so made.input made refl c.requires.startable)
+    ∙ ap (audit made.input) (drawn_so made.input made refl c.requires.startable)))
