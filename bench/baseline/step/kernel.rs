@@ -55,41 +55,74 @@ struct Message {
     answer: Option<Answer>,
 }
 
-/// All messages, by their numbers, which count from 1.
-#[derive(Default)]
+/// All messages, by their drawings, which count from 1.
 struct Messages {
     /// Those that live no more are none.
     all: Vec<Option<Message>>,
     /// The live ones that no worker has claimed.
     waiting: BTreeSet<u64>,
+    /// The number of each message.
+    numbers: Vec<u16>,
+    /// A bit for each number, whether it is in use. At most 72 are.
+    in_use: Vec<u64>,
+}
+
+impl Default for Messages {
+    fn default() -> Self {
+        Messages { all: Vec::new(), waiting: BTreeSet::new(), numbers: Vec::new(), in_use: vec![0; 1024] }
+    }
 }
 
 impl Messages {
-    fn next_seq(&self) -> u64 {
+    fn next_drawing(&self) -> u64 {
         self.all.len() as u64 + 1
     }
 
     fn post(&mut self, head: Head) -> u64 {
-        let seq = self.next_seq();
+        let drawing = self.next_drawing();
+        let number = self.next_number();
+        self.numbers.push(number);
+        self.in_use[number as usize / 64] |= 1 << (number % 64);
         self.all.push(Some(Message { head: Arc::new(head), answer: None }));
-        self.waiting.insert(seq);
-        seq
+        self.waiting.insert(drawing);
+        drawing
     }
 
-    fn get(&self, seq: u64) -> Option<&Message> {
-        self.all.get(seq as usize - 1)?.as_ref()
+    /// The first number after the last one, in a circle, that isn't in use.
+    fn next_number(&self) -> u16 {
+        let mut number = self.numbers.last().copied().unwrap_or(0);
+        loop {
+            number = number.checked_add(1).unwrap_or(1);
+            if self.in_use[number as usize / 64] >> (number % 64) & 1 == 0 {
+                return number;
+            }
+        }
+    }
+
+    fn number(&self, drawing: u64) -> u16 {
+        self.numbers[drawing as usize - 1]
+    }
+
+    /// The number of a message is free again.
+    fn free(&mut self, drawing: u64) {
+        let number = self.number(drawing);
+        self.in_use[number as usize / 64] &= !(1 << (number % 64));
+    }
+
+    fn get(&self, drawing: u64) -> Option<&Message> {
+        self.all.get(drawing as usize - 1)?.as_ref()
     }
 
     /// Answers a message, if it lives.
-    fn answer(&mut self, seq: u64, answer: Answer) {
-        if let Some(Some(message)) = self.all.get_mut(seq as usize - 1) {
+    fn answer(&mut self, drawing: u64, answer: Answer) {
+        if let Some(Some(message)) = self.all.get_mut(drawing as usize - 1) {
             message.answer = Some(answer);
         }
     }
 
-    fn remove(&mut self, seq: u64) -> Option<Message> {
-        self.waiting.remove(&seq);
-        self.all.get_mut(seq as usize - 1)?.take()
+    fn remove(&mut self, drawing: u64) -> Option<Message> {
+        self.waiting.remove(&drawing);
+        self.all.get_mut(drawing as usize - 1)?.take()
     }
 }
 
@@ -100,14 +133,14 @@ enum Answer {
 
 /// What a worker has at hand.
 struct Turn {
-    seq: u64,
+    drawing: u64,
     head: Arc<Head>,
     gathering: Gathering,
 }
 
 /// A call whose arguments are there, to be judged.
 pub struct Judging {
-    seq: u64,
+    drawing: u64,
     head: Arc<Head>,
     args: Arc<[Arg]>,
 }
@@ -194,8 +227,8 @@ impl Kernel {
             return false;
         }
         match thread.pending {
-            Some(Pending { way: Way::Held(seq), .. }) if !thread.dying => {
-                self.messages.get(seq).is_some_and(|message| message.answer.is_some())
+            Some(Pending { way: Way::Held(drawing), .. }) if !thread.dying => {
+                self.messages.get(drawing).is_some_and(|message| message.answer.is_some())
             }
             _ => true,
         }
@@ -246,22 +279,22 @@ impl Kernel {
         if self.can_move(thread) {
             return Next::Move;
         }
-        let Some(Pending { way: Way::Held(seq), .. }) = thread.pending else { return Next::Wait };
-        if self.messages.waiting.contains(&seq) {
+        let Some(Pending { way: Way::Held(drawing), .. }) = thread.pending else { return Next::Wait };
+        if self.messages.waiting.contains(&drawing) {
             return self.workers.iter().position(Option::is_none).map_or(Next::Wait, Next::Claim);
         }
-        if self.operator.is_asked_about(seq) { Next::Ask } else { Next::Wait }
+        if self.operator.is_asked_about(drawing) { Next::Ask } else { Next::Wait }
     }
 
     /// The threads whose calls wait, if a worker is idle.
     pub fn claimable(&self) -> impl Iterator<Item = usize> {
         let most = if self.workers.iter().any(Option::is_none) { usize::MAX } else { 0 };
-        self.messages.waiting.iter().take(most).filter_map(|&seq| Some(self.messages.get(seq)?.head.tid))
+        self.messages.waiting.iter().take(most).filter_map(|&drawing| Some(self.messages.get(drawing)?.head.tid))
     }
 
     /// The message that a worker is at.
     pub fn working_on(&self, worker: usize) -> Option<u64> {
-        self.workers[worker].as_ref().map(|turn| turn.seq)
+        self.workers[worker].as_ref().map(|turn| turn.drawing)
     }
 
     pub fn take_started(&mut self) -> Option<usize> {
@@ -279,7 +312,7 @@ impl Kernel {
             return None;
         }
         let args = std::mem::take(&mut turn.gathering.args).into();
-        Some(Judging { seq: turn.seq, head: Arc::clone(&turn.head), args })
+        Some(Judging { drawing: turn.drawing, head: Arc::clone(&turn.head), args })
     }
 
     /// Makes the step of a worker that answers what it had to judge.
@@ -325,35 +358,45 @@ impl Kernel {
             Some(filter) if filter.is_plain() => match filter.action {
                 Action::Permit => Way::Fast,
                 Action::Deny(errno) => Way::Barred(errno),
-                Action::Ask => Way::Held(self.messages.next_seq()),
+                Action::Ask => Way::Held(self.messages.next_drawing()),
             },
-            _ => Way::Held(self.messages.next_seq()),
+            _ => Way::Held(self.messages.next_drawing()),
         };
         if matches!(way, Way::Held(_)) {
             let (cwd, policy) = (process.cwd.clone(), Arc::clone(&process.policy));
             self.messages.post(Head { tid, pid, ids: process.ids, cwd, policy, rule, call, regs });
         }
         self.threads[tid].pending = Some(Pending { call, regs, child, way });
-        self.printer.entry(Entry::Entered { tid, call, regs: &regs, way });
+        let number = self.messages.numbers.last().copied().unwrap_or(0);
+        self.printer.entry(Entry::Entered { tid, call, regs: &regs, way, number });
     }
 
     /// Ends a message's life. A worker that still copies for it is idle then.
-    fn close(&mut self, seq: u64) -> Option<Message> {
+    fn close(&mut self, drawing: u64) -> Option<Message> {
         for worker in &mut self.workers {
-            let is_at_it = |turn: &Turn| turn.seq == seq && !matches!(turn.gathering.need(), Need::Ready);
+            let is_at_it = |turn: &Turn| turn.drawing == drawing && !matches!(turn.gathering.need(), Need::Ready);
             if worker.as_ref().is_some_and(is_at_it) {
                 *worker = None;
             }
         }
-        self.operator.withdraw(seq);
-        self.messages.remove(seq)
+        self.operator.withdraw(drawing);
+        self.messages.remove(drawing)
+    }
+
+    /// Frees the number of a message whose life has ended, unless a worker is ready with it.
+    fn let_go(&mut self, drawing: u64) {
+        let is_kept = self.workers.iter().flatten().any(|turn| turn.drawing == drawing);
+        if self.messages.get(drawing).is_none() && !is_kept {
+            self.messages.free(drawing);
+        }
     }
 
     // Workers.
 
     fn worker_step(&mut self, worker: usize) {
         let Some(turn) = &mut self.workers[worker] else { return self.claim(worker) };
-        let (seq, part) = (turn.seq, turn.gathering.part());
+        let (drawing, part) = (turn.drawing, turn.gathering.part());
+        let seq = self.messages.number(drawing);
         match turn.gathering.need() {
             Need::Word(place) => {
                 let word = self.system.word(turn.head.pid, place);
@@ -369,7 +412,7 @@ impl Kernel {
             Need::Fault(errno) => {
                 self.released.push(turn.head.tid);
                 self.workers[worker] = None;
-                self.messages.answer(seq, Answer::Fault(errno));
+                self.messages.answer(drawing, Answer::Fault(errno));
                 self.printer.entry(Entry::Faulted { seq, errno });
             }
             Need::Ready => {
@@ -382,15 +425,15 @@ impl Kernel {
     }
 
     fn claim(&mut self, worker: usize) {
-        let Some(seq) = self.messages.waiting.pop_first() else { return };
-        let Some(head) = self.messages.get(seq).map(|message| Arc::clone(&message.head)) else { return };
+        let Some(drawing) = self.messages.waiting.pop_first() else { return };
+        let Some(head) = self.messages.get(drawing).map(|message| Arc::clone(&message.head)) else { return };
         let gathering = Gathering::new(head.call, head.regs, head.cwd.clone());
-        self.workers[worker] = Some(Turn { seq, head, gathering });
-        self.printer.entry(Entry::Claimed { worker, seq });
+        self.workers[worker] = Some(Turn { drawing, head, gathering });
+        self.printer.entry(Entry::Claimed { worker, seq: self.messages.number(drawing) });
     }
 
     fn give_answer(&mut self, worker: usize, judging: Judging, verdict: Verdict) {
-        let Judging { seq, head, args } = judging;
+        let Judging { drawing, head, args } = judging;
         self.workers[worker] = None;
         let judged = Judged {
             pid: head.pid,
@@ -401,27 +444,28 @@ impl Kernel {
             regs: &head.regs,
             args: &args,
         };
-        let applied = self.messages.get(seq).is_some();
+        let applied = self.messages.get(drawing).is_some();
+        let seq = self.messages.number(drawing);
         self.printer.entry(Entry::Answered { worker, seq, judged: &judged, verdict, applied });
         if !applied {
-            return;
+            return self.let_go(drawing);
         }
         self.released.push(head.tid);
         let verdict = match verdict {
-            Verdict::Unmatched => self.operator.decide(seq, &head.policy, head.rule, &args, head.ids),
+            Verdict::Unmatched => self.operator.decide((drawing, seq), &head.policy, head.rule, &args, head.ids),
             _ => Some(verdict),
         };
         if let Some(verdict) = verdict {
-            self.messages.answer(seq, Answer::Verdict(verdict, args));
+            self.messages.answer(drawing, Answer::Verdict(verdict, args));
         }
     }
 
     // The operator.
 
     fn operator_step(&mut self) {
-        for (seq, verdict, args) in self.operator.answer(&mut self.printer) {
-            self.released.extend(self.messages.get(seq).map(|message| message.head.tid));
-            self.messages.answer(seq, Answer::Verdict(verdict, args));
+        for (drawing, verdict, args) in self.operator.answer(&mut self.printer) {
+            self.released.extend(self.messages.get(drawing).map(|message| message.head.tid));
+            self.messages.answer(drawing, Answer::Verdict(verdict, args));
         }
     }
 
@@ -437,7 +481,10 @@ impl Kernel {
                 let (policy, how, result) = (&policy.binary, How::Barred, Err(errno));
                 self.printer.audit(Audit { pid, tid, policy, rule, args: &[], how, result, log: false });
             }
-            Way::Held(seq) => self.use_held(tid, seq, pending),
+            Way::Held(drawing) => {
+                self.use_held(tid, drawing, pending);
+                self.let_go(drawing);
+            }
         }
     }
 
@@ -498,23 +545,23 @@ impl Kernel {
         None
     }
 
-    fn use_held(&mut self, tid: usize, seq: u64, pending: Pending) {
-        let Some(Message { head, answer: Some(answer) }) = self.close(seq) else { return };
+    fn use_held(&mut self, tid: usize, drawing: u64, pending: Pending) {
+        let Some(Message { head, answer: Some(answer) }) = self.close(drawing) else { return };
         let (verdict, args) = match answer {
-            Answer::Fault(errno) => return self.deny(tid, seq, &head, &[], errno, Cause::Fault, false),
+            Answer::Fault(errno) => return self.deny(tid, drawing, &head, &[], errno, Cause::Fault, false),
             Answer::Verdict(verdict, args) => (verdict, args),
         };
         let (number, ids) = match verdict {
-            Verdict::Unmatched => return self.deny(tid, seq, &head, &args, Errno::Perm, Cause::NoFilter, false),
+            Verdict::Unmatched => return self.deny(tid, drawing, &head, &args, Errno::Perm, Cause::NoFilter, false),
             Verdict::Refuse(number, errno) => {
                 let log = self.operator.filter(&head.policy, head.rule, number).log;
-                return self.deny(tid, seq, &head, &args, errno, Cause::Filter(number), log);
+                return self.deny(tid, drawing, &head, &args, errno, Cause::Filter(number), log);
             }
             Verdict::Permit(number, ids) => (number, ids),
         };
         let &Filter { log, grant, .. } = self.operator.filter(&head.policy, head.rule, number);
         if let Some(name) = self.link_met(head.call, &head.regs, &args) {
-            return self.deny(tid, seq, &head, &args, Errno::Loop, Cause::Link(name), log);
+            return self.deny(tid, drawing, &head, &args, Errno::Loop, Cause::Link(name), log);
         }
         let (result, mut changes) =
             match self.system.execute(head.pid, head.call, &head.regs, &args, ids, pending.child) {
@@ -525,15 +572,15 @@ impl Kernel {
             changes.extend(self.follow_up(tid, head.pid, head.call, &head.regs, pending.child));
         }
         let used = Used { call: head.call, regs: &head.regs, ids, args: &args, result, changes: &changes };
-        self.printer.entry(Entry::Used { tid, seq: Some(seq), used: &used });
+        self.printer.entry(Entry::Used { tid, seq: Some(self.messages.number(drawing)), used: &used });
         let how = How::Permit { number, granted: grant.map(|_| ids) };
         let (pid, policy, rule) = (head.pid, &head.policy.binary, head.rule);
         self.printer.audit(Audit { pid, tid, policy, rule, args: &args, how, result, log });
     }
 
     #[allow(clippy::too_many_arguments)]
-    fn deny(&mut self, tid: usize, seq: u64, head: &Head, args: &[Arg], errno: Errno, cause: Cause, log: bool) {
-        self.printer.entry(Entry::Denied { tid, seq: Some(seq), errno, cause });
+    fn deny(&mut self, tid: usize, drawing: u64, head: &Head, args: &[Arg], errno: Errno, cause: Cause, log: bool) {
+        self.printer.entry(Entry::Denied { tid, seq: Some(self.messages.number(drawing)), errno, cause });
         let (pid, policy, rule) = (head.pid, &head.policy.binary, head.rule);
         self.printer.audit(Audit { pid, tid, policy, rule, args, how: How::Denied(cause), result: Err(errno), log });
     }
@@ -566,14 +613,15 @@ impl Kernel {
             if thread.pid == Some(pid) && !thread.ended && Some(tid) != but {
                 thread.dying = true;
                 self.released.push(tid);
-                if let Some(Pending { way: Way::Held(seq), .. }) = thread.pending.take() {
-                    self.close(seq);
+                if let Some(Pending { way: Way::Held(drawing), .. }) = thread.pending.take() {
+                    self.close(drawing);
+                    self.let_go(drawing);
                 }
             }
         }
     }
 
-    /// Gives each other held call of the process a new number.
+    /// Makes a new message of each other held call of the process. The old number is in use until the new one is drawn.
     fn renew(&mut self, caller: usize, pid: usize) -> Vec<Change> {
         let mut changes = Vec::new();
         for tid in 0..self.threads.len() {
@@ -589,7 +637,8 @@ impl Kernel {
             if let Some(pending) = &mut self.threads[tid].pending {
                 pending.way = Way::Held(new);
             }
-            changes.push(Change::Renewed(old, new));
+            changes.push(Change::Renewed(self.messages.number(old), self.messages.number(new)));
+            self.let_go(old);
         }
         changes
     }

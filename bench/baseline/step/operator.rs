@@ -33,6 +33,7 @@ struct Session {
 
 /// A held call about which the operator is asked.
 struct Question {
+    seq: u16,
     policy: Arc<Policy>,
     rule: Rule,
     args: Arc<[Arg]>,
@@ -79,7 +80,7 @@ impl Operator {
     /// a question now.
     pub fn decide(
         &mut self,
-        seq: u64,
+        (drawing, seq): (u64, u16),
         policy: &Arc<Policy>,
         rule: Rule,
         args: &Arc<[Arg]>,
@@ -101,7 +102,7 @@ impl Operator {
             return Some(verdict);
         }
         let (policy, args) = (Arc::clone(policy), Arc::clone(args));
-        self.questions.insert(seq, Question { policy, rule, args, ids });
+        self.questions.insert(drawing, Question { seq, policy, rule, args, ids });
         None
     }
 
@@ -109,19 +110,19 @@ impl Operator {
         !self.questions.is_empty()
     }
 
-    pub fn is_asked_about(&self, seq: u64) -> bool {
-        self.questions.contains_key(&seq)
+    pub fn is_asked_about(&self, drawing: u64) -> bool {
+        self.questions.contains_key(&drawing)
     }
 
-    /// The message of this number lives no more.
-    pub fn withdraw(&mut self, seq: u64) {
-        self.questions.remove(&seq);
+    /// This message lives no more.
+    pub fn withdraw(&mut self, drawing: u64) {
+        self.questions.remove(&drawing);
     }
 
-    /// Answers the least question, and gives those that are none any more.
+    /// Answers the first question, and gives those that are none any more.
     pub fn answer(&mut self, printer: &mut Printer) -> Vec<(u64, Verdict, Arc<[Arg]>)> {
-        let Some((&seq, question)) = self.questions.first_key_value() else { return Vec::new() };
-        let (policy, rule) = (Arc::clone(&question.policy), question.rule);
+        let Some(question) = self.questions.values().next() else { return Vec::new() };
+        let (seq, policy, rule) = (question.seq, Arc::clone(&question.policy), question.rule);
         let topic = (policy.number, rule);
         let session = self.sessions.entry(topic).or_default();
         let number = policy.filters(rule).len() + session.filters.len() + 1;
@@ -142,14 +143,14 @@ impl Operator {
         // Others of this policy and rule may be decided by the filter too, or have no reply left.
         let is_last = self.mode == Mode::Ask && session.replies.is_empty();
         let mut ended = Vec::new();
-        self.questions.retain(|&seq, other| {
+        self.questions.retain(|&drawing, other| {
             if (other.policy.number, other.rule) != topic {
                 return true;
             }
             let verdict = policy::decide(slice::from_ref(&filter), number, &other.args, other.ids);
             let goes_on = matches!(verdict, Verdict::Unmatched) && !is_last;
             if !goes_on {
-                ended.push((seq, verdict, Arc::clone(&other.args)));
+                ended.push((drawing, verdict, Arc::clone(&other.args)));
             }
             goes_on
         });

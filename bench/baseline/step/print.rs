@@ -36,16 +36,16 @@ pub enum Way {
 
 pub enum Entry<'a> {
     Stored { tid: usize, place: u64, word: u64 },
-    Entered { tid: usize, call: Call, regs: &'a Regs, way: Way },
-    Claimed { worker: usize, seq: u64 },
-    Copied { seq: u64, part: usize, place: u64, word: u64 },
-    Looked { seq: u64, part: usize, name: &'a [u8], seen: &'a Seen<'a> },
-    Faulted { seq: u64, errno: Errno },
-    Answered { worker: usize, seq: u64, judged: &'a Judged<'a>, verdict: Verdict, applied: bool },
-    Replied { seq: u64, reply: usize, number: usize },
-    Learned { seq: u64, number: usize },
-    Used { tid: usize, seq: Option<u64>, used: &'a Used<'a> },
-    Denied { tid: usize, seq: Option<u64>, errno: Errno, cause: Cause<'a> },
+    Entered { tid: usize, call: Call, regs: &'a Regs, way: Way, number: u16 },
+    Claimed { worker: usize, seq: u16 },
+    Copied { seq: u16, part: usize, place: u64, word: u64 },
+    Looked { seq: u16, part: usize, name: &'a [u8], seen: &'a Seen<'a> },
+    Faulted { seq: u16, errno: Errno },
+    Answered { worker: usize, seq: u16, judged: &'a Judged<'a>, verdict: Verdict, applied: bool },
+    Replied { seq: u16, reply: usize, number: usize },
+    Learned { seq: u16, number: usize },
+    Used { tid: usize, seq: Option<u16>, used: &'a Used<'a> },
+    Denied { tid: usize, seq: Option<u16>, errno: Errno, cause: Cause<'a> },
     Ended { tid: usize },
 }
 
@@ -262,7 +262,7 @@ impl Display for Hex<'_> {
     }
 }
 
-struct Seq(Option<u64>);
+struct Seq(Option<u16>);
 
 impl Display for Seq {
     fn fmt(&self, f: &mut Formatter) -> fmt::Result {
@@ -284,12 +284,15 @@ impl Display for Outcome {
     }
 }
 
-impl Display for Way {
+/// How a call went on, with the number of its message if it is held.
+struct WayLine(Way, u16);
+
+impl Display for WayLine {
     fn fmt(&self, f: &mut Formatter) -> fmt::Result {
-        match self {
+        match self.0 {
             Way::Fast => f.write_str("fast"),
             Way::Barred(_) => f.write_str("barred 1"),
-            Way::Held(seq) => write!(f, "held {seq}"),
+            Way::Held(_) => write!(f, "held {}", self.1),
             Way::Untraced => f.write_str("untraced"),
         }
     }
@@ -321,7 +324,9 @@ impl Display for Entry<'_> {
     fn fmt(&self, f: &mut Formatter) -> fmt::Result {
         match self {
             Entry::Stored { tid, place, word } => write!(f, "stored {} {place} {word}", tid + 1),
-            Entry::Entered { tid, call, regs, way } => write!(f, "entered {} {} {way}", tid + 1, CallLine(*call, regs)),
+            Entry::Entered { tid, call, regs, way, number } => {
+                write!(f, "entered {} {} {}", tid + 1, CallLine(*call, regs), WayLine(*way, *number))
+            }
             Entry::Claimed { worker, seq } => write!(f, "claimed {} {seq}", worker + 1),
             Entry::Copied { seq, part, place, word } => write!(f, "copied {seq} {part} {place} {word}"),
             Entry::Looked { seq, part, name, seen } => write!(f, "looked {seq} {part} {} {seen}", Quoted(name)),

@@ -63,10 +63,10 @@ impl Shared {
                 }
                 Next::Claim(worker) => {
                     desk.kernel.advance(Choice::Worker(worker));
-                    let seq = desk.kernel.working_on(worker);
+                    let drawing = desk.kernel.working_on(worker);
                     desk.is_serving[tid] = true;
                     self.leave_to_others(desk);
-                    while self.work(tid, worker, seq) {}
+                    while self.work(tid, worker, drawing) {}
                 }
                 Next::Ask => {
                     desk.kernel.advance(Choice::Operator);
@@ -78,10 +78,10 @@ impl Shared {
     }
 
     /// Makes a step of a worker that is at this message, and says whether it still is then.
-    fn work(&self, tid: usize, worker: usize, seq: Option<u64>) -> bool {
+    fn work(&self, tid: usize, worker: usize, drawing: Option<u64>) -> bool {
         let mut desk = self.lock();
         // The message may have been withdrawn since, and the worker may be at another one, for another thread.
-        if desk.kernel.working_on(worker) == seq {
+        if desk.kernel.working_on(worker) == drawing {
             match desk.kernel.ready(worker) {
                 None => {
                     desk.kernel.advance(Choice::Worker(worker));
@@ -94,7 +94,7 @@ impl Shared {
                 }
             }
         }
-        let goes_on = desk.kernel.working_on(worker) == seq;
+        let goes_on = desk.kernel.working_on(worker) == drawing;
         if goes_on {
             self.leave_to_others(desk);
         } else {

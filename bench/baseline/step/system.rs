@@ -65,7 +65,7 @@ pub enum Change {
     SetIds(Ids),
     Cwd(Vec<u8>),
     Dying(usize),
-    Renewed(u64, u64),
+    Renewed(u16, u16),
     Policy(Vec<u8>),
 }
 
