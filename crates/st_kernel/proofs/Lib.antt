@@ -3,7 +3,6 @@ mod RunsSoFar
 mod Answering
 mod Cursors
 mod Holders
-pub mod KeptLives
 mod LiveNumbers
 pub mod Plays
 mod Rests

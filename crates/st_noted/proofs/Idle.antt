@@ -1,7 +1,6 @@
 -- A worker that isn't there is idle.
-use Rattle.std.proofs.Common.{◌≡◌, ℕ, Bool, true, false, cond, Option, None, refl}
+use Rattle.std.proofs.Common.{◌≡◌, ℕ, Bool, true, false, cond, None, refl}
 use Rattle.st_trace.specs.declared.entry.Choice.TheVariants.{Worker}
-use Rattle.st_trace.specs.declared.entry.Entry.{Entry}
 use Rattle.st_law.proofs.Asked.{workers}
 use Rattle.st_law.specs.declared.input.Input.{Input}
 use Rattle.st_law.specs.Machine.{entry_of, turn_entry}

@@ -1,7 +1,6 @@
 -- What a worker did, and how far its step went.
-use Rattle.std.proofs.Common.{◌≡◌, ◌∙◌, ◌≢◌, ℕ, Option, Some, inl, inr, sym}
+use Rattle.std.proofs.Common.{◌∙◌, ◌≢◌, ℕ, Option, Some, inl, inr, sym}
 use Rattle.std.proofs.lemmas.Option.{none-some, same_Some}
-use Rattle.st_calls.specs.declared.judged.Snapshot.{Snapshot}
 use Rattle.st_trace.specs.declared.entry.Choice.TheVariants.{Worker}
 use Rattle.st_trace.specs.declared.entry.Entry.{Entry}
 use Rattle.st_filter.specs.Judged.{JudgedCall}

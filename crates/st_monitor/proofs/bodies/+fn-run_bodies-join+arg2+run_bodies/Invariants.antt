@@ -1,4 +1,4 @@
-use Rattle.std.proofs.Common.{ℕ, ◌+◌, ◌*◌}
+use Rattle.std.proofs.Common.{◌+◌, ◌*◌}
 use Rattle.st_monitor.proofs.bodies.+fn-run_bodies-join+arg2+run_bodies.Given as goal
 
 abbrev pub decreases-join+arg2 : goal.decreases-join+arg2

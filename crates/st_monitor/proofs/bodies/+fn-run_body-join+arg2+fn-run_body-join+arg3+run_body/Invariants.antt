@@ -1,4 +1,4 @@
-use Rattle.std.proofs.Common.{ℕ, ◌+◌, ◌*◌}
+use Rattle.std.proofs.Common.{◌+◌, ◌*◌}
 use Rattle.st_monitor.proofs.bodies.+fn-run_body-join+arg2+fn-run_body-join+arg3+run_body.Given as goal
 
 abbrev pub decreases-join+arg2 : goal.decreases-join+arg2

@@ -1,4 +1,4 @@
-use Rattle.std.proofs.Common.{ℕ, ◌+◌, ◌*◌, length}
+use Rattle.std.proofs.Common.{◌+◌, ◌*◌, length}
 use Rattle.st_monitor.proofs.run.+fn-run_servers-join+arg2+run_servers.Given as goal
 
 abbrev pub decreases-join+arg2 : goal.decreases-join+arg2

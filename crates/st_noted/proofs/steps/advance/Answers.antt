@@ -1,5 +1,5 @@
-use Rattle.std.proofs.Common.{sym, inl, inr}
-use Rattle.st_noted.proofs.Recording.{entry_added, still_noted}
+use Rattle.std.proofs.Common.{sym}
+use Rattle.st_noted.proofs.Recording.{entry_added}
 use Rattle.st_noted.proofs.steps.advance.Goals as goal
 
 -- a choice that is enabled adds an entry

@@ -1,7 +1,7 @@
 use Rattle.std.proofs.Common.{◌≡◌, ◌∙◌, true, false, None, subst, arith}
 use Rattle.st_law.specs.Machine.{thread_entry}
 use Rattle.st_trace.specs.declared.entry.Choice.TheVariants.{Thread}
-use Rattle.st_kernel.specs.Kernel.{RunSoFar, IsChosen, IsTried, state_in}
+use Rattle.st_kernel.specs.Kernel.{RunSoFar, IsTried, state_in}
 use Rattle.st_kernel.proofs.Cursors.{one_more}
 use Rattle.st_kernel.proofs.kernel.Kernel.move_first.Goals as goal
 

@@ -1,4 +1,4 @@
-use Rattle.std.proofs.Common.{◌≡◌, ◌∙◌, List, ap, sym}
+use Rattle.std.proofs.Common.{◌∙◌, List, ap, sym}
 use Rattle.st_calls.specs.declared.judged.Snapshot.{Snapshot}
 use Rattle.st_filter.specs.Judged.{JudgedCall, verdict_under}
 use Rattle.st_filter.specs.declared.set.BinaryPolicy.{BinaryPolicy}
