@@ -457,7 +457,7 @@ def toolchain_is_named(known, page):
 
 
 def wrong_bodies_are_listed(known, page):
-    """WRONG-BODIES.md has each wrong body once, under its crate, with a function that is there and a clause of that function."""
+    """WRONG-BODIES.md has each wrong body that the gate tries, under its crate. All have a function that is there and a clause of it."""
     if page.name != WRONG_BODIES:
         return
     listed = set()
@@ -468,23 +468,28 @@ def wrong_bodies_are_listed(known, page):
         cells = dict(zip(block.header, block.cells))
         name = re.sub(r"[ -]", "_", re.sub(r"[`*]", "", cells["Mutant"]))
         listed.add((crate, name))
-        if not any(name in names for names in known.crates[crate].wrong_bodies):
-            yield block.line, f"`{crate}` has no wrong body {name}"
-        yield from function_stands(known, block, crate, cells)
-    there = {(crate.name, name) for crate in known.crates.values() for names in crate.wrong_bodies for name in names}
+        if name not in known.crates[crate].wrong_bodies[0]:
+            yield block.line, f"the gate tries no wrong body {name} of `{crate}`"
+    there = {(crate.name, name) for crate in known.crates.values() for name in crate.wrong_bodies[0]}
     for crate, name in sorted(there - listed):
         yield 1, f"the wrong body {name} of `{crate}` is not listed"
+    for crate in known.crates.values():
+        for path in crate.wrong_body_files:
+            for what in notes_stand(known, crate.name, path.read_text()):
+                yield 1, f"{path}: {what}"
 
 
-def function_stands(known, block, crate, cells):
+def notes_stand(known, crate, text):
+    """Gives what is wrong with the notes of a wrong body on its functions and on the clause that isn't proved."""
+    notes = dict(re.findall(r"^# ([\w ]+): (.+)$", text, re.M))
     items = []
-    for function in markdown.SPAN.findall(cells.get("Function", "")):
+    for function in notes.get("function", "").split(", "):
         items += known.items(function, crate)
         if not known.items(function, crate):
-            yield block.line, f"`{function}` is no function of `{crate}`"
-    clause = re.fullmatch(r"`(\w+)`", cells.get("Not proved", ""))
+            yield f"`{function}` is no function of `{crate}`"
+    clause = re.fullmatch(r"clause `(\w+)`", notes.get("not proved", ""))
     if items and clause and not any(clause[1] in item.clauses for item in items):
-        yield block.line, f"no clause `{clause[1]}` in the contract of {cells['Function']}"
+        yield f"no clause `{clause[1]}` in the contract of {notes['function']}"
 
 
 CHECKS = (

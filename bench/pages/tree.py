@@ -44,6 +44,11 @@ class Crate:
         """Returns the names of the wrong bodies that the gate tries, and of those that are tried apart from it."""
         return [[path.stem for path in files(f"{self.folder}/{folder}", ".edit")] for folder in ("must-fail", "wrong-bodies")]
 
+    @cached_property
+    def wrong_body_files(self):
+        """Returns the files of all wrong bodies."""
+        return [path for folder in ("must-fail", "wrong-bodies") for path in files(f"{self.folder}/{folder}", ".edit")]
+
     def sizes(self):
         """Returns the lines of code, of definitions and of proofs."""
         return [count_lines(paths) for paths in (self.sources, self.specs, self.proofs)]
