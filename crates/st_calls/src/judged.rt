@@ -13,6 +13,8 @@ pub struct Snapshot {
     pub ids: Ids,
     /// The binary whose policy judges the call.
     pub policy: Shared<Text>,
+    /// The version of that policy: 0 as it was read, or the number of the script's policy that a reload has put in its place.
+    pub version: u32,
     pub rule: Rule,
     pub call: SysCall,
     pub regs: [u64; 6],
@@ -24,7 +26,10 @@ impl Snapshot {
     pub fn is_same(&self, other: &Snapshot) -> bool
         ensures { IsTrue result ↔ (self.now ≡ other.now) }
     {
-        self.has_same_caller(other) && self.has_same_call(other) && self.has_same_texts(other)
+        self.has_same_caller(other)
+            && self.has_same_call(other)
+            && self.has_same_policy(other)
+            && are_same_arguments(self.parts.as_slice(), other.parts.as_slice())
     }
 
     // Whether the number, the process and its ids are the same.
@@ -41,12 +46,12 @@ impl Snapshot {
         self.rule == other.rule && self.call == other.call && self.regs == other.regs
     }
 
-    // Whether the arguments are the same, and the binary whose policy judges them.
-    fn has_same_texts(&self, other: &Snapshot) -> bool
-        ensures { IsTrue result ↔ (self.now.policy ≡ other.now.policy) × (self.now.parts ≡ other.now.parts) }
+    // Whether the same version of the policy of the same binary judges them.
+    fn has_same_policy(&self, other: &Snapshot) -> bool
+        ensures { IsTrue result ↔ (self.now.policy ≡ other.now.policy) × (self.now.version ≡ other.now.version) }
     {
-        is_same_text(self.policy.get().bytes(), other.policy.get().bytes())
-            && are_same_arguments(self.parts.as_slice(), other.parts.as_slice())
+        self.version == other.version
+            && is_same_text(self.policy.get().bytes(), other.policy.get().bytes())
     }
 }
 

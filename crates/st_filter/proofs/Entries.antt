@@ -153,7 +153,8 @@ index_kept es binary =
     ap (λ n. cond (nat_lt n (length (keys_of es))) (Some n) None) (place_kept es binary)
     ∙ ap (λ len. cond (nat_lt place len) (Some place) None) (length-map es (λ (e : PolicyEntry). e.0) ∙ sym (length-map es policy_of_entry))
 
-few_at : (ps : List BinaryPolicy) (i : ℕ) (fs : List FilterValue) → option_map (λ (p : BinaryPolicy). p.filters) (slice_get ps i) ≡ Some fs → length fs ≤ filters_in ps
+-- a policy has at most as many filters as all have
+pub few_at : (ps : List BinaryPolicy) (i : ℕ) (fs : List FilterValue) → option_map (λ (p : BinaryPolicy). p.filters) (slice_get ps i) ≡ Some fs → length fs ≤ filters_in ps
 few_at [] i fs e = cc
 few_at (p ∷ ps) zero fs e = let same : p.filters ≡ fs = same_Some p.filters fs e in let n : length p.filters ≡ length fs = ap length same in omega (arith, n, filters_in_first p ps)
 few_at (p ∷ ps) (suc i) fs e = omega (arith, few_at ps i fs e, filters_in_first p ps)

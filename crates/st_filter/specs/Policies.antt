@@ -1,7 +1,8 @@
--- Sets of policies: for each binary a list of filters.
-use Rattle.std.specs.Prelude.{ℕ, Bool, true, false, List, [], ◌∷◌, ◌++◌, filter, if◌then◌else◌, length, sum_by}
+-- Sets of policies: for each binary a list of filters. Also which of a run's policies is in force for a binary.
+use Rattle.std.specs.Prelude.{ℕ, zero, suc, Bool, true, false, List, [], ◌∷◌, ◌++◌, filter, if◌then◌else◌, length, sum_by, Option, Some, None, option_map}
 use Rattle.std.specs.List.{list_any}
 use Rattle.std.specs.Str.{bytes_eq}
+use Rattle.st_base.specs.Numbered.{item_at_number}
 use Rattle.st_calls.specs.Call.{sets_ids}
 use Rattle.st_calls.specs.declared.rule.Rule.{Rule}
 use Rattle.st_calls.specs.declared.rule.Rule.TheVariants.{Call, FsRead, FsWrite}
@@ -62,3 +63,42 @@ add_filter (p ∷ q ∷ ps) f = p ∷ add_filter (q ∷ ps) f
 abbrev pub is_some_policy : List BinaryPolicy → Bool
 is_some_policy [] = false
 is_some_policy (p ∷ ps) = true
+
+-- ---- the policies of a run
+
+-- the policies of a run: those that were read, and those of the script, which a reload puts in force
+pub record PoliciesValue : Type 0 where
+  pub read : List BinaryPolicy
+  -- counted from 1
+  pub blocks : List BinaryPolicy
+
+-- the filters of a policy of the script, if it is for this binary
+abbrev pub filters_of_block : Option BinaryPolicy → List ℕ → List FilterValue
+filters_of_block None binary = []
+filters_of_block (Some block) binary = if bytes_eq block.binary binary then block.filters else []
+
+-- whether a policy of the script is for this binary
+abbrev pub is_of_binary : Option BinaryPolicy → List ℕ → Bool
+is_of_binary None binary = false
+is_of_binary (Some block) binary = bytes_eq block.binary binary
+
+-- whether the script's policy with this number is for this binary
+abbrev pub is_block_of : PoliciesValue → ℕ → List ℕ → Bool
+is_block_of policies n binary = is_of_binary (item_at_number policies.blocks n) binary
+
+-- the filters in force for a binary: at version 0 those that were read for it, at version N those of the script's policy N
+abbrev pub in_force : PoliciesValue → List ℕ → ℕ → List FilterValue
+in_force policies binary zero = policy_of policies.read binary
+in_force policies binary (suc before) = filters_of_block (item_at_number policies.blocks (suc before)) binary
+
+-- the filters in force for a binary and a rule, in order
+abbrev pub filters_in_force : PoliciesValue → List ℕ → ℕ → Rule → List FilterValue
+filters_in_force policies binary version rule = filters_of rule (in_force policies binary version)
+
+-- the binary of the script's policy with this number
+abbrev pub binary_of_block : PoliciesValue → ℕ → Option (List ℕ)
+binary_of_block policies n = option_map (λ block. block.binary) (item_at_number policies.blocks n)
+
+-- binaries, with this one appended if it isn't among them
+abbrev pub with_binary : List (List ℕ) → List ℕ → List (List ℕ)
+with_binary binaries binary = if list_any (bytes_eq binary) binaries then binaries else binaries ++ binary ∷ []

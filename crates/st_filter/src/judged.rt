@@ -2,15 +2,15 @@ ghost use Rattle.std.specs.Prelude.{◌≡◌};
 ghost use Rattle.st_filter.specs.Judged.{verdict_under};
 
 use crate::judging::decide;
-use crate::set::PolicySet;
+use crate::policies::Policies;
 use st_base::Shared;
 use st_calls::{Snapshot, Verdict};
 use std::marker::Model;
 
-/// A held call with the verdict of the policies that were read. The verdict is that of the call's own policy, whoever found it.
+/// A held call with the verdict of the policies of a run. The verdict is that of the call's own policy at its version, whoever found it.
 #[derive(Debug, Drop)]
 pub struct Judged<'a> {
-    policies: &'a PolicySet,
+    policies: &'a Policies,
     snapshot: Shared<Snapshot>,
     verdict: Verdict,
 }
@@ -31,19 +31,19 @@ impl<'a> Model for Judged<'a> {
 }
 
 impl<'a> Judged<'a> {
-    /// Judges a call by the policy of its binary. It takes no memory.
-    pub fn judge(policies: &'a PolicySet, snapshot: Shared<Snapshot>) -> Self
+    /// Judges a call by its version of the policy of its binary. It takes no memory.
+    pub fn judge(policies: &'a Policies, snapshot: Shared<Snapshot>) -> Self
         ensures policies { result.policies ≡ policies.now }
         ensures snapshot { result.snapshot ≡ snapshot }
     {
         let call = snapshot.get();
-        let policy = policies.get(call.policy.get().bytes());
+        let policy = policies.in_force(call.policy.get().bytes(), call.version);
         let verdict = decide(policy, call);
         Judged::with(policies, snapshot, verdict)
     }
 
     /// A call with its verdict, which was found before. It takes no memory.
-    pub fn with(policies: &'a PolicySet, snapshot: Shared<Snapshot>, verdict: Verdict) -> Self
+    pub fn with(policies: &'a Policies, snapshot: Shared<Snapshot>, verdict: Verdict) -> Self
         requires { verdict ≡ verdict_under policies.now snapshot }
         ensures { result ≡ record { policies = policies.now; snapshot = snapshot; verdict = verdict } }
     {

@@ -7,6 +7,7 @@ mod compare;
 pub mod filter;
 pub mod judged;
 mod judging;
+pub mod policies;
 mod rows;
 pub mod set;
 
@@ -15,5 +16,6 @@ pub use compare::compares;
 pub use filter::{Action, Cmp, Expr, Filter, FilterName, Grant, Op, Policy, Predicate, Who};
 pub use judged::Judged;
 pub use judging::{decide, holds, ids_match, verdict_of};
+pub use policies::Policies;
 pub use rows::row_in;
 pub use set::{BinaryPolicy, MOST_FILTERS, PolicySet, Reply};

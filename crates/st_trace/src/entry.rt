@@ -98,6 +98,15 @@ pub enum Entry {
     Ended {
         tid: Tid,
     },
+    /// A thread reloads the policy of a binary: the script's policy with this number applies to it from now on.
+    Reloaded {
+        tid: Tid,
+        policy: u32,
+        /// Whether it was done: only an untraced process with effective user 0 may.
+        done: bool,
+        /// The messages of held calls that are judged again.
+        changes: Sequence<Change>,
+    },
 }
 
 /// How an entered call continues.

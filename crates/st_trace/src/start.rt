@@ -67,4 +67,6 @@ pub enum Instr {
     Call(SysCall, [u64; 6]),
     /// The call fork, whose child gets this thread.
     Fork(Tid),
+    /// A reload: the policy of the script with this number, counted from 1, replaces that of its binary.
+    Reload(u32),
 }
