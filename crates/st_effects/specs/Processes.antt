@@ -72,13 +72,20 @@ kill_outcome system request =
     error_if (not (may_signal request.ids (system.processes target).ids.ruid)) EPERM ∷ [])
     (success system 0 (if signal == 0 then [] else Dying target ∷ []))
 
--- the changes that renew the live messages of a process other than the thread's own: they get new numbers from this number on, in
--- the order of their threads
+-- the changes that renew the held calls of this kind: they get new numbers from this number on, in the order of their threads
+abbrev pub renewals_by : (HeldCall → Bool) → ℕ → List HeldCall → List Change
+renewals_by is next [] = []
+renewals_by is next (held ∷ more) =
+    if is held then Renewed held.number next ∷ renewals_by is (next + 1) more
+    else renewals_by is next more
+
+-- whether a held call is one of a process, other than the thread's own
+abbrev pub is_other_of : ℕ → ℕ → HeldCall → Bool
+is_other_of pid tid held = held.pid == pid && not (held.tid == tid)
+
+-- the changes that renew the live messages of a process other than the thread's own
 abbrev pub renewals : ℕ → ℕ → ℕ → List HeldCall → List Change
-renewals pid tid next [] = []
-renewals pid tid next (held ∷ more) =
-    if held.pid == pid && not (held.tid == tid) then Renewed held.number next ∷ renewals pid tid (next + 1) more
-    else renewals pid tid next more
+renewals pid tid next held = renewals_by (is_other_of pid tid) next held
 
 -- the outcome of setuid(uid), seteuid(uid), setgid(gid) and setegid(gid)
 abbrev pub set_ids_outcome : SysCall → System → Request → Outcome

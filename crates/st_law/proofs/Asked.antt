@@ -25,7 +25,7 @@ use Rattle.st_calls.specs.declared.rule.Rule.{Rule}
 use Rattle.st_filter.specs.Fast.{answer_by, fast_answer, fast}
 use Rattle.st_filter.specs.Formula.{Formula, True, FilterValue}
 use Rattle.st_filter.specs.Judging.{holds, verdict, verdict_by, verdict_from}
-use Rattle.st_filter.specs.Policies.{is_for, read_filters}
+use Rattle.st_filter.specs.Policies.{is_for}
 use Rattle.st_filter.specs.declared.filter.Action.{Action}
 use Rattle.st_filter.specs.declared.filter.Action.TheVariants as action
 use Rattle.st_filter.specs.declared.filter.FilterName.{FilterName}
@@ -41,7 +41,7 @@ use Rattle.st_law.specs.declared.input.Mode.TheVariants.{Enforce, Learn, AskText
 use Rattle.st_law.specs.Meaning.{IsWorker, IsWorkerAt, AreCopies, IsWordAt, IsKeptFor, IsFirstKept, AreKeptFor, IsFirstFilter, IsPlainPermit, IsPlainDenial, IsLeft, IsNextReply, IsAsking, IsMadeWith, IsSystemOfState, AreArgumentsOf}
 use Rattle.st_law.specs.Messages.{Head}
 use Rattle.st_law.specs.Sessions.{SessionFilter, is_kept_for, session_filters, verdict_or, is_reply_for}
-use Rattle.st_law.specs.State.{State, space_of_head, word_for, is_live, is_ready, progress_in, snapshot_in, seq_at_work, worker_at, decision_in, answer_for, filter_count, is_reply_left, next_reply, operator_decides, is_undecided, is_open_question, is_question, child_of_pending, request_of, is_worker, progress_of_head, snapshot_with, snapshot_of_progress, system_of, arguments_now}
+use Rattle.st_law.specs.State.{State, read_at, space_of_head, word_for, is_live, is_ready, progress_in, snapshot_in, seq_at_work, worker_at, decision_in, answer_for, filter_count, is_reply_left, next_reply, operator_decides, is_undecided, is_open_question, is_question, child_of_pending, request_of, is_worker, progress_of_head, snapshot_with, snapshot_of_progress, system_of, arguments_now}
 use Rattle.st_law.proofs.Least.{least}
 use Rattle.st_law.proofs.OneStepTaken as one_step
 
@@ -86,6 +86,7 @@ module _ (st : State) (q : ℕ) (s : Snapshot) where
     pid_is = ap (λ u. u.pid) (sym same);
     ids_are = ap (λ u. u.ids) (sym same);
     policy_is = ap (λ u. u.policy) (sym same);
+    version_is = ap (λ u. u.version) (sym same);
     rule_is = ap (λ u. u.rule) (sym same);
     call_is = ap (λ u. u.call) (sym same);
     regs_are = ap (λ u. u.regs) (sym same);
@@ -101,6 +102,7 @@ module _ (st : State) (q : ℕ) (s : Snapshot) where
         pid = x.pid_is k;
         ids = x.ids_are k;
         policy = x.policy_is k;
+        version = x.version_is k;
         rule = x.rule_is k;
         call = x.call_is k;
         regs = x.regs_are k;
@@ -174,11 +176,11 @@ module _ (policy : List ℕ) (rule : Rule) where
     by true is rest = inl ((kept_for kept).0 is, (length (session_filters session policy rule), refl, rest))
     by false is rest = inr (not_kept kept is, rest)
 
-pub count : (i : Input) (st : State) (s : Snapshot) → (n : ℕ) × AreKeptFor s.policy s.rule st.session n × (filter_count i st s ≡ length (read_filters i.policies s.policy s.rule) + n)
+pub count : (i : Input) (st : State) (s : Snapshot) → (n : ℕ) × AreKeptFor s.policy s.rule st.session n × (filter_count i st s ≡ length (read_at i st s.policy s.rule) + n)
 count i st s = (
   length (session_filters st.session s.policy s.rule),
   kept_count s.policy s.rule st.session,
-  length-append (read_filters i.policies s.policy s.rule) (session_filters st.session s.policy s.rule),
+  length-append (read_at i st s.policy s.rule) (session_filters st.session s.policy s.rule),
 )
 
 -- ---- decisions
@@ -188,16 +190,16 @@ or_unless (Permit n ids) w some = refl
 or_unless (Refuse n errno) w some = refl
 or_unless Unmatched w some = absurd (some refl)
 
-pub read_decides : (i : Input) (st : State) (s : Snapshot) → verdict (read_filters i.policies s.policy s.rule) s ≢ Unmatched → decision_in i st s ≡ verdict (read_filters i.policies s.policy s.rule) s
-read_decides i st s some = or_unless (verdict (read_filters i.policies s.policy s.rule) s)
-    (verdict_from (suc (length (read_filters i.policies s.policy s.rule))) (session_filters st.session s.policy s.rule) s) some
+pub read_decides : (i : Input) (st : State) (s : Snapshot) → verdict (read_at i st s.policy s.rule) s ≢ Unmatched → decision_in i st s ≡ verdict (read_at i st s.policy s.rule) s
+read_decides i st s some = or_unless (verdict (read_at i st s.policy s.rule) s)
+    (verdict_from (suc (length (read_at i st s.policy s.rule))) (session_filters st.session s.policy s.rule) s) some
 
-pub session_decides : (i : Input) (st : State) (s : Snapshot) → verdict (read_filters i.policies s.policy s.rule) s ≡ Unmatched
-    → decision_in i st s ≡ verdict_from (1 + length (read_filters i.policies s.policy s.rule)) (session_filters st.session s.policy s.rule) s
+pub session_decides : (i : Input) (st : State) (s : Snapshot) → verdict (read_at i st s.policy s.rule) s ≡ Unmatched
+    → decision_in i st s ≡ verdict_from (1 + length (read_at i st s.policy s.rule)) (session_filters st.session s.policy s.rule) s
 session_decides i st s none =
-    ap (λ v. verdict_or v (verdict_from (suc (length (read_filters i.policies s.policy s.rule))) (session_filters st.session s.policy s.rule) s)) none
+    ap (λ v. verdict_or v (verdict_from (suc (length (read_at i st s.policy s.rule))) (session_filters st.session s.policy s.rule) s)) none
     ∙ ap (λ n. verdict_from n (session_filters st.session s.policy s.rule) s)
-    (let same : suc (length (read_filters i.policies s.policy s.rule)) ≡ 1 + length (read_filters i.policies s.policy s.rule) = omega arith in same)
+    (let same : suc (length (read_at i st s.policy s.rule)) ≡ 1 + length (read_at i st s.policy s.rule) = omega arith in same)
 
 -- ---- the kernel's own answer
 
@@ -241,11 +243,11 @@ denial_is errno f = (there, λ x k. answer_by (x.formula_is k) (x.action_is k) f
       record { formula_is = x.0; action_is = x.1; log_is = x.2; predicate_is = x.3 }
 
 module _ (i : Input) (st : State) (policy : List ℕ) (rule : Rule) (given : FastAnswer) (Is : FilterValue → Type 0) (asks : answer.Ask ≢ given) (is : (f : FilterValue) → (fast_answer f ≡ given) ↔ Is f) where
-  by_kept : read_filters i.policies policy rule ≡ [] → (fs : List FilterValue) → session_filters st.session policy rule ≡ fs → fast fs ≡ given → (f : FilterValue) × IsFirstFilter i st policy rule f × Is f
+  by_kept : read_at i st policy rule ≡ [] → (fs : List FilterValue) → session_filters st.session policy rule ≡ fs → fast fs ≡ given → (f : FilterValue) × IsFirstFilter i st policy rule f × Is f
   by_kept none [] e g = absurd (asks g)
   by_kept none (f ∷ more) e g = (f, inr (none, first_kept policy rule st.session f more e), (is f).0 g)
 
-  by_read : (fs : List FilterValue) → read_filters i.policies policy rule ≡ fs → fast (fs ++ session_filters st.session policy rule) ≡ given → (f : FilterValue) × IsFirstFilter i st policy rule f × Is f
+  by_read : (fs : List FilterValue) → read_at i st policy rule ≡ fs → fast (fs ++ session_filters st.session policy rule) ≡ given → (f : FilterValue) × IsFirstFilter i st policy rule f × Is f
   by_read [] e g = by_kept e (session_filters st.session policy rule) refl g
   by_read (f ∷ more) e g = (f, inl (more, e), (is f).0 g)
 
@@ -254,7 +256,7 @@ module _ (i : Input) (st : State) (policy : List ℕ) (rule : Rule) (given : Fas
   by_first f (inr x) y = ap (λ fs. fast (fs ++ session_filters st.session policy rule)) x.0 ∙ ap fast (kept_first policy rule st.session f x.1).1 ∙ (is f).1 y
 
   first_decides : (answer_for i st policy rule ≡ given) ↔ ((f : FilterValue) × IsFirstFilter i st policy rule f × Is f)
-  first_decides = (by_read (read_filters i.policies policy rule) refl, λ x. by_first x.0 x.1 x.2)
+  first_decides = (by_read (read_at i st policy rule) refl, λ x. by_first x.0 x.1 x.2)
 
 pub permits : (i : Input) (st : State) (policy : List ℕ) (rule : Rule) → (answer_for i st policy rule ≡ answer.Permit) ↔ ((f : FilterValue) × IsFirstFilter i st policy rule f × IsPlainPermit f)
 permits i st policy rule = first_decides i st policy rule answer.Permit IsPlainPermit (λ e. cc) permit_is
@@ -356,23 +358,23 @@ module _ (i : Input) (st : State) (q : ℕ) where
     asked (inl e) = ap (operator_decides i st s) e
     asked (inr x) = ap (operator_decides i st s) x.0 ∙ is_left (next_reply i st s.policy s.rule) (reply i st s.policy s.rule) x.1.0 x.1.1
 
-    none_decides : verdict (read_filters i.policies s.policy s.rule) s ≡ Unmatched → verdict (session_filters st.session s.policy s.rule) s ≡ Unmatched → decision_in i st s ≡ Unmatched
+    none_decides : verdict (read_at i st s.policy s.rule) s ≡ Unmatched → verdict (session_filters st.session s.policy s.rule) s ≡ Unmatched → decision_in i st s ≡ Unmatched
     none_decides unread unkept =
-        ap (λ v. verdict_or v (verdict_from (suc (length (read_filters i.policies s.policy s.rule))) (session_filters st.session s.policy s.rule) s)) unread
-        ∙ undecided_from 1 (suc (length (read_filters i.policies s.policy s.rule))) (session_filters st.session s.policy s.rule) s unkept
+        ap (λ v. verdict_or v (verdict_from (suc (length (read_at i st s.policy s.rule))) (session_filters st.session s.policy s.rule) s)) unread
+        ∙ undecided_from 1 (suc (length (read_at i st s.policy s.rule))) (session_filters st.session s.policy s.rule) s unkept
 
   asks : is_live st q ≡ true → (st.messages q).answered ≡ true → (o : Option Snapshot) → snapshot_in st q ≡ o → is_open_question i st o ≡ true → IsAsking i st q
   asks live answered None e f = cc
   asks live answered (Some s) e f =
       let both = and_parts (is_undecided (decision_in i st s)) (operator_decides i st s i.options.mode) f in
-      let none = both_undecided (verdict (read_filters i.policies s.policy s.rule) s)
-      (verdict_from (suc (length (read_filters i.policies s.policy s.rule))) (session_filters st.session s.policy s.rule) s) (undecided (decision_in i st s) both.0) in record {
+      let none = both_undecided (verdict (read_at i st s.policy s.rule) s)
+      (verdict_from (suc (length (read_at i st s.policy s.rule))) (session_filters st.session s.policy s.rule) s) (undecided (decision_in i st s) both.0) in record {
         live = live;
         answered = answered;
         copies = s;
         copied = e;
         unread = none.0;
-        unkept = undecided_from (suc (length (read_filters i.policies s.policy s.rule))) 1 (session_filters st.session s.policy s.rule) s none.1;
+        unkept = undecided_from (suc (length (read_at i st s.policy s.rule))) 1 (session_filters st.session s.policy s.rule) s none.1;
         operator = operates s i.options.mode refl both.1;
       }
 

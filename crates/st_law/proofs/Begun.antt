@@ -5,9 +5,9 @@ use Rattle.std.proofs.lemmas.List.{append_assoc}
 use Rattle.st_calls.specs.declared.judged.Snapshot.{Snapshot}
 use Rattle.st_calls.specs.declared.judged.Verdict.{Verdict}
 use Rattle.st_trace.specs.Instructions.{IsCallOf}
-use Rattle.st_trace.specs.declared.entry.Entry.TheVariants.{Stored, Entered, Claimed, Copied, Looked, Faulted, Answered, Used, Denied, Ended, Replied, Learned}
+use Rattle.st_trace.specs.declared.entry.Entry.TheVariants.{Stored, Entered, Claimed, Copied, Looked, Faulted, Answered, Used, Denied, Ended, Replied, Learned, Reloaded}
 use Rattle.st_trace.specs.declared.start.Instr.{Instr}
-use Rattle.st_trace.specs.declared.start.Instr.TheVariants.{Store}
+use Rattle.st_trace.specs.declared.start.Instr.TheVariants.{Store, Reload}
 use Rattle.st_law.specs.declared.input.Input.{Input}
 use Rattle.st_law.specs.History.{looking_back, message_at}
 use Rattle.st_law.specs.Lawful.{IsLawfulBack}
@@ -37,6 +37,7 @@ pub goes_through : (i : Input) (h : History) (t : ℕ) → IsLawfulBack i h → 
 goes_through i [] t lawful = ([], refl, refl)
 goes_through i (Stored u place word ∷ h) t lawful = begun_by i h u t (λ instruction. instruction ≡ Store place word) (Store place word) lawful.0.later lawful.0.next refl (goes_through i h t lawful.1) (u == t) refl
 goes_through i (Entered u call regs way ∷ h) t lawful = begun_by i h u t (λ instruction. IsCallOf instruction call regs) lawful.0.instruction lawful.0.later lawful.0.next lawful.0.makes (goes_through i h t lawful.1) (u == t) refl
+goes_through i (Reloaded u n done changes ∷ h) t lawful = begun_by i h u t (λ instruction. instruction ≡ Reload n) (Reload n) lawful.0.later lawful.0.next refl (goes_through i h t lawful.1) (u == t) refl
 goes_through i (Claimed w q ∷ h) t lawful = goes_through i h t lawful.1
 goes_through i (Copied q part place word ∷ h) t lawful = goes_through i h t lawful.1
 goes_through i (Looked q part name seen ∷ h) t lawful = goes_through i h t lawful.1

@@ -7,7 +7,7 @@ use Rattle.st_names.specs.declared.seen.SeenText.{SeenText}
 use Rattle.st_model.proofs.Endings.{AreWithin, AreWithin-push, link_parts}
 use Rattle.st_effects.specs.Progress.{Word, Look}
 use Rattle.st_trace.specs.declared.entry.Entry.{Entry}
-use Rattle.st_trace.specs.declared.entry.Entry.TheVariants.{Stored, Entered, Claimed, Copied, Looked, Faulted, Answered, Used, Denied, Ended, Replied, Learned}
+use Rattle.st_trace.specs.declared.entry.Entry.TheVariants.{Stored, Entered, Claimed, Copied, Looked, Faulted, Answered, Used, Denied, Ended, Replied, Learned, Reloaded}
 use Rattle.st_law.specs.declared.input.Input.{Input}
 use Rattle.st_law.specs.History.{looking_back}
 use Rattle.st_law.specs.Inputs.{IsStartable}
@@ -75,6 +75,7 @@ module _ (st : State) (x : Copies st) where
   copies_later i short (Faulted q errno) y = record { words = x.words; lookups = x.lookups; within = x.within }
   copies_later i short (Answered w s v applied) y = record { words = x.words; lookups = x.lookups; within = x.within }
   copies_later i short (Used u seq call regs args ids result changes) y = record { words = x.words; lookups = x.lookups; within = x.within }
+  copies_later i short (Reloaded u n done changes) y = record { words = x.words; lookups = x.lookups; within = x.within }
   copies_later i short (Denied u seq errno cause) y = record { words = x.words; lookups = x.lookups; within = x.within }
   copies_later i short (Ended u) y = record { words = x.words; lookups = x.lookups; within = x.within }
   copies_later i short (Learned q n) y = record { words = x.words; lookups = x.lookups; within = x.within }

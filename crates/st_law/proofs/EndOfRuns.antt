@@ -14,7 +14,7 @@ use Rattle.st_law.specs.History.{looking_back}
 use Rattle.st_law.specs.Inputs.{IsStartable}
 use Rattle.st_law.specs.Lawful.{IsLawfulBack}
 use Rattle.st_law.specs.Machine.{first_state, history, run}
-use Rattle.st_law.specs.Schedules.{is_set_id_instruction, most_steps, served_number, steps_for}
+use Rattle.st_law.specs.Schedules.{is_renewing_instruction, most_steps, served_number, steps_for}
 use Rattle.st_law.specs.State.{thread_count}
 use Rattle.st_law.specs.Threads.{History, body_of, body_of_row}
 use Rattle.st_law.proofs.Copies.{copies_of}
@@ -27,8 +27,8 @@ use Rattle.st_law.proofs.Whole.{whole_of}
 
 -- ---- the cost of a script
 
-count_more : (x : Instr) (body : List Instr) → count_by is_set_id_instruction (x ∷ body) ≡ step_unless (not (is_set_id_instruction x)) + count_by is_set_id_instruction body
-count_more x body = sum_by-cons (λ y. cond (is_set_id_instruction y) 1 0) x body ∙ ap (λ n. n + count_by is_set_id_instruction body) (by (is_set_id_instruction x)) where
+count_more : (x : Instr) (body : List Instr) → count_by is_renewing_instruction (x ∷ body) ≡ step_unless (not (is_renewing_instruction x)) + count_by is_renewing_instruction body
+count_more x body = sum_by-cons (λ y. cond (is_renewing_instruction y) 1 0) x body ∙ ap (λ n. n + count_by is_renewing_instruction body) (by (is_renewing_instruction x)) where
   by : (b : Bool) → cond b 1 0 ≡ step_unless (not b)
   by true = refl
   by false = refl
@@ -37,9 +37,9 @@ cost_more : (b : Bool) (costs lengths counts : ℕ) → costs ≡ 10000 * length
 cost_more true costs lengths counts e = omega (arith, e)
 cost_more false costs lengths counts e = omega (arith, e)
 
-cost_is : (body : List Instr) → cost body ≡ 10000 * length body + 640000 * count_by is_set_id_instruction body
+cost_is : (body : List Instr) → cost body ≡ 10000 * length body + 640000 * count_by is_renewing_instruction body
 cost_is [] = omega arith
-cost_is (x ∷ body) = cost_more (is_set_id_instruction x) (cost body) (length body) (count_by is_set_id_instruction body) (cost_is body) ∙ ap (λ n. 10000 * suc (length body) + 640000 * n) (sym (count_more x body))
+cost_is (x ∷ body) = cost_more (is_renewing_instruction x) (cost body) (length body) (count_by is_renewing_instruction body) (cost_is body) ∙ ap (λ n. 10000 * suc (length body) + 640000 * n) (sym (count_more x body))
 
 -- a sum over numbers is at most the sum over the rows that they count
 rows_low : (g : ThreadRow → ℕ) (f : ℕ → ℕ) (rows : List ThreadRow) (a : ℕ) → ((k : ℕ) (row : ThreadRow) → slice_get rows k ≡ Some row → f (a + k) ≤ g row) → total f a (length rows) ≤ sum_by g rows
@@ -54,12 +54,12 @@ rows_low g f (row ∷ rows) a low =
 abbrev row_cost : ThreadRow → ℕ
 row_cost row = cost row.body + 1
 
-rows_cost : (rows : List ThreadRow) → sum_by row_cost rows ≡ 10000 * sum_by (λ row. length row.body) rows + 640000 * sum_by (λ row. count_by is_set_id_instruction row.body) rows + length rows
+rows_cost : (rows : List ThreadRow) → sum_by row_cost rows ≡ 10000 * sum_by (λ row. length row.body) rows + 640000 * sum_by (λ row. count_by is_renewing_instruction row.body) rows + length rows
 rows_cost [] = omega arith
 rows_cost (row ∷ rows) =
     let a = sum_by-cons row_cost row rows in
     let b = sum_by-cons (λ each. length each.body) row rows in
-    let c = sum_by-cons (λ each. count_by is_set_id_instruction each.body) row rows in
+    let c = sum_by-cons (λ each. count_by is_renewing_instruction each.body) row rows in
     let d = cost_is row.body in
     let rest = rows_cost rows in
     omega (arith, a, b, c, d, rest)

@@ -1,5 +1,5 @@
--- The invariant of the state of every lawful run: pending calls go the way that their policy gives, and the message of a held call is its
--- own and open.
+-- The invariant of the state of every lawful run: a barred call was refused when it was entered, and the message of a held call is its own,
+-- open, and of the version in force.
 use Rattle.std.proofs.Common.{◌≡◌, ◌≢◌, ◌≤◌, ◌<◌, ℕ, false, List, Option, Some, None}
 use Rattle.st_base.specs.declared.errno.Errno.{Errno}
 use Rattle.std.specs.List.{All}
@@ -11,14 +11,16 @@ use Rattle.st_trace.specs.declared.entry.Way.TheVariants.{Fast, Barred, Held, Un
 use Rattle.st_law.specs.declared.input.Input.{Input}
 use Rattle.st_law.specs.Inputs.{IsThread, IsInstruction}
 use Rattle.st_law.specs.Messages.{Head}
-use Rattle.st_law.specs.State.{State, process_in, answer_in}
+use Rattle.st_law.specs.State.{State, process_in}
 use Rattle.st_law.specs.Threads.{PendingCall}
 
--- a head is that of a thread's pending call, and has the ids of its process
+-- a head is that of a thread's pending call, and has the ids and the policy of its process, and the version of that policy that is in force
 pub record IsOwn (st : State) (t : ℕ) (call : SysCall) (regs : List ℕ) (head : Head) : Type 0 where
   pub tid_is : head.tid ≡ t
   pub pid_is : head.pid ≡ (st.threads t).owner
   pub ids_are : head.ids ≡ (process_in st t).ids
+  pub policy_is : head.policy ≡ (process_in st t).policy
+  pub version_is : head.version ≡ st.versions head.policy
   pub call_is : head.call ≡ call
   pub regs_are : head.regs ≡ regs
 
@@ -30,22 +32,22 @@ pub record IsOpen (st : State) (t : ℕ) (call : SysCall) (regs : List ℕ) : Ty
   pub unclosed : (st.messages (st.threads t).number).closed ≡ false
   pub low : (st.threads t).number ≤ st.posted
 
--- the kernel's own answer still refuses a barred call
-pub record IsRefused (i : Input) (st : State) (t n : ℕ) (call : SysCall) (regs : List ℕ) : Type 0 where
+-- the kernel's own answer refused a barred call when it was entered
+pub record IsRefused (st : State) (t n : ℕ) : Type 0 where
   pub first : n ≡ 1
   pub errno : Errno
-  pub refused : answer_in i st (process_in st t) call regs ≡ answer.Refuse errno
+  pub refused : (st.threads t).answer ≡ answer.Refuse errno
 
-abbrev pub IsFine : Input → State → ℕ → SysCall → List ℕ → Way → Type 0
-IsFine i st t call regs Fast = Unit {0}
-IsFine i st t call regs Untraced = Unit {0}
-IsFine i st t call regs (Barred n) = IsRefused i st t n call regs
-IsFine i st t call regs (Held first) = IsOpen st t call regs
+abbrev pub IsFine : State → ℕ → SysCall → List ℕ → Way → Type 0
+IsFine st t call regs Fast = Unit {0}
+IsFine st t call regs Untraced = Unit {0}
+IsFine st t call regs (Barred n) = IsRefused st t n
+IsFine st t call regs (Held first) = IsOpen st t call regs
 
 -- a pending call of a thread that has started; nothing more is known if the thread is dying
-pub record Fine (i : Input) (st : State) (t : ℕ) (entered : PendingCall) : Type 0 where
+pub record Fine (st : State) (t : ℕ) (entered : PendingCall) : Type 0 where
   pub started : (st.threads t).owner ≢ 0
-  pub fine : (st.threads t).dying ≡ false → IsFine i st t entered.call entered.regs entered.way
+  pub fine : (st.threads t).dying ≡ false → IsFine st t entered.call entered.regs entered.way
 
 abbrev pub IfPending : (PendingCall → Type 0) → Option PendingCall → Type 0
 IfPending P None = Unit {0}
@@ -63,4 +65,4 @@ pub record Invariant (i : Input) (st : State) : Type 0 where
   pub owners : (t : ℕ) → (st.threads t).owner < st.next_process
   pub heads : (q : ℕ) → st.posted < q → (st.messages q).head ≡ None
   pub closed : (q : ℕ) → st.posted < q → (st.messages q).closed ≡ false
-  pub fine : (t : ℕ) → IfPending (Fine i st t) (st.threads t).pending
+  pub fine : (t : ℕ) → IfPending (Fine st t) (st.threads t).pending

@@ -23,7 +23,7 @@ use Rattle.st_calls.proofs.Rules.{same_rule-Decides}
 use Rattle.st_calls.specs.Rules.{same_rule}
 use Rattle.st_calls.specs.declared.rule.Rule.{Rule}
 use Rattle.st_filter.specs.declared.set.Reply.{Reply}
-use Rattle.st_trace.specs.declared.entry.Entry.TheVariants.{Stored, Entered, Claimed, Copied, Looked, Faulted, Answered, Used, Denied, Ended, Replied, Learned}
+use Rattle.st_trace.specs.declared.entry.Entry.TheVariants.{Stored, Entered, Claimed, Copied, Looked, Faulted, Answered, Used, Denied, Ended, Replied, Learned, Reloaded}
 use Rattle.st_law.specs.declared.input.Input.{Input}
 use Rattle.st_law.specs.History.{looking_back, message_at, session_at}
 use Rattle.st_law.specs.Inputs.{IsStartable}
@@ -129,6 +129,7 @@ session_plain i startable (Looked p part name seen ∷ h) = session_plain i star
 session_plain i startable (Faulted p errno ∷ h) = session_plain i startable h
 session_plain i startable (Answered w s v applied ∷ h) = session_plain i startable h
 session_plain i startable (Used u seq call regs args ids result changes ∷ h) = session_plain i startable h
+session_plain i startable (Reloaded u n done changes ∷ h) = session_plain i startable h
 session_plain i startable (Denied u seq errno cause ∷ h) = session_plain i startable h
 session_plain i startable (Ended u ∷ h) = session_plain i startable h
 

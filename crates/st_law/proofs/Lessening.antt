@@ -11,22 +11,25 @@ use Rattle.st_trace.specs.declared.entry.CallResult.{CallResult}
 use Rattle.st_trace.specs.declared.entry.Cause.{Cause}
 use Rattle.st_trace.specs.declared.entry.Change.{Change}
 use Rattle.st_trace.specs.declared.entry.Entry.{Entry}
-use Rattle.st_trace.specs.declared.entry.Entry.TheVariants.{Stored, Entered, Used, Denied, Ended}
+use Rattle.st_trace.specs.declared.entry.Entry.TheVariants.{Stored, Entered, Used, Denied, Ended, Reloaded}
 use Rattle.st_trace.specs.declared.entry.Way.{Way}
 use Rattle.st_trace.specs.declared.entry.Way.TheVariants.{Fast, Barred, Held, Untraced}
 use Rattle.st_trace.specs.declared.start.Instr.{Instr}
+use Rattle.st_trace.specs.declared.start.Instr.TheVariants.{Reload}
+use Rattle.std.specs.List.{All, fold}
+use Rattle.st_law.specs.Messages.{posted_after_change}
 use Rattle.st_law.specs.declared.input.Input.{Input}
-use Rattle.st_law.specs.Inputs.{IsThread}
-use Rattle.st_law.specs.Lawful.{IsRunning, IsPending, IsStored, IsEntered, IsEnded, IsUsed, IsDenied}
+use Rattle.st_law.specs.Inputs.{IsThread, IsInstruction}
+use Rattle.st_law.specs.Lawful.{IsRunning, IsPending, IsStored, IsEntered, IsReloaded, IsEnded, IsUsed, IsDenied}
 use Rattle.st_law.specs.Machine.{state_after}
 use Rattle.st_calls.specs.Call.{sets_ids}
 use Rattle.st_law.specs.State.{State, thread_count, progress_of_head, snapshot_of_progress, snapshot_in}
 use Rattle.st_law.specs.Threads.{child_of_next}
 use Rattle.st_law.proofs.Copies.{Copies}
-use Rattle.st_law.proofs.Lowering.{messages_more, threads_drop, weight_of}
+use Rattle.st_law.proofs.Lowering.{KeepsVersions, messages_more, threads_drop, weight_of}
 use Rattle.st_law.proofs.Moves.{Moves, moves}
 use Rattle.st_law.proofs.Potential.{cost, call_cost, pending_cost, step_unless, thread_cost, messages_cost, replies_cost, steps_left}
-use Rattle.st_law.proofs.UsedPosted.{PostsFew, used_posts}
+use Rattle.st_law.proofs.UsedPosted.{PostsFew, used_posts, reload_posts}
 use Rattle.st_law.proofs.Whole.{Whole}
 
 module _ (i : Input) (st : State) (whole : Whole i st) (copies : Copies st) where
@@ -64,6 +67,35 @@ module _ (i : Input) (st : State) (whole : Whole i st) (copies : Copies st) wher
     others : (t : ℕ) → (u == t) ≡ false → thread_cost ((state_after i st (Stored u place word)).threads t) ≤ thread_cost (st.threads t)
     others t e = let same : cost (cond (u == t) (drop 1 (st.threads t).left) (st.threads t).left) ≡ cost (st.threads t).left = ap (λ b. cost (cond b (drop 1 (st.threads t).left) (st.threads t).left)) e in omega (arith, same)
 
+  -- ---- reloads
+
+  module _ (u n : ℕ) (done : Bool) (changes : List Change) (y : IsReloaded i st u n done changes) where
+    abbrev reloaded : State
+    reloaded = state_after i st (Reloaded u n done changes)
+
+    -- a run that learns has no reload
+    pub unlearnt : KeepsVersions i st reloaded
+    unlearnt learns = let body : All (IsInstruction i) (Reload n ∷ y.later) = subst (All (IsInstruction i)) y.next (whole.calls.bodies u) in
+        let is : IsInstruction i (Reload n) = body 0 (Reload n) (omega arith) in absurd (is.1 learns)
+
+    reloaded_lower : thread_cost (reloaded.threads u) + 650000 ≤ thread_cost (st.threads u)
+    reloaded_lower = let own = subst (λ b. cost (cond b (drop 1 (st.threads u).left) (st.threads u).left) + 650000 ≤ cost (st.threads u).left) (sym (eq-eqb u u refl))
+        (subst (λ left. cost (drop 1 left) + 650000 ≤ cost left) (sym y.next) (let low : cost y.later + 650000 ≤ 650000 + cost y.later = omega arith in low)) in omega (arith, own)
+
+    reloaded_others : (t : ℕ) → (u == t) ≡ false → thread_cost (reloaded.threads t) ≤ thread_cost (st.threads t)
+    reloaded_others t e = let same : cost (cond (u == t) (drop 1 (st.threads t).left) (st.threads t).left) ≡ cost (st.threads t).left = ap (λ b. cost (cond b (drop 1 (st.threads t).left) (st.threads t).left)) e in omega (arith, same)
+
+    reloaded_less : thread_count i ≤ 64 → Moves st reloaded → Lessens (Reloaded u n done changes)
+    reloaded_less few moved = thread_less (Reloaded u n done changes) u 650000 614720 y.running.started (omega arith) reloaded_lower reloaded_others
+        (let low = moved.posted in
+        let high : reloaded.posted ≤ st.posted + 64 = subst (λ cs. fold posted_after_change st.posted cs ≤ st.posted + 64) (sym y.changes_are) (reload_posts i st few n done) in
+        let most = messages_more i st copies reloaded [] (sym (append-nil st.session)) unlearnt (reloaded.posted - st.posted) (omega (arith, low))
+        (λ p from to. record { claimed = refl; taken_is = refl; turn = λ e. e; copies = λ k. snapshot_of_progress p (moved.heads p to k) (progress_of_head (moved.heads p to k) (st.messages p).words (st.messages p).lookups) }) in
+        omega (arith, most, high, low)) (omega arith)
+
+  pub after_reloaded : thread_count i ≤ 64 → (u n : ℕ) (done : Bool) (changes : List Change) → IsReloaded i st u n done changes → Moves st (state_after i st (Reloaded u n done changes)) → Lessens (Reloaded u n done changes)
+  after_reloaded few u n done changes y moved = reloaded_less u n done changes y few moved
+
   -- ---- calls that are entered
 
   module _ (u : ℕ) (call : SysCall) (regs : List ℕ) (way : Way) (y : IsEntered i st u call regs way) where
@@ -99,7 +131,7 @@ module _ (i : Input) (st : State) (whole : Whole i st) (copies : Copies st) wher
   after_entered u call regs Untraced y = entered_less u call regs Untraced y (omega arith)
   after_entered u call regs (Barred n) y = entered_less u call regs (Barred n) y (omega arith)
   after_entered u call regs (Held q) y = entered_less u call regs (Held q) y
-      (let most = messages_more i st copies (state_after i st (Entered u call regs (Held q))) [] (sym (append-nil st.session)) 1 (let e : suc st.posted ≡ st.posted + 1 = omega arith in e)
+      (let most = messages_more i st copies (state_after i st (Entered u call regs (Held q))) [] (sym (append-nil st.session)) (λ learns policy. refl) 1 (let e : suc st.posted ≡ st.posted + 1 = omega arith in e)
       (λ p from to. record { claimed = refl; taken_is = refl; turn = λ e. e; copies = copies_stay (state_after i st (Entered u call regs (Held q))) (moves i st whole.calls (Entered u call regs (Held q)) y) p to refl refl }) in
       omega (arith, most))
 
@@ -137,7 +169,7 @@ module _ (i : Input) (st : State) (whole : Whole i st) (copies : Copies st) wher
     used = state_after i st (Used u seq call regs args ids result changes)
 
     used_messages : Moves st used → (count : ℕ) → used.posted ≡ st.posted + count → messages_cost i used ≤ messages_cost i st + 9605 * count
-    used_messages moved count posted = messages_more i st copies used [] (sym (append-nil st.session)) count posted
+    used_messages moved count posted = messages_more i st copies used [] (sym (append-nil st.session)) (λ learns policy. refl) count posted
         (λ p from to. record { claimed = refl; taken_is = refl; turn = λ e. e; copies = copies_stay used moved p to refl refl })
 
     used_less : (way : Way) → IsRunning st u → IsPending st u call regs way → Moves st used → PostsFew i st few u call changes → Lessens (Used u seq call regs args ids result changes)

@@ -18,7 +18,7 @@ use Rattle.st_law.specs.Sessions.{SessionFilter}
 use Rattle.st_law.specs.State.{State, progress_of_head, snapshot_of_progress, snapshot_in, worker_at}
 use Rattle.st_law.proofs.Copies.{Copies}
 use Rattle.st_law.proofs.Lessening.{Lessens}
-use Rattle.st_law.proofs.Lowering.{IsUnmoved, unmoved_low, turn_found, turn_there, turn_gone, taken_few, messages_drop}
+use Rattle.st_law.proofs.Lowering.{IsUnmoved, KeepsVersions, unmoved_low, turn_found, turn_there, turn_gone, taken_few, messages_drop}
 use Rattle.st_law.proofs.Potential.{step_unless, learnt_most, taken, is_turn, may_be_learnt, remaining, message_cost, threads_cost, replies_cost}
 use Rattle.st_law.proofs.Turns.{turn_of, live_low, some_inj}
 use Rattle.st_law.proofs.Whole.{Whole, live_head}
@@ -44,6 +44,7 @@ module _ (i : Input) (st : State) (whole : Whole i st) (copies : Copies st) wher
   pub record IsStepOn (e : Entry) (q : ℕ) : Type 0 where
     pub more : List SessionFilter
     pub grown : (state_after i st e).session ≡ st.session ++ more
+    pub versions : KeepsVersions i st (state_after i st e)
     pub threads : threads_cost i (state_after i st e) ≤ threads_cost i st
     pub replies : replies_cost i (state_after i st e) ≤ replies_cost i st
     pub posted : (state_after i st e).posted ≡ st.posted
@@ -52,14 +53,14 @@ module _ (i : Input) (st : State) (whole : Whole i st) (copies : Copies st) wher
     pub drop : message_cost i (state_after i st e) q + 1 ≤ message_cost i st q
     pub others : (p : ℕ) → q ≢ p → IsUnmoved i st (state_after i st e) p
 
-  pub step_on : (e : Entry) (q : ℕ) (more : List SessionFilter) → (state_after i st e).session ≡ st.session ++ more → threads_cost i (state_after i st e) ≤ threads_cost i st → replies_cost i (state_after i st e) ≤ replies_cost i st → (state_after i st e).posted ≡ st.posted → 1 ≤ q → q ≤ st.posted → message_cost i (state_after i st e) q + 1 ≤ message_cost i st q → ((p : ℕ) → q ≢ p → IsUnmoved i st (state_after i st e) p) → IsStepOn e q
-  step_on e q more grown threads replies posted low high drop others =
-      record { more = more; grown = grown; threads = threads; replies = replies; posted = posted; low = low; high = high; drop = drop; others = others }
+  pub step_on : (e : Entry) (q : ℕ) (more : List SessionFilter) → (state_after i st e).session ≡ st.session ++ more → KeepsVersions i st (state_after i st e) → threads_cost i (state_after i st e) ≤ threads_cost i st → replies_cost i (state_after i st e) ≤ replies_cost i st → (state_after i st e).posted ≡ st.posted → 1 ≤ q → q ≤ st.posted → message_cost i (state_after i st e) q + 1 ≤ message_cost i st q → ((p : ℕ) → q ≢ p → IsUnmoved i st (state_after i st e) p) → IsStepOn e q
+  step_on e q more grown versions threads replies posted low high drop others =
+      record { more = more; grown = grown; versions = versions; threads = threads; replies = replies; posted = posted; low = low; high = high; drop = drop; others = others }
 
   -- after a step on a message fewer steps are left
   pub step_less : (e : Entry) (q : ℕ) → IsStepOn e q → Less e
   step_less e q x =
-      let messages = messages_drop i st copies (state_after i st e) x.more x.grown q x.posted x.low x.high x.drop x.others in
+      let messages = messages_drop i st copies (state_after i st e) x.more x.grown x.versions q x.posted x.low x.high x.drop x.others in
       let threads = x.threads in
       let replies = x.replies in
       omega (arith, messages, threads, replies)
@@ -69,7 +70,7 @@ module _ (i : Input) (st : State) (whole : Whole i st) (copies : Copies st) wher
   step_taken e q p x = by (q == p) refl where
     by : (b : Bool) → (q == p) ≡ b → message_cost i (state_after i st e) p + step_unless (not b) ≤ message_cost i st p
     by true f = subst (λ n. message_cost i (state_after i st e) n + 1 ≤ message_cost i st n) (eqb-true q p f) x.drop
-    by false f = let low = unmoved_low i st copies (state_after i st e) x.more x.grown p (x.others p (eqb-false q p f)) in omega (arith, low)
+    by false f = let low = unmoved_low i st copies (state_after i st e) x.more x.grown x.versions p (x.others p (eqb-false q p f)) in omega (arith, low)
 
   pub same_session : st.session ≡ st.session ++ []
   same_session = sym (append-nil st.session)
@@ -95,7 +96,7 @@ module _ (i : Input) (st : State) (whole : Whole i st) (copies : Copies st) wher
 
     pub claimed_step : IsStepOn (Claimed w q) q
     claimed_step = let head : (h : Head) × ((st.messages q).head ≡ Some h) = live_head st q y.live in
-        step_on (Claimed w q) q [] same_session (omega arith) (omega arith) refl (number_low q head.0 head.1) (live_low i st whole.calls q y.live) claimed_drop
+        step_on (Claimed w q) q [] same_session (λ learns policy. refl) (omega arith) (omega arith) refl (number_low q head.0 head.1) (live_low i st whole.calls q y.live) claimed_drop
         (λ p differ. record { claimed = ap (λ b. b || (st.messages p).claimed) (ne_eqb q p differ); taken_is = refl; turn = claimed_turn p differ; copies = refl })
 
   -- ---- work on a number
@@ -132,7 +133,7 @@ module _ (i : Input) (st : State) (whole : Whole i st) (copies : Copies st) wher
           omega (arith, before, following, more, few)
 
       copied_by : (taken (copied.messages q) ≡ taken (st.messages q) + 1) → taken (copied.messages q) ≤ 9602 → IsStepOn (Copied q part place word) q
-      copied_by more few = step_on (Copied q part place word) q [] same_session (omega arith) (omega arith) refl low high (copied_drop more few)
+      copied_by more few = step_on (Copied q part place word) q [] same_session (λ learns policy. refl) (omega arith) (omega arith) refl low high (copied_drop more few)
           (λ p differ. record {
             claimed = refl;
             taken_is = (λ k. length (same_words p differ 0 k) + length (same_words p differ 1 k) + length ((st.messages p).lookups 0) + length ((st.messages p).lookups 1));
@@ -166,7 +167,7 @@ module _ (i : Input) (st : State) (whole : Whole i st) (copies : Copies st) wher
       own_lookups j = ap (λ b. length (cond (b && part == j) ((st.messages q).lookups j ++ seen ∷ []) ((st.messages q).lookups j))) (eq-eqb q q refl)
 
       looked_by : (taken (looked.messages q) ≡ taken (st.messages q) + 1) → taken (looked.messages q) ≤ 9602 → IsStepOn (Looked q part name seen) q
-      looked_by more few = step_on (Looked q part name seen) q [] same_session (omega arith) (omega arith) refl low high
+      looked_by more few = step_on (Looked q part name seen) q [] same_session (λ learns policy. refl) (omega arith) (omega arith) refl low high
           (let before = had in
           let following : message_cost i looked q ≡ 9604 - taken (looked.messages q) = λ k. remaining (whole.turns.claimed w q turn k) (turn_there i looked w q (whole.turns.worker w q turn) turn k) (taken (looked.messages q)) (may_be_learnt i looked (snapshot_in looked q)) in
           omega (arith, before, following, more, few))
@@ -209,7 +210,7 @@ module _ (i : Input) (st : State) (whole : Whole i st) (copies : Copies st) wher
       by false f g = (g, λ same. eqb-false q n f (same ∙ sym (some_inj n p g)))
 
     pub faulted_step : (errno : Errno) → IsStepOn (Faulted q errno) q
-    faulted_step errno = step_on (Faulted q errno) q [] same_session (omega arith) (omega arith) refl low high
+    faulted_step errno = step_on (Faulted q errno) q [] same_session (λ learns policy. refl) (omega arith) (omega arith) refl low high
         (turn_over (state_after i st (Faulted q errno)) refl (turn_gone i (state_after i st (Faulted q errno)) q (λ v e. (not_own (st.turns v) q e).1 refl)))
         (λ p differ. record {
           claimed = refl;
@@ -228,7 +229,7 @@ module _ (i : Input) (st : State) (whole : Whole i st) (copies : Copies st) wher
     kept_turn u p false e f = (eqb-false w u e, f)
 
     pub answered_step : IsStepOn (Answered w s v applied) s.seq
-    answered_step = step_on (Answered w s v applied) s.seq [] same_session (omega arith) (omega arith) refl (low w s.seq y.at) (high w s.seq y.at)
+    answered_step = step_on (Answered w s v applied) s.seq [] same_session (λ learns policy. refl) (omega arith) (omega arith) refl (low w s.seq y.at) (high w s.seq y.at)
         (turn_over w s.seq y.at answered refl (turn_gone i answered s.seq (λ u e. let x : (w ≢ u) × (st.turns u ≡ Some s.seq) = kept_turn u s.seq (w == u) refl e in x.0 (whole.turns.one w u s.seq (turn w s.seq y.at) x.1))))
         (λ p differ. record {
           claimed = refl;

@@ -11,6 +11,7 @@ pub mod FirstRows
 pub mod Found
 pub mod Growth
 pub mod HeldCalls
+pub mod HeldRenewals
 pub mod HeldRuns
 pub mod Invariant
 pub mod Laws
@@ -41,7 +42,10 @@ pub mod ProgressBounds
 pub mod Progressing
 pub mod QuietChanges
 pub mod RaceRuns
+pub mod ReloadKept
+pub mod ReloadRuns
 pub mod RenewalKept
+pub mod Reloads
 pub mod Renewals
 pub mod Resting
 pub mod Scripts
@@ -74,4 +78,5 @@ pub mod Words
 pub mod WorkerSteps
 pub mod WorkersRecorded
 pub mod Writing
+pub mod WrongReloads
 pub mod WrongRuns

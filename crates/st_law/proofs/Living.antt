@@ -6,15 +6,14 @@ use Rattle.std.proofs.lemmas.Bool.Decides.{leb_tells}
 use Rattle.st_base.specs.declared.ids.Ids.{Ids}
 use Rattle.st_calls.specs.declared.argument.ArgText.{ArgText}
 use Rattle.st_calls.specs.declared.call.SysCall.{SysCall}
-use Rattle.st_model.specs.Process.{Process}
 use Rattle.st_effects.specs.Changes.{dying_after_change, process_after}
-use Rattle.st_effects.specs.Processes.{policy_changes, renewals}
+use Rattle.st_effects.specs.Processes.{is_other_of, policy_changes, renewals, renewals_by}
 use Rattle.st_effects.specs.System.{HeldCall}
 use Rattle.st_trace.specs.declared.entry.CallResult.{CallResult}
 use Rattle.st_trace.specs.declared.entry.Change.{Change}
 use Rattle.st_trace.specs.declared.entry.Change.TheVariants.{Execed, SetIds, Renewed}
 use Rattle.st_trace.specs.declared.entry.Entry.{Entry}
-use Rattle.st_trace.specs.declared.entry.Entry.TheVariants.{Entered, Used}
+use Rattle.st_trace.specs.declared.entry.Entry.TheVariants.{Entered, Used, Reloaded}
 use Rattle.st_trace.specs.declared.entry.Way.TheVariants.{Held}
 use Rattle.st_law.specs.declared.input.Input.{Input}
 use Rattle.st_law.specs.Entries.{Closes, LeavesDying, LivesSince, Posts, RenewsTo}
@@ -23,14 +22,16 @@ use Rattle.st_law.specs.Inputs.{IsStartable}
 use Rattle.st_law.specs.Lawful.{IsLawful, IsLawfulBack, IsUsed}
 use Rattle.st_law.specs.Messages.{Head, head_after_change, head_at, is_closed_at, new_head, posted_at, renewed_head}
 use Rattle.st_law.specs.Splits.{NoneTouches, SomeIn}
-use Rattle.st_law.specs.State.{State, held_from, is_live, is_live_by, process_in, request_of, system_of, thread_count}
+use Rattle.st_law.specs.State.{State, held_from, is_held_under, reload_changes, is_live, is_live_by, process_in, request_of, system_of, thread_count}
 use Rattle.st_law.specs.Threads.{History, is_dying_at}
 use Rattle.st_law.proofs.HeldCalls.{IsItem, items}
 use Rattle.st_law.proofs.Invariant.{IsOpen, Invariant}
 use Rattle.st_law.proofs.MessageHistory as messages
 use Rattle.st_law.proofs.Moves.{Moves, moves}
 use Rattle.st_law.proofs.Preserved.{UsedKeeps, used_keeps}
-use Rattle.st_law.proofs.RenewalKept.{open_of, unclosed_fresh}
+use Rattle.st_law.proofs.RenewalKept.{unclosed_fresh}
+use Rattle.st_law.proofs.HeldRenewals.{open_of}
+use Rattle.st_law.proofs.ReloadKept.{done_unclosed}
 use Rattle.st_law.proofs.Renewals.{EachHeld, head_below, one_more, renewals_same}
 use Rattle.st_law.proofs.Shapes.{IsQuiet, AreQuiet, Shape, quiet, forked, execed, renewed}
 use Rattle.st_law.proofs.Splitting.{kept_later, when_same}
@@ -65,6 +66,7 @@ some_or_none q (c ∷ changes) = one_or_later (RenewsTo q c) (SomeIn (RenewsTo q
 posts_or_not : (q : ℕ) (e : Entry) (h : History) → Posts q e h ⊎ (Posts q e h → ⊥)
 posts_or_not q (Entered t call regs (Held p)) h = number_is_or_not p q
 posts_or_not q (Used u seq call regs args ids result changes) h = some_or_none q changes
+posts_or_not q (Reloaded u n done changes) h = some_or_none q changes
 posts_or_not q _ h = inr (λ x. x)
 
 false_before : (before new : Bool) → (before ≡ true → new ≡ true) → new ≡ false → before ≡ false
@@ -131,33 +133,62 @@ exec_renews q binary space true (inr x) = x
 exec_renews q binary space false (inl x) = x
 exec_renews q binary space false (inr x) = alone ⊥ ⊥ (λ y. y) x
 
-module _ (m u q : ℕ) where
+module _ (is : HeldCall → Bool) (q : ℕ) where
   -- new numbers are at least the first one that is drawn
-  drawn_high : (next : ℕ) (helds : List HeldCall) → SomeIn (RenewsTo q) (renewals m u next helds) → next ≤ q
+  drawn_high : (next : ℕ) (helds : List HeldCall) → SomeIn (RenewsTo q) (renewals_by is next helds) → next ≤ q
   drawn_high next [] = λ x. absurd x
-  drawn_high next (held ∷ more) = one_more m u (λ cs. SomeIn (RenewsTo q) cs → next ≤ q) next held more (λ is_so. first (drawn_high (next + 1) more)) (λ not_so. drawn_high next more) where
+  drawn_high next (held ∷ more) = one_more is (λ cs. SomeIn (RenewsTo q) cs → next ≤ q) next held more (λ is_so. first (drawn_high (next + 1) more)) (λ not_so. drawn_high next more) where
     first : {A : Type 0} → (A → next + 1 ≤ q) → (next ≡ q) ⊎ A → next ≤ q
     first later (inl x) = omega (arith, x)
     first later (inr x) = let high = later x in omega (arith, high)
 
-  module _ (heads : ℕ → Option Head) (process : Process) (P : HeldCall → Type 0) where
+  module _ (heads : ℕ → Option Head) (renewing : Head → Head) (P : HeldCall → Type 0) where
     -- the head of this number is the renewed head of one of the held calls
     abbrev HasRenewed : Option Head → List Change → Type 0
-    HasRenewed before changes = (held : HeldCall) × P held × (fold (head_after_change heads process q) before changes ≡ option_map (renewed_head process) (heads held.number))
+    HasRenewed before changes = (held : HeldCall) × P held × (fold (head_after_change heads renewing q) before changes ≡ option_map renewing (heads held.number))
 
-    renewed_of : (next : ℕ) (helds : List HeldCall) → EachHeld P helds → (before : Option Head) → SomeIn (RenewsTo q) (renewals m u next helds) → HasRenewed before (renewals m u next helds)
+    renewed_of : (next : ℕ) (helds : List HeldCall) → EachHeld P helds → (before : Option Head) → SomeIn (RenewsTo q) (renewals_by is next helds) → HasRenewed before (renewals_by is next helds)
     renewed_of next [] each before = λ x. absurd x
-    renewed_of next (held ∷ more) each before = one_more m u (λ cs. SomeIn (RenewsTo q) cs → HasRenewed before cs) next held more
+    renewed_of next (held ∷ more) each before = one_more is (λ cs. SomeIn (RenewsTo q) cs → HasRenewed before cs) next held more
         (λ is_so. first (renewed_of (next + 1) more each.1)) (λ not_so. renewed_of next more each.1 before) where
-          first : ((start : Option Head) → SomeIn (RenewsTo q) (renewals m u (next + 1) more) → HasRenewed start (renewals m u (next + 1) more))
-              → (next ≡ q) ⊎ SomeIn (RenewsTo q) (renewals m u (next + 1) more) → HasRenewed before (Renewed held.number next ∷ renewals m u (next + 1) more)
+          first : ((start : Option Head) → SomeIn (RenewsTo q) (renewals_by is (next + 1) more) → HasRenewed start (renewals_by is (next + 1) more))
+              → (next ≡ q) ⊎ SomeIn (RenewsTo q) (renewals_by is (next + 1) more) → HasRenewed before (Renewed held.number next ∷ renewals_by is (next + 1) more)
           first later (inl x) = (
             held,
             each.0,
-            ap (λ o. fold (head_after_change heads process q) o (renewals m u (next + 1) more)) (when_same next q (option_map (renewed_head process) (heads held.number)) before x)
-                ∙ head_below m u heads process q (option_map (renewed_head process) (heads held.number)) (next + 1) more (omega (arith, x)),
+            ap (λ o. fold (head_after_change heads renewing q) o (renewals_by is (next + 1) more)) (when_same next q (option_map renewing (heads held.number)) before x)
+                ∙ head_below is heads renewing q (option_map renewing (heads held.number)) (next + 1) more (omega (arith, x)),
           )
-          first later (inr x) = later (head_after_change heads process q before (Renewed held.number next)) x
+          first later (inr x) = later (head_after_change heads renewing q before (Renewed held.number next)) x
+
+-- the thread of a renewed number isn't dying, if a renewal keeps the thread of a head
+module _ (i : Input) (st : State) (inv : Invariant i st) (is : HeldCall → Bool) (q : ℕ) (renewing : Head → Head) (keeps : (head : Head) → (renewing head).tid ≡ head.tid) where
+  abbrev heads_in : ℕ → Option Head
+  heads_in p = (st.messages p).head
+
+  abbrev held_in : List HeldCall
+  held_in = held_from st 1 (thread_count i)
+
+  abbrev renewed_in : List Change
+  renewed_in = renewals_by is (suc st.posted) held_in
+
+  -- a head of a thread's open call, renewed or not, is that thread's
+  tid_of : (own : Head) (o : Option Head) (head : Head) → o ≡ Some own → Some head ≡ option_map renewing o → head.tid ≡ own.tid
+  tid_of own o head e f = by (f ∙ ap (option_map renewing) e) where
+    by : Some head ≡ Some (renewing own) → head.tid ≡ own.tid
+    by g = ap (λ x. tid_in head.tid x) g ∙ keeps own where
+      tid_in : ℕ → Option Head → ℕ
+      tid_in other None = other
+      tid_in other (Some found) = found.tid
+
+  renewed_undying : (head : Head) → fold (head_after_change heads_in renewing q) (heads_in q) renewed_in ≡ Some head
+      → SomeIn (RenewsTo q) renewed_in → (st.threads head.tid).dying ≡ false
+  renewed_undying head posted some =
+      let x = renewed_of is q heads_in renewing (IsItem st) (suc st.posted) held_in (items st 1 (thread_count i)) (heads_in q) some in
+      let held : HeldCall = x.0 in
+      let is_open : IsOpen st held.tid x.1.holder.entered.call x.1.holder.entered.regs = open_of i st inv held.tid x.1.holder in
+      let tid : head.tid ≡ is_open.head.tid = tid_of is_open.head (heads_in held.number) head (ap (λ call. heads_in call.number) x.1.is ∙ is_open.posted) (sym posted ∙ x.2) in
+      ap (λ t. (st.threads t).dying) (tid ∙ is_open.own.tid_is) ∙ x.1.holder.undying
 
 -- ---- a posted number is live
 
@@ -181,36 +212,16 @@ module _ (i : Input) (st : State) (inv : Invariant i st) (u : ℕ) (seq : Option
   used_renews : (changes : List Change) → SomeIn (RenewsTo q) changes → IsUsed i st u seq call regs args ids result changes → Renews changes
   used_renews changes some x = shape_renews changes some (used_shape i st u call regs args ids result changes seq x)
 
-  -- a head of a thread's open call, renewed or not, is that thread's
-  tid_of : (process : Process) (own : Head) (o : Option Head) (head : Head) → o ≡ Some own → Some head ≡ option_map (renewed_head process) o → head.tid ≡ own.tid
-  tid_of process own o head e f = by (f ∙ ap (option_map (renewed_head process)) e) where
-    by : Some head ≡ Some (renewed_head process own) → head.tid ≡ own.tid
-    by g = ap (λ x. tid_in head.tid x) g where
-      tid_in : ℕ → Option Head → ℕ
-      tid_in other None = other
-      tid_in other (Some found) = found.tid
-
   module _ (set : Ids) where
     abbrev changes : List Change
     changes = SetIds set ∷ renewals m u (suc st.posted) helds
 
-    abbrev process : Process
-    process = process_after st.processes m m changes
-
-    abbrev heads : ℕ → Option Head
-    heads p = (st.messages p).head
-
-    -- the thread of a renewed number isn't dying
-    renewed_undying : (head : Head) → fold (head_after_change heads process q) (heads q) (renewals m u (suc st.posted) helds) ≡ Some head
-        → HasRenewed m u q heads process (IsItem st) (heads q) (renewals m u (suc st.posted) helds) → (st.threads head.tid).dying ≡ false
-    renewed_undying head posted x =
-        let held : HeldCall = x.0 in
-        let is_open : IsOpen st held.tid x.1.holder.entered.call x.1.holder.entered.regs = open_of i st inv held.tid x.1.holder in
-        let tid : head.tid ≡ is_open.head.tid = tid_of process is_open.head (heads held.number) head (ap (λ call. heads call.number) x.1.is ∙ is_open.posted) (sym posted ∙ x.2) in
-        ap (λ t. (st.threads t).dying) (tid ∙ is_open.own.tid_is) ∙ x.1.holder.undying
+    -- what the call makes of a renewed head
+    abbrev renewing : Head → Head
+    renewing = renewed_head (λ p. process_after st.processes m p changes) st.versions
 
     dying_same : (t : ℕ) → fold (dying_after_change t (st.threads t).owner u m) (st.threads t).dying changes ≡ (st.threads t).dying
-    dying_same t = renewals_same m u (dying_after_change t (st.threads t).owner u m) (λ b old fresh. refl) (st.threads t).dying (suc st.posted) helds
+    dying_same t = renewals_same (is_other_of m u) (dying_after_change t (st.threads t).owner u m) (λ b old fresh. refl) (st.threads t).dying (suc st.posted) helds
 
 module _ (i : Input) (q : ℕ) (head : Head) where
   -- after an entry a number is open, and its thread isn't dying
@@ -223,7 +234,7 @@ module _ (i : Input) (q : ℕ) (head : Head) where
 
     held_fresh : (t p : ℕ) (call : SysCall) (regs : List ℕ) → IsLawful i now (Entered t call regs (Held p)) → p ≡ q → head_at i (Entered t call regs (Held p) ∷ h) q ≡ Some head → IsFresh (Entered t call regs (Held p)) h
     held_fresh t p call regs y same posted =
-        let own : Head = new_head i t (now.threads t).owner (process_in now t) call regs in
+        let own : Head = new_head i t (now.threads t).owner (process_in now t) (now.versions (process_in now t).policy) call regs in
         let is : Some own ≡ Some head = sym (when_same p q (Some own) (head_at i h q) same) ∙ posted in
         let drawn : p ≡ suc (posted_at h) = y.way_is.1 in
         (whole.calls.closed q (omega (arith, same, drawn)), ap (is_dying_at i h) (tid_is own is) ∙ y.running.undying)
@@ -242,13 +253,11 @@ module _ (i : Input) (q : ℕ) (head : Head) where
 
       renewed_fresh : (set : Ids) → UsedKeeps i now whole.calls u seq call regs args ids result (changes i now whole.calls u seq call regs args ids result q set) → IfPosted (changes i now whole.calls u seq call regs args ids result q set)
       renewed_fresh set kept some posted =
-          let y = alone ⊥ (SomeIn (RenewsTo q) (renewals (now.threads u).owner u (suc now.posted) (held_from now 1 (thread_count i)))) (λ x. x) some in
-          let process = process_after now.processes (now.threads u).owner (now.threads u).owner (changes i now whole.calls u seq call regs args ids result q set) in
-          let heads : ℕ → Option Head = head_at i h in (
-            unclosed_fresh i now whole.calls u seq kept.open_seq call regs args ids result set q (drawn_high (now.threads u).owner u q (suc now.posted) (held_from now 1 (thread_count i)) y),
+          let is : HeldCall → Bool = is_other_of (now.threads u).owner u in
+          let y = alone ⊥ (SomeIn (RenewsTo q) (renewals (now.threads u).owner u (suc now.posted) (held_from now 1 (thread_count i)))) (λ x. x) some in (
+            unclosed_fresh i now whole.calls u seq kept.open_seq call regs args ids result set q (drawn_high is q (suc now.posted) (held_from now 1 (thread_count i)) y),
             dying_same i now whole.calls u seq call regs args ids result q set head.tid
-                ∙ renewed_undying i now whole.calls u seq call regs args ids result q set head posted
-                (renewed_of (now.threads u).owner u q heads process (IsItem now) (suc now.posted) (held_from now 1 (thread_count i)) (items now 1 (thread_count i)) (heads q) y),
+                ∙ renewed_undying i now whole.calls is q (renewing i now whole.calls u seq call regs args ids result q set) (λ each. refl) head posted y,
           )
 
       used_fresh : (cs : List Change) → IsLawful i now (Used u seq call regs args ids result cs) → IfPosted cs
@@ -257,10 +266,23 @@ module _ (i : Input) (q : ℕ) (head : Head) where
           let kept : UsedKeeps i now whole.calls u seq call regs args ids result cs = used_keeps i now whole.calls u seq call regs args ids result cs y in
           subst IfPosted (sym x.1) (renewed_fresh x.0 (subst (UsedKeeps i now whole.calls u seq call regs args ids result) x.1 kept)) some
 
+    reloaded_fresh : (u n : ℕ) (done : Bool) → SomeIn (RenewsTo q) (reload_changes i now n done) → head_at i (Reloaded u n done (reload_changes i now n done) ∷ h) q ≡ Some head → IsFresh (Reloaded u n done (reload_changes i now n done)) h
+    reloaded_fresh u n false some posted = absurd some
+    reloaded_fresh u n true some posted =
+        let is : HeldCall → Bool = is_held_under i now n in
+        let helds : List HeldCall = held_from now 1 (thread_count i) in
+        let after : State = looking_back i (Reloaded u n true (reload_changes i now n true) ∷ h) in (
+          done_unclosed i now whole.calls u n q (drawn_high is q (suc now.posted) helds some),
+          renewals_same is (dying_after_change head.tid (now.threads head.tid).owner u (now.threads u).owner) (λ b old fresh. refl) (now.threads head.tid).dying (suc now.posted) helds
+              ∙ renewed_undying i now whole.calls is q (renewed_head after.processes after.versions) (λ each. refl) head posted some,
+        )
+
     -- a number is live after the entry that posts it
     fresh : (e : Entry) → IsLawful i now e → Posts q e h → head_at i (e ∷ h) q ≡ Some head → IsFresh e h
     fresh (Entered t call regs (Held p)) y posts posted = held_fresh t p call regs y posts posted
     fresh (Used u seq call regs args ids result cs) y posts posted = used_fresh u seq call regs args ids result cs y posts posted
+    fresh (Reloaded u n done cs) y posts posted =
+        subst (λ changes. SomeIn (RenewsTo q) changes → head_at i (Reloaded u n done changes ∷ h) q ≡ Some head → IsFresh (Reloaded u n done changes) h) (sym y.changes_are) (reloaded_fresh u n done) posts posted
     fresh _ y posts posted = absurd posts
 
 -- ---- the number stays live while no later entry closes it or leaves its thread dying

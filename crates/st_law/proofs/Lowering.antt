@@ -1,6 +1,6 @@
 -- Each lawful entry lowers the steps left: those of threads, messages and replies.
 use native.Mathlib.Omega.{arith}
-use Rattle.std.proofs.Common.{◌≡◌, ◌≢◌, ◌⊎◌, ◌≤◌, ℕ, ◌+◌, ◌*◌, Bool, true, false, cond, not, ◌==◌, List, ◌++◌, drop, Option, Some, None, refl, sym, ap, subst, ◌∙◌, inl, inr}
+use Rattle.std.proofs.Common.{◌≡◌, ◌≢◌, ◌⊎◌, ◌≤◌, ℕ, ◌+◌, ◌*◌, Bool, true, false, cond, ◌==◌, List, ◌++◌, drop, Option, Some, None, refl, sym, ap, subst, ◌∙◌, inl, inr}
 use Rattle.std.specs.Prelude.{is_some}
 use Rattle.std.proofs.lemmas.Bool.{eqb-true, eqb-false, eq-eqb}
 use Rattle.st_calls.specs.declared.call.SysCall.{SysCall}
@@ -11,8 +11,11 @@ use Rattle.st_calls.specs.declared.judged.Verdict.TheVariants.{Permit, Refuse, U
 use Rattle.st_model.specs.Tree.{is_number}
 use Rattle.st_trace.specs.Instructions.{IsCallOf}
 use Rattle.st_trace.specs.declared.start.Instr.{Instr}
-use Rattle.st_trace.specs.declared.start.Instr.TheVariants.{Store, Call, Fork}
+use Rattle.st_trace.specs.declared.start.Instr.TheVariants.{Store, Call, Fork, Reload}
 use Rattle.st_law.specs.declared.input.Input.{Input}
+use Rattle.st_law.specs.declared.input.Mode.{Mode}
+use Rattle.st_law.specs.declared.input.Mode.TheVariants.{Enforce, Learn, AskText}
+use Rattle.st_filter.specs.Policies.{filters_in_force}
 use Rattle.st_calls.specs.Call.{sets_ids}
 use Rattle.st_law.specs.Sessions.{SessionFilter, session_filters, decision}
 use Rattle.st_law.specs.State.{State, thread_count, is_worker, snapshot_in, read_at, decision_in, is_undecided}
@@ -20,7 +23,7 @@ use Rattle.st_law.proofs.Copies.{Copies}
 use Rattle.st_law.proofs.Growth.{session_append}
 use Rattle.st_law.proofs.Least.{least}
 use Rattle.st_law.proofs.MessageHistory.{number_only}
-use Rattle.st_law.proofs.Potential.{weight, call_cost, step_unless, thread_cost, taken, is_turn, may_be_learnt, remaining, message_cost, threads_cost, messages_cost, message_most, remaining_low}
+use Rattle.st_law.proofs.Potential.{weight, call_cost, thread_cost, taken, is_turn, may_be_learnt, remaining, message_cost, threads_cost, messages_cost, message_most, remaining_low, learnable, learnable_most, learnt_most}
 use Rattle.st_law.proofs.Standing.{decision_append}
 use Rattle.st_law.proofs.Sums.{total, total_low, total_drop, total_more, total_most}
 use Rattle.st_law.proofs.Turns.{unlike, worker_range}
@@ -51,26 +54,33 @@ decided_or (Permit n ids) = inr ((λ e. cc), refl)
 decided_or (Refuse n errno) = inr ((λ e. cc), refl)
 decided_or Unmatched = inl refl
 
-at_most_one : (b : Bool) → step_unless (not b) ≤ 1
-at_most_one true = omega arith
-at_most_one false = omega arith
+-- if the operator learns, a state has the versions of another
+abbrev pub KeepsVersions : Input → State → State → Type 0
+KeepsVersions i st new = i.options.mode ≡ Learn → (policy : List ℕ) → new.versions policy ≡ st.versions policy
 
--- a session that grows leaves no more to be learnt
-learnt_low : (i : Input) (st new : State) (more : List SessionFilter) → new.session ≡ st.session ++ more → (o : Option Snapshot) → may_be_learnt i new o ≤ may_be_learnt i st o
-learnt_low i st new more grown None = omega arith
-learnt_low i st new more grown (Some s) = by (decided_or (decision_in i st s)) where
-  by : (decision_in i st s ≡ Unmatched) ⊎ ((decision_in i st s ≢ Unmatched) × (is_undecided (decision_in i st s) ≡ false)) → may_be_learnt i new (Some s) ≤ may_be_learnt i st (Some s)
+-- a session that grows leaves no more to be learnt, while nothing is reloaded
+learnt_by_mode : (i : Input) (st new : State) (more : List SessionFilter) → new.session ≡ st.session ++ more → (s : Snapshot) → (mode : Mode) → (mode ≡ Learn → (policy : List ℕ) → new.versions policy ≡ st.versions policy)
+    → learnable mode (is_undecided (decision_in i new s)) ≤ learnable mode (is_undecided (decision_in i st s))
+learnt_by_mode i st new more grown s Enforce keeps = omega arith
+learnt_by_mode i st new more grown s AskText keeps = omega arith
+learnt_by_mode i st new more grown s Learn keeps = by (decided_or (decision_in i st s)) where
+  by : (decision_in i st s ≡ Unmatched) ⊎ ((decision_in i st s ≢ Unmatched) × (is_undecided (decision_in i st s) ≡ false)) → learnable Learn (is_undecided (decision_in i new s)) ≤ learnable Learn (is_undecided (decision_in i st s))
   by (inl e) =
-      let one : may_be_learnt i st (Some s) ≡ 1 = ap (λ v. step_unless (not (is_undecided v))) e in
-      let most = at_most_one (is_undecided (decision_in i new s)) in
+      let one : learnable Learn (is_undecided (decision_in i st s)) ≡ 1 = ap (λ v. learnable Learn (is_undecided v)) e in
+      let most = learnable_most Learn (is_undecided (decision_in i new s)) in
       omega (arith, one, most)
   by (inr x) =
       let stays : decision_in i new s ≡ decision_in i st s =
-      ap (λ session. decision (read_at i st s.policy s.rule) (session_filters session s.policy s.rule) s) grown
+      ap (λ version. decision (filters_in_force i.policies s.policy version s.rule) (session_filters new.session s.policy s.rule) s) (keeps refl s.policy)
+      ∙ ap (λ session. decision (read_at i st s.policy s.rule) (session_filters session s.policy s.rule) s) grown
       ∙ ap (λ fs. decision (read_at i st s.policy s.rule) fs s) (session_append st.session more s.policy s.rule)
       ∙ decision_append (read_at i st s.policy s.rule) (session_filters st.session s.policy s.rule) (session_filters more s.policy s.rule) s x.0 in
-      let same : may_be_learnt i new (Some s) ≡ may_be_learnt i st (Some s) = ap (λ v. step_unless (not (is_undecided v))) stays in
+      let same : learnable Learn (is_undecided (decision_in i new s)) ≡ learnable Learn (is_undecided (decision_in i st s)) = ap (λ v. learnable Learn (is_undecided v)) stays in
       omega (arith, same)
+
+learnt_low : (i : Input) (st new : State) (more : List SessionFilter) → new.session ≡ st.session ++ more → KeepsVersions i st new → (o : Option Snapshot) → may_be_learnt i new o ≤ may_be_learnt i st o
+learnt_low i st new more grown keeps None = omega arith
+learnt_low i st new more grown keeps (Some s) = learnt_by_mode i st new more grown s i.options.mode keeps
 
 -- ---- messages
 
@@ -87,16 +97,12 @@ module _ (i : Input) (st : State) (copies : Copies st) where
       let a = copies.words q 0 in let b = copies.words q 1 in let c = copies.lookups q 0 in let d = copies.lookups q 1 in
       omega (arith, a, b, c, d)
 
-  learnt_one : (o : Option Snapshot) → may_be_learnt i st o ≤ 1
-  learnt_one None = omega arith
-  learnt_one (Some s) = at_most_one (is_undecided (decision_in i st s))
-
-  module _ (new : State) (more : List SessionFilter) (grown : new.session ≡ st.session ++ more) where
+  module _ (new : State) (more : List SessionFilter) (grown : new.session ≡ st.session ++ more) (keeps : KeepsVersions i st new) where
     pub unmoved_low : (p : ℕ) → IsUnmoved i st new p → message_cost i new p ≤ message_cost i st p
     unmoved_low p x =
         let learnt : may_be_learnt i new (snapshot_in new p) ≤ may_be_learnt i st (snapshot_in st p) =
-        subst (λ o. may_be_learnt i new o ≤ may_be_learnt i st (snapshot_in st p)) (sym x.copies) (learnt_low i st new more grown (snapshot_in st p)) in
-        let low = remaining_low (st.messages p).claimed (is_turn i st p) (is_turn i new p) (taken (st.messages p)) (may_be_learnt i st (snapshot_in st p)) (may_be_learnt i new (snapshot_in new p)) x.turn learnt (learnt_one (snapshot_in st p)) (taken_few p) in
+        subst (λ o. may_be_learnt i new o ≤ may_be_learnt i st (snapshot_in st p)) (sym x.copies) (learnt_low i st new more grown keeps (snapshot_in st p)) in
+        let low = remaining_low (st.messages p).claimed (is_turn i st p) (is_turn i new p) (taken (st.messages p)) (may_be_learnt i st (snapshot_in st p)) (may_be_learnt i new (snapshot_in new p)) x.turn learnt (learnt_most i st (snapshot_in st p)) (taken_few p) in
         let same : message_cost i new p ≡ remaining (st.messages p).claimed (is_turn i new p) (taken (st.messages p)) (may_be_learnt i new (snapshot_in new p)) =
         λ k. remaining (x.claimed k) (is_turn i new p) (x.taken_is k) (may_be_learnt i new (snapshot_in new p)) in
         omega (arith, low, same)
@@ -133,6 +139,7 @@ threads_drop i st new u d at below drop others =
 -- the cost of an instruction that makes a call covers the call and a message
 pub weight_of : (instruction : Instr) (call : SysCall) (regs : List ℕ) → IsCallOf instruction call regs → call_cost (sets_ids call) + 9999 ≤ weight instruction
 weight_of (Store place word) call regs makes = absurd makes
+weight_of (Reload n) call regs makes = absurd makes
 weight_of (Call own own_regs) call regs makes = let same : sets_ids call ≡ sets_ids own = ap sets_ids makes.0 in by (sets_ids own) same where
   by : (b : Bool) → sets_ids call ≡ b → call_cost (sets_ids call) + 9999 ≤ cond b 650000 10000
   by true e = let c : call_cost (sets_ids call) ≡ call_cost true = ap call_cost e in omega (arith, c)

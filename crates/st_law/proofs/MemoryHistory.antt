@@ -9,7 +9,7 @@ use Rattle.st_trace.specs.declared.entry.CallResult.TheVariants.{Value}
 use Rattle.st_trace.specs.declared.entry.Change.{Change}
 use Rattle.st_trace.specs.declared.entry.Change.TheVariants.{Put, Forked}
 use Rattle.st_trace.specs.declared.entry.Entry.{Entry}
-use Rattle.st_trace.specs.declared.entry.Entry.TheVariants.{Stored, Used, Ended}
+use Rattle.st_trace.specs.declared.entry.Entry.TheVariants.{Stored, Used, Ended, Reloaded}
 use Rattle.st_law.specs.declared.input.Input.{Input}
 use Rattle.st_law.specs.Entries.{Covers, GivesByte, GivesByteIn, GivesTable, IsLastOne, IsByteAt, TouchesByte, changes_so_far}
 use Rattle.st_law.specs.History.{descriptors_at, looking_back}
@@ -93,6 +93,8 @@ byte i s b = last_given (λ h. byte_at i h s b) 0 (TouchesByte i s b) (GivesByte
 pub tree : (i : Input) (h : History) → tree_at i h ≡ tree_after (first_tree i) (changes_so_far h)
 tree i [] = refl
 tree i (Used u seq call regs args ids result changes ∷ h) =
+    ap (λ now. tree_after now changes) (tree i h) ∙ sym (fold_apart tree_after_change (first_tree i) (changes_so_far h) changes)
+tree i (Reloaded u n done changes ∷ h) =
     ap (λ now. tree_after now changes) (tree i h) ∙ sym (fold_apart tree_after_change (first_tree i) (changes_so_far h) changes)
 tree i (_ ∷ h) = tree i h
 

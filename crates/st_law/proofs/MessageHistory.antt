@@ -2,20 +2,20 @@
 use Rattle.std.proofs.Common.{◌≡◌, ◌⊎◌, ℕ, suc, ◌+◌, Bool, true, false, ◌||◌, ◌&&◌, ◌==◌, List, [], ◌∷◌, ◌++◌, length, fold, Option, Some, None, option_map, refl, ap, sym, ◌∙◌, inl, inr, arith, length-append}
 use Rattle.std.proofs.lemmas.Bool.{eq-eqb, eqb-true, and_from}
 use Rattle.st_base.specs.declared.errno.Errno.{Errno}
-use Rattle.st_model.specs.Process.{Process}
 use Rattle.st_model.specs.Tree.{is_number}
 use Rattle.st_names.specs.declared.seen.SeenText.{SeenText}
 use Rattle.st_trace.specs.declared.entry.Change.{Change}
 use Rattle.st_trace.specs.declared.entry.Change.TheVariants.{Renewed}
 use Rattle.st_trace.specs.declared.entry.Entry.{Entry}
-use Rattle.st_trace.specs.declared.entry.Entry.TheVariants.{Entered, Claimed, Copied, Looked, Faulted, Answered, Used, Denied}
+use Rattle.st_trace.specs.declared.entry.Entry.TheVariants.{Entered, Claimed, Copied, Looked, Faulted, Answered, Used, Denied, Reloaded}
 use Rattle.st_trace.specs.declared.entry.Way.TheVariants.{Held}
 use Rattle.st_law.specs.declared.input.Input.{Input}
 use Rattle.st_law.specs.Entries.{AnswersTo, Claims, Closes, GivesFault, GivesHead, GivesHeadIn, GivesLookups, GivesTurn, GivesWords, IsRenewedHead, Posts, Renews, RenewsTo, new_numbers, numbers_so_far}
-use Rattle.st_law.specs.Messages.{Head, head_after_change, head_at, is_answered_at, is_claimed_at, is_closed_at, is_renewed_by, lookups_at, fault_at, posted_after_change, posted_at, renewed_head, turn_at, unless_same, words_at}
+use Rattle.st_law.specs.Messages.{Head, head_after_change, head_after_changes, head_at, is_answered_at, is_claimed_at, is_closed_at, is_renewed_by, lookups_at, fault_at, posted_after_change, posted_at, renewed_head, turn_at, unless_same, words_at}
 use Rattle.st_law.specs.Processes.{process_at}
-use Rattle.st_law.specs.Splits.{IsLastGiven, IsLastOf, IsTrueAfter, SomeIn, GivesSome}
-use Rattle.st_law.specs.Threads.{History, owner_at}
+use Rattle.st_law.specs.Splits.{IsLastGiven, IsLastOf, IsTrueAfter, LastGives, SomeIn, GivesSome}
+use Rattle.st_law.specs.Threads.{History}
+use Rattle.st_law.specs.Versions.{version_at}
 use Rattle.st_law.proofs.Splitting.{when_same, when_other, same_part, other_part, either_true, or_left_true, or_right_true, same_by, none_in, fold_kept, fold_last, flag_up, flag_stays, flag_only, last_given, last_of, true_after}
 
 -- ---- claims
@@ -97,12 +97,14 @@ closed_by q o b changes (inr x) = or_right_true (is_number q o) (fold (is_renewe
 pub closed_up : (q : ℕ) (e : Entry) (h : History) → Closes q e h → is_closed_at (e ∷ h) q ≡ true
 closed_up q (Used t seq call regs args ids result changes) h x = closed_by q seq (is_closed_at h q) changes x
 closed_up q (Denied t seq errno cause) h x = or_left_true (is_number q seq) (is_closed_at h q) (number_is q seq x)
+closed_up q (Reloaded t n done changes) h x = renewals_up q (is_closed_at h q) changes x
 closed_up q _ h x = absurd x
 
 pub closed_stays : (q : ℕ) (e : Entry) (h : History) → is_closed_at h q ≡ true → is_closed_at (e ∷ h) q ≡ true
 closed_stays q (Used t seq call regs args ids result changes) h x =
     or_right_true (is_number q seq) (fold (is_renewed_by q) (is_closed_at h q) changes) (renewals_stay q (is_closed_at h q) changes x)
 closed_stays q (Denied t seq errno cause) h x = or_right_true (is_number q seq) (is_closed_at h q) x
+closed_stays q (Reloaded t n done changes) h x = renewals_stay q (is_closed_at h q) changes x
 closed_stays q _ h x = x
 
 used_only : (q : ℕ) (o : Option ℕ) (b : Bool) (changes : List Change) → (is_number q o ≡ true) ⊎ (fold (is_renewed_by q) b changes ≡ true) → ((o ≡ Some q) ⊎ SomeIn (Renews q) changes) ⊎ (b ≡ true)
@@ -121,6 +123,7 @@ pub closed_only : (q : ℕ) (e : Entry) (h : History) → is_closed_at (e ∷ h)
 closed_only q (Used t seq call regs args ids result changes) h x =
     used_only q seq (is_closed_at h q) changes (either_true (is_number q seq) (fold (is_renewed_by q) (is_closed_at h q) changes) x)
 closed_only q (Denied t seq errno cause) h x = denied_only q seq (is_closed_at h q) (either_true (is_number q seq) (is_closed_at h q) x)
+closed_only q (Reloaded t n done changes) h x = renewals_only q (is_closed_at h q) changes x
 closed_only q _ h x = inr x
 
 pub closed : (q : ℕ) → IsTrueAfter (λ h. is_closed_at h q) (Closes q)
@@ -188,32 +191,43 @@ turn w = last_of (λ h. turn_at h w) None (GivesTurn w) refl (turn_step w) (turn
 -- ---- heads
 
 module _ (i : Input) (q : ℕ) where
-  head_change_step : (h : History) (process : Process) (o : Option Head) (c : Change) → (RenewsTo q c → ⊥) → head_after_change (head_at i h) process q o c ≡ o
-  head_change_step h process o (Renewed old new) none = when_other new q (option_map (renewed_head process) (head_at i h old)) o none
-  head_change_step h process o _ none = refl
+  head_change_step : (h : History) (renewed : Head → Head) (o : Option Head) (c : Change) → (RenewsTo q c → ⊥) → head_after_change (head_at i h) renewed q o c ≡ o
+  head_change_step h renewed o (Renewed old new) none = when_other new q (option_map renewed (head_at i h old)) o none
+  head_change_step h renewed o _ none = refl
 
-  renewed_is : (process : Process) (o v : Option Head) → IsRenewedHead process o v → option_map (renewed_head process) o ≡ v
-  renewed_is process None v x = sym x
-  renewed_is process (Some head) v x = sym x
+  -- what a renewal makes of a head, by the entries up to that of the renewal
+  abbrev renewed_after : History → Head → Head
+  renewed_after after = renewed_head (process_at i after) (version_at i after)
 
-  head_change_gives : (h : History) (process : Process) (o : Option Head) (before : List Change) (c : Change) (v : Option Head) → GivesHeadIn i q h process before c v → head_after_change (head_at i h) process q o c ≡ v
-  head_change_gives h process o before (Renewed old new) v x =
-      when_same new q (option_map (renewed_head process) (head_at i h old)) o x.0 ∙ renewed_is process (head_at i h old) v x.1
-  head_change_gives h process o before _ v x = absurd x
+  renewed_is : (after : History) (o v : Option Head) → IsRenewedHead i after o v → option_map (renewed_after after) o ≡ v
+  renewed_is after None v x = sym x
+  renewed_is after (Some head) v x = sym x
+
+  head_change_gives : (h after : History) (o : Option Head) (before : List Change) (c : Change) (v : Option Head) → GivesHeadIn i q h after before c v → head_after_change (head_at i h) (renewed_after after) q o c ≡ v
+  head_change_gives h after o before (Renewed old new) v x =
+      when_same new q (option_map (renewed_after after) (head_at i h old)) o x.0 ∙ renewed_is after (head_at i h old) v x.1
+  head_change_gives h after o before _ v x = absurd x
+
+  -- changes that don't renew a number as this one leave its head, and the last that does gives it
+  changes_step : (h after : History) (changes : List Change) → (SomeIn (RenewsTo q) changes → ⊥) → head_after_changes (head_at i h) (renewed_after after) q changes ≡ head_at i h q
+  changes_step h after changes none =
+      fold_kept (λ o. o) (head_after_change (head_at i h) (renewed_after after) q) (RenewsTo q) (head_change_step h (renewed_after after)) (head_at i h q) changes (none_in (RenewsTo q) changes none)
+
+  changes_give : (h after : History) (changes : List Change) (v : Option Head) → LastGives (RenewsTo q) (GivesHeadIn i q h after) changes v → head_after_changes (head_at i h) (renewed_after after) q changes ≡ v
+  changes_give h after changes v x =
+      fold_last (λ o. o) (head_after_change (head_at i h) (renewed_after after) q) (RenewsTo q) (head_change_step h (renewed_after after)) (GivesHeadIn i q h after) (head_at i h q)
+      (λ before c w y. head_change_gives h after (fold (head_after_change (head_at i h) (renewed_after after) q) (head_at i h q) before) before c w y) changes v x
 
   pub head_step : (e : Entry) (h : History) → (Posts q e h → ⊥) → head_at i (e ∷ h) q ≡ head_at i h q
   head_step (Entered t call regs (Held p)) h none = when_other p q _ (head_at i h q) none
-  head_step (Used u seq call regs args ids result changes) h none =
-      let process = process_at i (Used u seq call regs args ids result changes ∷ h) (owner_at i h u) in
-      fold_kept (λ o. o) (head_after_change (head_at i h) process q) (RenewsTo q) (head_change_step h process) (head_at i h q) changes (none_in (RenewsTo q) changes none)
+  head_step (Used u seq call regs args ids result changes) h none = changes_step h (Used u seq call regs args ids result changes ∷ h) changes none
+  head_step (Reloaded u n done changes) h none = changes_step h (Reloaded u n done changes ∷ h) changes none
   head_step _ h none = refl
 
   head_give : (e : Entry) (h : History) (v : Option Head) → GivesHead i q e h v → head_at i (e ∷ h) q ≡ v
   head_give (Entered t call regs (Held p)) h v x = when_same p q _ (head_at i h q) x.0 ∙ sym x.1
-  head_give (Used u seq call regs args ids result changes) h v x =
-      let process = process_at i (Used u seq call regs args ids result changes ∷ h) (owner_at i h u) in
-      fold_last (λ o. o) (head_after_change (head_at i h) process q) (RenewsTo q) (head_change_step h process) (GivesHeadIn i q h process) (head_at i h q)
-      (λ before c w y. head_change_gives h process (fold (head_after_change (head_at i h) process q) (head_at i h q) before) before c w y) changes v x
+  head_give (Used u seq call regs args ids result changes) h v x = changes_give h (Used u seq call regs args ids result changes ∷ h) changes v x
+  head_give (Reloaded u n done changes) h v x = changes_give h (Reloaded u n done changes ∷ h) changes v x
   head_give _ h v x = absurd x
 
   pub head : IsLastGiven (λ h. head_at i h q) None (Posts q) (GivesHead i q)
@@ -230,5 +244,7 @@ pub posted : (h : History) → posted_at h ≡ length (numbers_so_far h)
 posted [] = refl
 posted (Entered t call regs (Held q) ∷ h) = let before = posted h in omega (arith, before, length-append (numbers_so_far h) (q ∷ []))
 posted (Used t seq call regs args ids result changes ∷ h) =
+    let before = posted h in omega (arith, before, posted_changes (posted_at h) changes, length-append (numbers_so_far h) (new_numbers changes))
+posted (Reloaded t n done changes ∷ h) =
     let before = posted h in omega (arith, before, posted_changes (posted_at h) changes, length-append (numbers_so_far h) (new_numbers changes))
 posted (_ ∷ h) = posted h

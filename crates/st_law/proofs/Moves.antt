@@ -11,17 +11,19 @@ use Rattle.st_trace.specs.declared.entry.CallResult.{CallResult}
 use Rattle.st_trace.specs.declared.entry.Change.{Change}
 use Rattle.st_trace.specs.declared.entry.Change.TheVariants.{Made, Linked, Removed, Renamed, Written, Cut, Moded, Owned, Put, Forked, Execed, SetIds, Cwd, Dying, Renewed, Policy}
 use Rattle.st_trace.specs.declared.entry.Entry.{Entry}
-use Rattle.st_trace.specs.declared.entry.Entry.TheVariants.{Stored, Entered, Claimed, Copied, Looked, Faulted, Answered, Used, Denied, Ended, Replied, Learned}
+use Rattle.st_trace.specs.declared.entry.Entry.TheVariants.{Stored, Entered, Claimed, Copied, Looked, Faulted, Answered, Used, Denied, Ended, Replied, Learned, Reloaded}
 use Rattle.st_trace.specs.declared.entry.Way.{Way}
 use Rattle.st_trace.specs.declared.entry.Way.TheVariants.{Fast, Barred, Held, Untraced}
 use Rattle.st_law.specs.declared.input.Input.{Input}
 use Rattle.st_law.specs.Lawful.{IsLawful, IsUsed, IsEntered}
 use Rattle.st_law.specs.Machine.{state_after}
 use Rattle.st_law.specs.Messages.{Head, new_head, is_renewed_by}
-use Rattle.st_law.specs.State.{State, process_in, is_live_by, is_live}
+use Rattle.st_law.specs.State.{State, process_in, is_live_by, is_live, is_held_under, held_from, reload_changes, thread_count}
 use Rattle.st_law.proofs.Invariant.{Invariant}
 use Rattle.st_law.proofs.Preserved.{UsedKeeps, used_keeps}
 use Rattle.st_law.proofs.QuietChanges.{undying_before}
+use Rattle.st_law.proofs.ReloadKept.{done_stays}
+use Rattle.st_law.proofs.Renewals.{posted_low}
 
 -- how one state follows from another
 pub record Moves (st new : State) : Type 0 where
@@ -52,7 +54,8 @@ fold_renewed : (q : ℕ) (changes : List Change) → fold (is_renewed_by q) true
 fold_renewed q [] = refl
 fold_renewed q (c ∷ changes) = ap (λ b. fold (is_renewed_by q) b changes) (renewed_more q c) ∙ fold_renewed q changes
 
-open_if : (q : ℕ) (before : Bool) (changes : List Change) → fold (is_renewed_by q) before changes ≡ false → before ≡ false
+-- a number that is open after changes was open before them
+pub open_if : (q : ℕ) (before : Bool) (changes : List Change) → fold (is_renewed_by q) before changes ≡ false → before ≡ false
 open_if q true changes e = let closed : fold (is_renewed_by q) true changes ≡ true = fold_renewed q changes in cc
 open_if q false changes e = refl
 
@@ -88,15 +91,25 @@ module _ (i : Input) (st : State) (inv : Invariant i st) where
   entered_moves u call regs (Barred n) x = record { posted = omega arith; heads = λ q low. refl; open_before = λ q e. e; undying_before = λ t e. e }
   entered_moves u call regs (Held p) x = record {
     posted = omega arith;
-    heads = λ q low. let drawn : p ≡ suc st.posted = x.way_is.1 in ap (λ b. cond b (Some (new_head i u (st.threads u).owner (process_in st u) call regs)) (st.messages q).head) (ne_eqb p q (λ same. omega (arith, same, drawn, low)));
+    heads = λ q low. let drawn : p ≡ suc st.posted = x.way_is.1 in ap (λ b. cond b (Some (new_head i u (st.threads u).owner (process_in st u) (st.versions (process_in st u).policy) call regs)) (st.messages q).head) (ne_eqb p q (λ same. omega (arith, same, drawn, low)));
     open_before = λ q e. e;
     undying_before = λ t e. e;
   }
+
+  reloaded_moves : (u n : ℕ) (done : Bool) → Moves st (state_after i st (Reloaded u n done (reload_changes i st n done)))
+  reloaded_moves u n true = record {
+    posted = posted_low (is_held_under i st n) st.posted (suc st.posted) (held_from st 1 (thread_count i));
+    heads = done_stays i st inv u n;
+    open_before = λ q e. open_if q (st.messages q).closed (reload_changes i st n true) e;
+    undying_before = λ t e. undying_before t (st.threads t).owner u (st.threads u).owner (st.threads t).dying (reload_changes i st n true) e;
+  }
+  reloaded_moves u n false = record { posted = omega arith; heads = λ q low. refl; open_before = λ q e. e; undying_before = λ t e. e }
 
   -- how a lawful entry moves the state
   pub moves : (e : Entry) → IsLawful i st e → Moves st (state_after i st e)
   moves (Entered u call regs way) x = entered_moves u call regs way x
   moves (Used u seq call regs args ids result changes) x = used_moves u seq call regs args ids result changes x
+  moves (Reloaded u n done changes) x = subst (λ cs. Moves st (state_after i st (Reloaded u n done cs))) (sym x.changes_are) (reloaded_moves u n done)
   moves (Denied u seq errno cause) x = record { posted = omega arith; heads = λ q low. refl; open_before = λ q e. (or_parts (is_number q seq) (st.messages q).closed e).1; undying_before = λ t e. e }
   moves (Stored u place word) x = record { posted = omega arith; heads = λ p low. refl; open_before = λ p e. e; undying_before = λ t e. e }
   moves (Claimed w q) x = record { posted = omega arith; heads = λ p low. refl; open_before = λ p e. e; undying_before = λ t e. e }

@@ -7,7 +7,9 @@ use Rattle.st_calls.specs.declared.judged.Snapshot.{Snapshot}
 use Rattle.st_model.specs.Tree.{is_number}
 use Rattle.st_trace.specs.declared.start.Instr.{Instr}
 use Rattle.st_law.specs.declared.input.Input.{Input}
-use Rattle.st_law.specs.Schedules.{is_set_id_instruction}
+use Rattle.st_law.specs.declared.input.Mode.{Mode}
+use Rattle.st_law.specs.declared.input.Mode.TheVariants.{Enforce, Learn, AskText}
+use Rattle.st_law.specs.Schedules.{is_renewing_instruction}
 use Rattle.st_calls.specs.Call.{sets_ids}
 use Rattle.st_law.specs.Sessions.{least_from}
 use Rattle.st_law.specs.State.{ThreadState, Message, State, thread_count, snapshot_in, decision_in, is_undecided}
@@ -16,9 +18,9 @@ use Rattle.st_law.proofs.Sums.{total}
 
 -- ---- threads
 
--- the cost of an instruction, with the message that its call may post; a call that sets ids renews up to 64 numbers
+-- the cost of an instruction, with the message that its call may post; a call that sets ids and a reload renew up to 64 numbers
 abbrev pub weight : Instr → ℕ
-weight instruction = cond (is_set_id_instruction instruction) 650000 10000
+weight instruction = cond (is_renewing_instruction instruction) 650000 10000
 
 abbrev pub cost : List Instr → ℕ
 cost [] = 0
@@ -51,10 +53,16 @@ taken message = length (message.words 0) + length (message.words 1) + length (me
 abbrev pub is_turn : Input → State → ℕ → Bool
 is_turn i st q = is_some (least_from (λ w. is_number q (st.turns w)) 1 i.options.workers)
 
--- 1 if no filter decides on these copies or there are none, otherwise 0
+-- 1 if the operator learns and copies are undecided, otherwise 0
+abbrev pub learnable : Mode → Bool → ℕ
+learnable Enforce undecided = 0
+learnable Learn undecided = step_unless (not undecided)
+learnable AskText undecided = 0
+
+-- 1 if these copies may be learnt, since no filter decides on them, or if there are none, otherwise 0
 abbrev pub may_be_learnt : Input → State → Option Snapshot → ℕ
 may_be_learnt i st None = 1
-may_be_learnt i st (Some s) = step_unless (not (is_undecided (decision_in i st s)))
+may_be_learnt i st (Some s) = learnable i.options.mode (is_undecided (decision_in i st s))
 
 -- a claim, the words and looks of two parts, an answer, and the step by which it is learnt: at most 9,605 steps
 abbrev pub remaining : Bool → Bool → ℕ → ℕ → ℕ
@@ -85,12 +93,15 @@ steps_left i st = threads_cost i st + messages_cost i st + replies_cost i st
 
 -- ---- bounds
 
+pub learnable_most : (mode : Mode) (undecided : Bool) → learnable mode undecided ≤ 1
+learnable_most Enforce undecided = omega arith
+learnable_most Learn true = omega arith
+learnable_most Learn false = omega arith
+learnable_most AskText undecided = omega arith
+
 pub learnt_most : (i : Input) (st : State) (o : Option Snapshot) → may_be_learnt i st o ≤ 1
 learnt_most i st None = omega arith
-learnt_most i st (Some s) = by (is_undecided (decision_in i st s)) where
-  by : (b : Bool) → step_unless (not b) ≤ 1
-  by true = omega arith
-  by false = omega arith
+learnt_most i st (Some s) = learnable_most i.options.mode (is_undecided (decision_in i st s))
 
 remaining_most : (claimed turn : Bool) (copied learnt : ℕ) → learnt ≤ 1 → remaining claimed turn copied learnt ≤ 9605
 remaining_most false turn copied learnt low = omega arith

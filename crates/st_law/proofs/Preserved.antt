@@ -13,21 +13,21 @@ use Rattle.st_trace.specs.declared.entry.CallResult.{CallResult}
 use Rattle.st_trace.specs.declared.entry.Cause.{Cause}
 use Rattle.st_trace.specs.declared.entry.Change.{Change}
 use Rattle.st_trace.specs.declared.entry.Entry.{Entry}
-use Rattle.st_trace.specs.declared.entry.Entry.TheVariants.{Stored, Entered, Claimed, Copied, Looked, Faulted, Answered, Used, Denied, Ended, Replied, Learned}
+use Rattle.st_trace.specs.declared.entry.Entry.TheVariants.{Stored, Entered, Claimed, Copied, Looked, Faulted, Answered, Used, Denied, Ended, Replied, Learned, Reloaded}
 use Rattle.st_trace.specs.declared.entry.Way.{Way}
 use Rattle.st_trace.specs.declared.entry.Way.TheVariants.{Fast, Barred, Held, Untraced}
 use Rattle.st_trace.specs.declared.start.Instr.{Instr}
-use Rattle.st_trace.specs.declared.start.Instr.TheVariants.{Store, Call, Fork}
+use Rattle.st_trace.specs.declared.start.Instr.TheVariants.{Store, Call, Fork, Reload}
 use Rattle.st_law.specs.declared.input.Input.{Input}
 use Rattle.st_law.specs.Inputs.{IsThread, IsInstruction}
 use Rattle.st_law.specs.Lawful.{IsRunning, IsPending, IsHeld, IsEntered, IsUsed, IsDenied, IsLawful}
 use Rattle.st_law.specs.Machine.{state_after}
 use Rattle.st_law.specs.Messages.{new_head}
-use Rattle.st_law.specs.State.{State, process_in, system_of, request_of, child_of_pending}
+use Rattle.st_law.specs.State.{State, process_in, answer_in, reload_changes, system_of, request_of, child_of_pending}
 use Rattle.st_law.specs.Threads.{child_of_next}
-use Rattle.st_law.proofs.Carried.{RefusesStill, IsKept, open_kept, fine_by, if_pending}
-use Rattle.st_law.proofs.Growth.{refuses_learned, refuses_replied}
+use Rattle.st_law.proofs.Carried.{IsKept, open_kept, fine_by, if_pending}
 use Rattle.st_law.proofs.Invariant.{IsOpen, IsFine, Fine, IfPending, HasChild, Invariant}
+use Rattle.st_law.proofs.ReloadKept.{done_kept, refused_kept}
 use Rattle.st_law.proofs.RenewalKept.{renewal_keeps}
 use Rattle.st_law.proofs.Shapes.{Shape, quiet, forked, execed, renewed}
 use Rattle.st_law.proofs.ShapesKept.{quiet_keeps, fork_keeps, exec_keeps}
@@ -39,7 +39,7 @@ module _ (i : Input) (st : State) (inv : Invariant i st) where
 
   held_open : (u q : ℕ) (call : SysCall) (regs : List ℕ) → IsRunning st u → IsHeld st u q call regs → IsOpenSeq st u (Some q)
   held_open u q call regs running held =
-      let fine : Fine i st u (record { call = call; regs = regs; way = Held held.first; child = held.entered.0 }) = subst (IfPending (Fine i st u)) held.entered.1 (inv.fine u) in
+      let fine : Fine st u (record { call = call; regs = regs; way = Held held.first; child = held.entered.0 }) = subst (IfPending (Fine st u)) held.entered.1 (inv.fine u) in
       (call, regs, fine.fine running.undying, held.number)
 
   -- ---- a call that is made
@@ -83,17 +83,19 @@ module _ (i : Input) (st : State) (inv : Invariant i st) where
     denied_open t c r differ x = open_kept st denied t c r (omega arith) (record {
       owner = refl;
       ids = refl;
+      policy = refl;
       number = refl;
       head = refl;
       closed = λ unclosed. (λ k. not_closed_by st u t seq open_seq differ c r x k || (st.messages (st.threads t).number).closed) ∙ unclosed;
+      version = λ head posted. refl;
     }) x
 
-    denied_fine : (t : ℕ) (b : Bool) → (u == t) ≡ b → IfPending (Fine i denied t) (cond b None (st.threads t).pending)
+    denied_fine : (t : ℕ) (b : Bool) → (u == t) ≡ b → IfPending (Fine denied t) (cond b None (st.threads t).pending)
     denied_fine t true e = tt
-    denied_fine t false e = if_pending (Fine i st t) (Fine i denied t) (st.threads t).pending
+    denied_fine t false e = if_pending (Fine st t) (Fine denied t) (st.threads t).pending
         (λ entered is x. record {
           started = x.started;
-          fine = λ undying. fine_by i st denied t entered.call entered.regs entered.way (λ policy rule no f. f) refl (λ first way. denied_open t entered.call entered.regs (λ same. eqb-false u t e (sym same))) (x.fine undying);
+          fine = λ undying. fine_by st denied t entered.call entered.regs entered.way refl (λ first way. denied_open t entered.call entered.regs (λ same. eqb-false u t e (sym same))) (x.fine undying);
         }) (inv.fine t)
 
     denied_child : (t : ℕ) (b : Bool) → IfPending (HasChild i) (cond b None (st.threads t).pending)
@@ -133,6 +135,7 @@ module _ (i : Input) (st : State) (inv : Invariant i st) where
   child_of (Store place word) later call regs makes x is = absurd makes
   child_of (Call own own_regs) later call regs makes x is = absurd (x (sym makes.0 ∙ is))
   child_of (Fork child) later call regs makes x is = x
+  child_of (Reload n) later call regs makes x is = absurd makes
 
   module _ (u : ℕ) (call : SysCall) (regs : List ℕ) (way : Way) (x : IsEntered i st u call regs way) where
     abbrev entered_state : State
@@ -151,11 +154,11 @@ module _ (i : Input) (st : State) (inv : Invariant i st) where
   -- ---- calls that are entered
 
   -- another thread's pending call, by what the entry keeps of numbers and heads
-  entered_other : (u : ℕ) (call : SysCall) (regs : List ℕ) (way : Way) (t : ℕ) → st.posted ≤ (state_after i st (Entered u call regs way)).posted → IsKept st (state_after i st (Entered u call regs way)) t → IfPending (Fine i (state_after i st (Entered u call regs way)) t) (st.threads t).pending
-  entered_other u call regs way t more kept = if_pending (Fine i st t) (Fine i (state_after i st (Entered u call regs way)) t) (st.threads t).pending
+  entered_other : (u : ℕ) (call : SysCall) (regs : List ℕ) (way : Way) (t : ℕ) → (u == t) ≡ false → st.posted ≤ (state_after i st (Entered u call regs way)).posted → IsKept st (state_after i st (Entered u call regs way)) t → IfPending (Fine (state_after i st (Entered u call regs way)) t) (st.threads t).pending
+  entered_other u call regs way t differ more kept = if_pending (Fine st t) (Fine (state_after i st (Entered u call regs way)) t) (st.threads t).pending
       (λ entered is x. record {
         started = x.started;
-        fine = λ undying. fine_by i st (state_after i st (Entered u call regs way)) t entered.call entered.regs entered.way (λ policy rule no f. f) refl
+        fine = λ undying. fine_by st (state_after i st (Entered u call regs way)) t entered.call entered.regs entered.way (ap (λ b. cond b (answer_in i st (process_in st t) call regs) (st.threads t).answer) differ)
             (λ first held. open_kept st (state_after i st (Entered u call regs way)) t entered.call entered.regs more kept) (x.fine undying);
       }) (inv.fine t)
 
@@ -164,7 +167,7 @@ module _ (i : Input) (st : State) (inv : Invariant i st) where
     abbrev entry : Entry
     entry = Entered u call regs way
 
-    entered_by : ((state_after i st entry).posted ≡ st.posted) → ((q : ℕ) → ((state_after i st entry).messages q).head ≡ (st.messages q).head) → ((t : ℕ) → ((state_after i st entry).threads t).number ≡ (st.threads t).number) → ((t : ℕ) → t ≡ u → IsFine i (state_after i st entry) t call regs way) → Invariant i (state_after i st entry)
+    entered_by : ((state_after i st entry).posted ≡ st.posted) → ((q : ℕ) → ((state_after i st entry).messages q).head ≡ (st.messages q).head) → ((t : ℕ) → ((state_after i st entry).threads t).number ≡ (st.threads t).number) → ((t : ℕ) → t ≡ u → IsFine (state_after i st entry) t call regs way) → Invariant i (state_after i st entry)
     entered_by posted heads numbers own = record {
       started = inv.started;
       bodies = λ t. left_at u t (u == t);
@@ -174,9 +177,9 @@ module _ (i : Input) (st : State) (inv : Invariant i st) where
       closed = λ q high. inv.closed q (omega (arith, posted, high));
       fine = λ t. at t (u == t) refl;
     } where
-      at : (t : ℕ) (b : Bool) → (u == t) ≡ b → IfPending (Fine i (state_after i st entry) t) (cond b (Some (record { call = call; regs = regs; way = way; child = child_of_next (st.threads t).left })) (st.threads t).pending)
+      at : (t : ℕ) (b : Bool) → (u == t) ≡ b → IfPending (Fine (state_after i st entry) t) (cond b (Some (record { call = call; regs = regs; way = way; child = child_of_next (st.threads t).left })) (st.threads t).pending)
       at t true e = let same : u ≡ t = eqb-true u t e in record { started = subst (λ n. (st.threads n).owner ≢ 0) same x.running.started; fine = λ undying. own t (sym same) }
-      at t false e = entered_other u call regs way t (omega (arith, posted)) (record { owner = refl; ids = refl; number = numbers t; head = heads (st.threads t).number; closed = λ unclosed. unclosed })
+      at t false e = entered_other u call regs way t e (omega (arith, posted)) (record { owner = refl; ids = refl; policy = refl; number = numbers t; head = heads (st.threads t).number; closed = λ unclosed. unclosed; version = λ head posted. refl })
 
   -- a call that is held
   module _ (u q : ℕ) (call : SysCall) (regs : List ℕ) (x : IsEntered i st u call regs (Held q)) (drawn : q ≡ suc st.posted) where
@@ -188,9 +191,9 @@ module _ (i : Input) (st : State) (inv : Invariant i st) where
 
     own_open : IsOpen held_state u call regs
     own_open = record {
-      head = new_head i u (st.threads u).owner (process_in st u) call regs;
-      posted = ap (λ n. (held_state.messages n).head) own_number ∙ ap (λ b. cond b (Some (new_head i u (st.threads u).owner (process_in st u) call regs)) (st.messages q).head) (eq-eqb q q refl);
-      own = record { tid_is = refl; pid_is = refl; ids_are = refl; call_is = refl; regs_are = refl };
+      head = new_head i u (st.threads u).owner (process_in st u) (st.versions (process_in st u).policy) call regs;
+      posted = ap (λ n. (held_state.messages n).head) own_number ∙ ap (λ b. cond b (Some (new_head i u (st.threads u).owner (process_in st u) (st.versions (process_in st u).policy) call regs)) (st.messages q).head) (eq-eqb q q refl);
+      own = record { tid_is = refl; pid_is = refl; ids_are = refl; policy_is = refl; version_is = refl; call_is = refl; regs_are = refl };
       unclosed = ap (λ n. (held_state.messages n).closed) own_number ∙ inv.closed q (omega (arith, drawn));
       low = let same = own_number in omega (arith, same, drawn);
     }
@@ -199,20 +202,22 @@ module _ (i : Input) (st : State) (inv : Invariant i st) where
     other_kept t differ low = record {
       owner = refl;
       ids = refl;
+      policy = refl;
       number = ap (λ b. cond b q (st.threads t).number) differ;
-      head = ap (λ b. cond b (Some (new_head i u (st.threads u).owner (process_in st u) call regs)) (st.messages (st.threads t).number).head) (ne_eqb q (st.threads t).number (λ same. omega (arith, same, drawn, low)));
+      head = ap (λ b. cond b (Some (new_head i u (st.threads u).owner (process_in st u) (st.versions (process_in st u).policy) call regs)) (st.messages (st.threads t).number).head) (ne_eqb q (st.threads t).number (λ same. omega (arith, same, drawn, low)));
       closed = λ unclosed. unclosed;
+      version = λ head posted. refl;
     }
 
     other_open : (t : ℕ) → (u == t) ≡ false → (c : SysCall) (r : List ℕ) → IsOpen st t c r → IsOpen held_state t c r
     other_open t differ c r y = open_kept st held_state t c r (omega arith) (other_kept t differ y.low) y
 
-    held_fine : (t : ℕ) (b : Bool) → (u == t) ≡ b → IfPending (Fine i held_state t) (cond b (Some (record { call = call; regs = regs; way = Held q; child = child_of_next (st.threads t).left })) (st.threads t).pending)
-    held_fine t true e = subst (λ n. Fine i held_state n (record { call = call; regs = regs; way = Held q; child = child_of_next (st.threads n).left })) (eqb-true u t e) (record { started = x.running.started; fine = λ undying. own_open })
-    held_fine t false e = if_pending (Fine i st t) (Fine i held_state t) (st.threads t).pending
+    held_fine : (t : ℕ) (b : Bool) → (u == t) ≡ b → IfPending (Fine held_state t) (cond b (Some (record { call = call; regs = regs; way = Held q; child = child_of_next (st.threads t).left })) (st.threads t).pending)
+    held_fine t true e = subst (λ n. Fine held_state n (record { call = call; regs = regs; way = Held q; child = child_of_next (st.threads n).left })) (eqb-true u t e) (record { started = x.running.started; fine = λ undying. own_open })
+    held_fine t false e = if_pending (Fine st t) (Fine held_state t) (st.threads t).pending
         (λ entered is y. record {
           started = y.started;
-          fine = λ undying. fine_by i st held_state t entered.call entered.regs entered.way (λ policy rule no f. f) refl (λ first held. other_open t e entered.call entered.regs) (y.fine undying);
+          fine = λ undying. fine_by st held_state t entered.call entered.regs entered.way (ap (λ b. cond b (answer_in i st (process_in st t) call regs) (st.threads t).answer) e) (λ first held. other_open t e entered.call entered.regs) (y.fine undying);
         }) (inv.fine t)
 
     after_held : Invariant i held_state
@@ -221,7 +226,7 @@ module _ (i : Input) (st : State) (inv : Invariant i st) where
       bodies = λ t. left_at u t (u == t);
       children = λ t. entered_child u call regs (Held q) x t (u == t) refl;
       owners = inv.owners;
-      heads = λ p high. ap (λ b. cond b (Some (new_head i u (st.threads u).owner (process_in st u) call regs)) (st.messages p).head) (ne_eqb q p (λ same. omega (arith, same, drawn, high))) ∙ inv.heads p (omega (arith, high));
+      heads = λ p high. ap (λ b. cond b (Some (new_head i u (st.threads u).owner (process_in st u) (st.versions (process_in st u).policy) call regs)) (st.messages p).head) (ne_eqb q p (λ same. omega (arith, same, drawn, high))) ∙ inv.heads p (omega (arith, high));
       closed = λ p high. inv.closed p (omega (arith, high));
       fine = λ t. held_fine t (u == t) refl;
     }
@@ -230,30 +235,37 @@ module _ (i : Input) (st : State) (inv : Invariant i st) where
   after_entered u call regs Fast x = entered_by u call regs Fast x refl (λ q. refl) (λ t. refl) (λ t same. tt)
   after_entered u call regs Untraced x = entered_by u call regs Untraced x refl (λ q. refl) (λ t. refl) (λ t same. tt)
   after_entered u call regs (Barred n) x = entered_by u call regs (Barred n) x refl (λ q. refl) (λ t. refl)
-      (λ t same. subst (λ v. IsFine i (state_after i st (Entered u call regs (Barred n))) v call regs (Barred n)) (sym same)
-      (record { first = x.way_is.1; errno = x.way_is.2; refused = x.way_is.3 }))
+      (λ t same. subst (λ v. IsFine (state_after i st (Entered u call regs (Barred n))) v call regs (Barred n)) (sym same)
+      (record { first = x.way_is.1; errno = x.way_is.2; refused = ap (λ b. cond b (answer_in i st (process_in st u) call regs) (st.threads u).answer) (eq-eqb u u refl) ∙ x.way_is.3 }))
   after_entered u call regs (Held q) x = after_held u q call regs x x.way_is.1
 
-  -- ---- entries that leave the state's parts, and those by which the session grows
+  -- ---- entries that leave the state's parts
 
-  grown_fine : (e : Entry) (t : ℕ) → RefusesStill i st (state_after i st e) → (process_in (state_after i st e) t).policy ≡ (process_in st t).policy → st.posted ≤ (state_after i st e).posted → IsKept st (state_after i st e) t → ((state_after i st e).threads t).dying ≡ (st.threads t).dying → IfPending (Fine i (state_after i st e) t) (st.threads t).pending
-  grown_fine e t still policy more kept dying = if_pending (Fine i st t) (Fine i (state_after i st e) t) (st.threads t).pending
+  kept_fine : (e : Entry) (t : ℕ) → ((state_after i st e).threads t).answer ≡ (st.threads t).answer → st.posted ≤ (state_after i st e).posted → IsKept st (state_after i st e) t → ((state_after i st e).threads t).dying ≡ (st.threads t).dying → IfPending (Fine (state_after i st e) t) (st.threads t).pending
+  kept_fine e t answer more kept dying = if_pending (Fine st t) (Fine (state_after i st e) t) (st.threads t).pending
       (λ entered is x. record {
         started = λ none. x.started (sym kept.owner ∙ none);
-        fine = λ undying. fine_by i st (state_after i st e) t entered.call entered.regs entered.way still policy (λ first held. open_kept st (state_after i st e) t entered.call entered.regs more kept) (x.fine (sym dying ∙ undying));
+        fine = λ undying. fine_by st (state_after i st e) t entered.call entered.regs entered.way answer (λ first held. open_kept st (state_after i st e) t entered.call entered.regs more kept) (x.fine (sym dying ∙ undying));
       }) (inv.fine t)
+
+  -- ---- reloads
+
+  reloaded_at : (u n : ℕ) (b : Bool) → Invariant i (state_after i st (Reloaded u n b (reload_changes i st n b)))
+  reloaded_at u n true = done_kept i st inv u n (λ t. left_at u t (u == t))
+  reloaded_at u n false = refused_kept i st inv u n (λ t. left_at u t (u == t))
 
   -- the invariant of the state is kept by each lawful entry
   pub following : (e : Entry) → IsLawful i st e → Invariant i (state_after i st e)
-  following (Stored u place word) x = record { started = inv.started; bodies = λ t. left_at u t (u == t); children = inv.children; owners = inv.owners; heads = inv.heads; closed = inv.closed; fine = λ t. grown_fine (Stored u place word) t (λ policy rule no f. f) refl (omega arith) (record { owner = refl; ids = refl; number = refl; head = refl; closed = λ unclosed. unclosed }) refl }
+  following (Stored u place word) x = record { started = inv.started; bodies = λ t. left_at u t (u == t); children = inv.children; owners = inv.owners; heads = inv.heads; closed = inv.closed; fine = λ t. kept_fine (Stored u place word) t refl (omega arith) (record { owner = refl; ids = refl; policy = refl; number = refl; head = refl; closed = λ unclosed. unclosed; version = λ head posted. refl }) refl }
   following (Entered u call regs way) x = after_entered u call regs way x
   following (Used u seq call regs args ids result changes) x = after_used u seq call regs args ids result changes x
   following (Denied u seq errno cause) x = after_denied u seq errno cause x
-  following (Claimed w q) x = record { started = inv.started; bodies = inv.bodies; children = inv.children; owners = inv.owners; heads = inv.heads; closed = inv.closed; fine = λ t. grown_fine (Claimed w q) t (λ policy rule no f. f) refl (omega arith) (record { owner = refl; ids = refl; number = refl; head = refl; closed = λ unclosed. unclosed }) refl }
-  following (Copied q part place word) x = record { started = inv.started; bodies = inv.bodies; children = inv.children; owners = inv.owners; heads = inv.heads; closed = inv.closed; fine = λ t. grown_fine (Copied q part place word) t (λ policy rule no f. f) refl (omega arith) (record { owner = refl; ids = refl; number = refl; head = refl; closed = λ unclosed. unclosed }) refl }
-  following (Looked q part name seen) x = record { started = inv.started; bodies = inv.bodies; children = inv.children; owners = inv.owners; heads = inv.heads; closed = inv.closed; fine = λ t. grown_fine (Looked q part name seen) t (λ policy rule no f. f) refl (omega arith) (record { owner = refl; ids = refl; number = refl; head = refl; closed = λ unclosed. unclosed }) refl }
-  following (Faulted q errno) x = record { started = inv.started; bodies = inv.bodies; children = inv.children; owners = inv.owners; heads = inv.heads; closed = inv.closed; fine = λ t. grown_fine (Faulted q errno) t (λ policy rule no f. f) refl (omega arith) (record { owner = refl; ids = refl; number = refl; head = refl; closed = λ unclosed. unclosed }) refl }
-  following (Answered w s v applied) x = record { started = inv.started; bodies = inv.bodies; children = inv.children; owners = inv.owners; heads = inv.heads; closed = inv.closed; fine = λ t. grown_fine (Answered w s v applied) t (λ policy rule no f. f) refl (omega arith) (record { owner = refl; ids = refl; number = refl; head = refl; closed = λ unclosed. unclosed }) refl }
-  following (Ended u) x = record { started = inv.started; bodies = inv.bodies; children = inv.children; owners = inv.owners; heads = inv.heads; closed = inv.closed; fine = λ t. grown_fine (Ended u) t (λ policy rule no f. f) refl (omega arith) (record { owner = refl; ids = refl; number = refl; head = refl; closed = λ unclosed. unclosed }) refl }
-  following (Learned q n) x = record { started = inv.started; bodies = inv.bodies; children = inv.children; owners = inv.owners; heads = inv.heads; closed = inv.closed; fine = λ t. grown_fine (Learned q n) t (refuses_learned i st q n) refl (omega arith) (record { owner = refl; ids = refl; number = refl; head = refl; closed = λ unclosed. unclosed }) refl }
-  following (Replied q reply n) x = record { started = inv.started; bodies = inv.bodies; children = inv.children; owners = inv.owners; heads = inv.heads; closed = inv.closed; fine = λ t. grown_fine (Replied q reply n) t (refuses_replied i st q reply n) refl (omega arith) (record { owner = refl; ids = refl; number = refl; head = refl; closed = λ unclosed. unclosed }) refl }
+  following (Claimed w q) x = record { started = inv.started; bodies = inv.bodies; children = inv.children; owners = inv.owners; heads = inv.heads; closed = inv.closed; fine = λ t. kept_fine (Claimed w q) t refl (omega arith) (record { owner = refl; ids = refl; policy = refl; number = refl; head = refl; closed = λ unclosed. unclosed; version = λ head posted. refl }) refl }
+  following (Copied q part place word) x = record { started = inv.started; bodies = inv.bodies; children = inv.children; owners = inv.owners; heads = inv.heads; closed = inv.closed; fine = λ t. kept_fine (Copied q part place word) t refl (omega arith) (record { owner = refl; ids = refl; policy = refl; number = refl; head = refl; closed = λ unclosed. unclosed; version = λ head posted. refl }) refl }
+  following (Looked q part name seen) x = record { started = inv.started; bodies = inv.bodies; children = inv.children; owners = inv.owners; heads = inv.heads; closed = inv.closed; fine = λ t. kept_fine (Looked q part name seen) t refl (omega arith) (record { owner = refl; ids = refl; policy = refl; number = refl; head = refl; closed = λ unclosed. unclosed; version = λ head posted. refl }) refl }
+  following (Faulted q errno) x = record { started = inv.started; bodies = inv.bodies; children = inv.children; owners = inv.owners; heads = inv.heads; closed = inv.closed; fine = λ t. kept_fine (Faulted q errno) t refl (omega arith) (record { owner = refl; ids = refl; policy = refl; number = refl; head = refl; closed = λ unclosed. unclosed; version = λ head posted. refl }) refl }
+  following (Answered w s v applied) x = record { started = inv.started; bodies = inv.bodies; children = inv.children; owners = inv.owners; heads = inv.heads; closed = inv.closed; fine = λ t. kept_fine (Answered w s v applied) t refl (omega arith) (record { owner = refl; ids = refl; policy = refl; number = refl; head = refl; closed = λ unclosed. unclosed; version = λ head posted. refl }) refl }
+  following (Ended u) x = record { started = inv.started; bodies = inv.bodies; children = inv.children; owners = inv.owners; heads = inv.heads; closed = inv.closed; fine = λ t. kept_fine (Ended u) t refl (omega arith) (record { owner = refl; ids = refl; policy = refl; number = refl; head = refl; closed = λ unclosed. unclosed; version = λ head posted. refl }) refl }
+  following (Learned q n) x = record { started = inv.started; bodies = inv.bodies; children = inv.children; owners = inv.owners; heads = inv.heads; closed = inv.closed; fine = λ t. kept_fine (Learned q n) t refl (omega arith) (record { owner = refl; ids = refl; policy = refl; number = refl; head = refl; closed = λ unclosed. unclosed; version = λ head posted. refl }) refl }
+  following (Replied q reply n) x = record { started = inv.started; bodies = inv.bodies; children = inv.children; owners = inv.owners; heads = inv.heads; closed = inv.closed; fine = λ t. kept_fine (Replied q reply n) t refl (omega arith) (record { owner = refl; ids = refl; policy = refl; number = refl; head = refl; closed = λ unclosed. unclosed; version = λ head posted. refl }) refl }
+  following (Reloaded u n done changes) x = subst (λ cs. Invariant i (state_after i st (Reloaded u n done cs))) (sym x.changes_are) (reloaded_at u n done)

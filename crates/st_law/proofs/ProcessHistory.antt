@@ -7,7 +7,7 @@ use Rattle.st_effects.specs.Changes.{process_after_change, next_process_after_ch
 use Rattle.st_trace.specs.declared.entry.Change.{Change}
 use Rattle.st_trace.specs.declared.entry.Change.TheVariants.{Forked, Execed, SetIds, Cwd, Policy}
 use Rattle.st_trace.specs.declared.entry.Entry.{Entry}
-use Rattle.st_trace.specs.declared.entry.Entry.TheVariants.{Used}
+use Rattle.st_trace.specs.declared.entry.Entry.TheVariants.{Used, Reloaded}
 use Rattle.st_law.specs.declared.input.Input.{Input}
 use Rattle.st_law.specs.Entries.{GivesCwd, GivesIds, GivesNextProcess, GivesNextSpace, GivesPolicy, GivesSpace, GivesTraced}
 use Rattle.st_law.specs.Processes.{first_process, next_process_at, next_space_at, process_at, process_count}
@@ -26,10 +26,15 @@ module _ {V : Type 0} (i : Input) (p : ℕ) (part : Process → V) (Gives : ℕ 
   part_step : (e : Entry) (h : History) → (ChangeTouches Gives e h → ⊥) → part (process_at i (e ∷ h) p) ≡ part (process_at i h p)
   part_step (Used u seq call regs args ids result changes) h none =
       fold_kept part (changed i p u h) (λ c. (v : V) × Gives u h c v) (step u h) (process_at i h p) changes (none_in (λ c. (v : V) × Gives u h c v) changes none)
+  part_step (Reloaded u n done changes) h none =
+      fold_kept part (changed i p u h) (λ c. (v : V) × Gives u h c v) (step u h) (process_at i h p) changes (none_in (λ c. (v : V) × Gives u h c v) changes none)
   part_step _ h none = refl
 
   part_give : (e : Entry) (h : History) (v : V) → ChangeGives Gives e h v → part (process_at i (e ∷ h) p) ≡ v
   part_give (Used u seq call regs args ids result changes) h v x =
+      fold_last part (changed i p u h) (λ c. (v : V) × Gives u h c v) (step u h) (λ before. Gives u h) (process_at i h p)
+      (λ before c w y. gives u h (fold (changed i p u h) (process_at i h p) before) c w y) changes v x
+  part_give (Reloaded u n done changes) h v x =
       fold_last part (changed i p u h) (λ c. (v : V) × Gives u h c v) (step u h) (λ before. Gives u h) (process_at i h p)
       (λ before c w y. gives u h (fold (changed i p u h) (process_at i h p) before) c w y) changes v x
   part_give _ h v x = absurd x
@@ -139,10 +144,15 @@ next_process_by u h n _ v x = absurd x
 next_process_step : (i : Input) (e : Entry) (h : History) → (ChangeTouches GivesNextProcess e h → ⊥) → next_process_at i (e ∷ h) ≡ next_process_at i h
 next_process_step i (Used u seq call regs args ids result changes) h none =
     fold_kept (λ n. n) next_process_after_change (λ c. (v : ℕ) × GivesNextProcess u h c v) (next_process_change u h) (next_process_at i h) changes (none_in (λ c. (v : ℕ) × GivesNextProcess u h c v) changes none)
+next_process_step i (Reloaded u n done changes) h none =
+    fold_kept (λ n. n) next_process_after_change (λ c. (v : ℕ) × GivesNextProcess u h c v) (next_process_change u h) (next_process_at i h) changes (none_in (λ c. (v : ℕ) × GivesNextProcess u h c v) changes none)
 next_process_step i _ h none = refl
 
 next_process_give : (i : Input) (e : Entry) (h : History) (v : ℕ) → ChangeGives GivesNextProcess e h v → next_process_at i (e ∷ h) ≡ v
 next_process_give i (Used u seq call regs args ids result changes) h v x =
+    fold_last (λ n. n) next_process_after_change (λ c. (v : ℕ) × GivesNextProcess u h c v) (next_process_change u h) (λ before. GivesNextProcess u h) (next_process_at i h)
+    (λ before c w y. next_process_by u h (fold next_process_after_change (next_process_at i h) before) c w y) changes v x
+next_process_give i (Reloaded u n done changes) h v x =
     fold_last (λ n. n) next_process_after_change (λ c. (v : ℕ) × GivesNextProcess u h c v) (next_process_change u h) (λ before. GivesNextProcess u h) (next_process_at i h)
     (λ before c w y. next_process_by u h (fold next_process_after_change (next_process_at i h) before) c w y) changes v x
 next_process_give i _ h v x = absurd x
@@ -165,10 +175,15 @@ next_memory_by u h n _ v x = absurd x
 next_memory_step : (i : Input) (e : Entry) (h : History) → (ChangeTouches GivesNextSpace e h → ⊥) → next_space_at i (e ∷ h) ≡ next_space_at i h
 next_memory_step i (Used u seq call regs args ids result changes) h none =
     fold_kept (λ n. n) next_space_after_change (λ c. (v : ℕ) × GivesNextSpace u h c v) (next_memory_change u h) (next_space_at i h) changes (none_in (λ c. (v : ℕ) × GivesNextSpace u h c v) changes none)
+next_memory_step i (Reloaded u n done changes) h none =
+    fold_kept (λ n. n) next_space_after_change (λ c. (v : ℕ) × GivesNextSpace u h c v) (next_memory_change u h) (next_space_at i h) changes (none_in (λ c. (v : ℕ) × GivesNextSpace u h c v) changes none)
 next_memory_step i _ h none = refl
 
 next_memory_give : (i : Input) (e : Entry) (h : History) (v : ℕ) → ChangeGives GivesNextSpace e h v → next_space_at i (e ∷ h) ≡ v
 next_memory_give i (Used u seq call regs args ids result changes) h v x =
+    fold_last (λ n. n) next_space_after_change (λ c. (v : ℕ) × GivesNextSpace u h c v) (next_memory_change u h) (λ before. GivesNextSpace u h) (next_space_at i h)
+    (λ before c w y. next_memory_by u h (fold next_space_after_change (next_space_at i h) before) c w y) changes v x
+next_memory_give i (Reloaded u n done changes) h v x =
     fold_last (λ n. n) next_space_after_change (λ c. (v : ℕ) × GivesNextSpace u h c v) (next_memory_change u h) (λ before. GivesNextSpace u h) (next_space_at i h)
     (λ before c w y. next_memory_by u h (fold next_space_after_change (next_space_at i h) before) c w y) changes v x
 next_memory_give i _ h v x = absurd x

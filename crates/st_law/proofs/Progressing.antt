@@ -29,7 +29,7 @@ use Rattle.st_base.specs.declared.errno.Errno.TheVariants.{EPERM}
 use Rattle.st_trace.specs.declared.entry.Way.{Way}
 use Rattle.st_trace.specs.declared.entry.Way.TheVariants.{Fast, Barred, Held, Untraced}
 use Rattle.st_trace.specs.declared.start.Instr.{Instr}
-use Rattle.st_trace.specs.declared.start.Instr.TheVariants.{Store, Call, Fork}
+use Rattle.st_trace.specs.declared.start.Instr.TheVariants.{Store, Call, Fork, Reload}
 use Rattle.st_law.specs.declared.input.Input.{Input}
 use Rattle.st_law.specs.declared.input.Mode.{Mode}
 use Rattle.st_law.specs.declared.input.Mode.TheVariants.{Enforce, Learn, AskText}
@@ -113,6 +113,7 @@ module _ (i : Input) (st : State) (whole : Whole i st) (some_worker : 1 ≤ i.op
   next_is t (Store place word ∷ later) = (_, refl)
   next_is t (Call call regs ∷ later) = (_, refl)
   next_is t (Fork child ∷ later) = (_, refl)
+  next_is t (Reload n ∷ later) = (_, refl)
 
   unheld_is : (t : ℕ) (call : SysCall) (regs : List ℕ) (pr : Progress) → Ends pr → Is (unheld_entry i st t call regs (process_in st t).ids pr)
   unheld_is t call regs (Word part place) x = absurd x
@@ -213,7 +214,7 @@ module _ (i : Input) (st : State) (whole : Whole i st) (some_worker : 1 ≤ i.op
     fault_enabled q live (Some errno) e go = go (_, ap (held_entry i st t q) e)
     fault_enabled q live None e go = answered_enabled q live e (st.messages q).answered refl go
 
-    way_enabled : (entered : PendingCall) → (st.threads t).pending ≡ Some entered → (way : Way) → entered.way ≡ way → IsFine i st t entered.call entered.regs way → Enabled
+    way_enabled : (entered : PendingCall) → (st.threads t).pending ≡ Some entered → (way : Way) → entered.way ≡ way → IsFine st t entered.call entered.regs way → Enabled
     way_enabled entered e Fast way fine = let x = unheld_now t entered.call entered.regs in thread_is (x.0, ap (running_entry i st t) e ∙ ap (pending_entry i st t entered.call entered.regs) way ∙ x.1)
     way_enabled entered e Untraced way fine = let x = unheld_now t entered.call entered.regs in thread_is (x.0, ap (running_entry i st t) e ∙ ap (pending_entry i st t entered.call entered.regs) way ∙ x.1)
     way_enabled entered e (Barred n) way fine =
@@ -224,7 +225,7 @@ module _ (i : Input) (st : State) (whole : Whole i st) (some_worker : 1 ≤ i.op
     pending_enabled : (o : Option PendingCall) → (st.threads t).pending ≡ o → Enabled
     pending_enabled None e = let x = next_is t (st.threads t).left in thread_is (x.0, ap (running_entry i st t) e ∙ x.1)
     pending_enabled (Some entered) e =
-        let fine : Fine i st t entered = subst (IfPending (Fine i st t)) e (whole.calls.fine t) in way_enabled entered e entered.way refl (fine.fine running.undying)
+        let fine : Fine st t entered = subst (IfPending (Fine st t)) e (whole.calls.fine t) in way_enabled entered e entered.way refl (fine.fine running.undying)
 
   -- some choice is enabled while a thread that has started hasn't ended
   pub some_enabled : (t : ℕ) → (st.threads t).owner ≢ 0 → (st.threads t).ended ≡ false → Enabled

@@ -18,7 +18,7 @@ fold_same f P same a (c ∷ changes) each = ap (λ b. fold f b changes) (same a 
 
 pub record IsMute (c : Change) : Type 0 where
   pub seq : (n : ℕ) → seq_after_change n c ≡ n
-  pub head : (heads : ℕ → Option Head) (process : Process) (q : ℕ) (before : Option Head) → head_after_change heads process q before c ≡ before
+  pub head : (heads : ℕ → Option Head) (renewed : Head → Head) (q : ℕ) (before : Option Head) → head_after_change heads renewed q before c ≡ before
   pub renewed : (q : ℕ) (before : Bool) → is_renewed_by q before c ≡ before
   pub posted : (n : ℕ) → posted_after_change n c ≡ n
 
@@ -28,8 +28,8 @@ AreMute changes = Each IsMute changes
 pub seq_mute : (n : ℕ) (changes : List Change) → AreMute changes → seq_after n changes ≡ n
 seq_mute n changes mute = fold_same seq_after_change IsMute (λ n c x. x.seq n) n changes mute
 
-pub head_mute : (heads : ℕ → Option Head) (process : Process) (q : ℕ) (changes : List Change) → AreMute changes → head_after_changes heads process q changes ≡ heads q
-head_mute heads process q changes mute = fold_same (head_after_change heads process q) IsMute (λ before c x. x.head heads process q before) (heads q) changes mute
+pub head_mute : (heads : ℕ → Option Head) (renewed : Head → Head) (q : ℕ) (changes : List Change) → AreMute changes → head_after_changes heads renewed q changes ≡ heads q
+head_mute heads renewed q changes mute = fold_same (head_after_change heads renewed q) IsMute (λ before c x. x.head heads renewed q before) (heads q) changes mute
 
 pub renewed_mute : (q : ℕ) (before : Bool) (changes : List Change) → AreMute changes → fold (is_renewed_by q) before changes ≡ before
 renewed_mute q before changes mute = fold_same (is_renewed_by q) IsMute (λ before c x. x.renewed q before) before changes mute
@@ -43,22 +43,22 @@ IsNoRenewal (Renewed old new) = ⊥
 IsNoRenewal _ = Unit {0}
 
 pub mute_of : (c : Change) → IsNoRenewal c → IsMute c
-mute_of (Made name obj kind uid gid mode) x = record { seq = λ n. refl; head = λ heads process q before. refl; renewed = λ q before. refl; posted = λ n. refl }
-mute_of (Linked name obj) x = record { seq = λ n. refl; head = λ heads process q before. refl; renewed = λ q before. refl; posted = λ n. refl }
-mute_of (Removed name) x = record { seq = λ n. refl; head = λ heads process q before. refl; renewed = λ q before. refl; posted = λ n. refl }
-mute_of (Renamed old new) x = record { seq = λ n. refl; head = λ heads process q before. refl; renewed = λ q before. refl; posted = λ n. refl }
-mute_of (Written obj at bytes) x = record { seq = λ n. refl; head = λ heads process q before. refl; renewed = λ q before. refl; posted = λ n. refl }
-mute_of (Cut obj len) x = record { seq = λ n. refl; head = λ heads process q before. refl; renewed = λ q before. refl; posted = λ n. refl }
-mute_of (Moded obj mode) x = record { seq = λ n. refl; head = λ heads process q before. refl; renewed = λ q before. refl; posted = λ n. refl }
-mute_of (Owned obj uid gid) x = record { seq = λ n. refl; head = λ heads process q before. refl; renewed = λ q before. refl; posted = λ n. refl }
-mute_of (Put space at bytes) x = record { seq = λ n. refl; head = λ heads process q before. refl; renewed = λ q before. refl; posted = λ n. refl }
-mute_of (Forked pid space tid) x = record { seq = λ n. refl; head = λ heads process q before. refl; renewed = λ q before. refl; posted = λ n. refl }
-mute_of (Execed binary space) x = record { seq = λ n. refl; head = λ heads process q before. refl; renewed = λ q before. refl; posted = λ n. refl }
-mute_of (SetIds ids) x = record { seq = λ n. refl; head = λ heads process q before. refl; renewed = λ q before. refl; posted = λ n. refl }
-mute_of (Cwd name) x = record { seq = λ n. refl; head = λ heads process q before. refl; renewed = λ q before. refl; posted = λ n. refl }
-mute_of (Dying pid) x = record { seq = λ n. refl; head = λ heads process q before. refl; renewed = λ q before. refl; posted = λ n. refl }
+mute_of (Made name obj kind uid gid mode) x = record { seq = λ n. refl; head = λ heads renewed q before. refl; renewed = λ q before. refl; posted = λ n. refl }
+mute_of (Linked name obj) x = record { seq = λ n. refl; head = λ heads renewed q before. refl; renewed = λ q before. refl; posted = λ n. refl }
+mute_of (Removed name) x = record { seq = λ n. refl; head = λ heads renewed q before. refl; renewed = λ q before. refl; posted = λ n. refl }
+mute_of (Renamed old new) x = record { seq = λ n. refl; head = λ heads renewed q before. refl; renewed = λ q before. refl; posted = λ n. refl }
+mute_of (Written obj at bytes) x = record { seq = λ n. refl; head = λ heads renewed q before. refl; renewed = λ q before. refl; posted = λ n. refl }
+mute_of (Cut obj len) x = record { seq = λ n. refl; head = λ heads renewed q before. refl; renewed = λ q before. refl; posted = λ n. refl }
+mute_of (Moded obj mode) x = record { seq = λ n. refl; head = λ heads renewed q before. refl; renewed = λ q before. refl; posted = λ n. refl }
+mute_of (Owned obj uid gid) x = record { seq = λ n. refl; head = λ heads renewed q before. refl; renewed = λ q before. refl; posted = λ n. refl }
+mute_of (Put space at bytes) x = record { seq = λ n. refl; head = λ heads renewed q before. refl; renewed = λ q before. refl; posted = λ n. refl }
+mute_of (Forked pid space tid) x = record { seq = λ n. refl; head = λ heads renewed q before. refl; renewed = λ q before. refl; posted = λ n. refl }
+mute_of (Execed binary space) x = record { seq = λ n. refl; head = λ heads renewed q before. refl; renewed = λ q before. refl; posted = λ n. refl }
+mute_of (SetIds ids) x = record { seq = λ n. refl; head = λ heads renewed q before. refl; renewed = λ q before. refl; posted = λ n. refl }
+mute_of (Cwd name) x = record { seq = λ n. refl; head = λ heads renewed q before. refl; renewed = λ q before. refl; posted = λ n. refl }
+mute_of (Dying pid) x = record { seq = λ n. refl; head = λ heads renewed q before. refl; renewed = λ q before. refl; posted = λ n. refl }
 mute_of (Renewed old new) x = absurd x
-mute_of (Policy binary) x = record { seq = λ n. refl; head = λ heads process q before. refl; renewed = λ q before. refl; posted = λ n. refl }
+mute_of (Policy binary) x = record { seq = λ n. refl; head = λ heads renewed q before. refl; renewed = λ q before. refl; posted = λ n. refl }
 
 pub quiet_no_renewal : (c : Change) → IsQuiet c → IsNoRenewal c
 quiet_no_renewal (Made name obj kind uid gid mode) x = tt

@@ -4,7 +4,7 @@ use Rattle.std.proofs.Common.{◌≡◌, ◌↔◌, List, [], ◌∷◌, ◌++�
 use Rattle.std.proofs.lemmas.List.{append_assoc, reverse-append, reverse-reverse}
 use Rattle.st_trace.specs.declared.entry.Choice.{Choice}
 use Rattle.st_trace.specs.declared.entry.Entry.{Entry}
-use Rattle.st_trace.specs.declared.entry.Entry.TheVariants.{Stored, Entered, Claimed, Copied, Looked, Faulted, Answered, Used, Denied, Ended, Replied, Learned}
+use Rattle.st_trace.specs.declared.entry.Entry.TheVariants.{Stored, Entered, Claimed, Copied, Looked, Faulted, Answered, Used, Denied, Ended, Replied, Learned, Reloaded}
 use Rattle.st_law.specs.declared.input.Input.{Input}
 use Rattle.st_law.specs.History.{looking_back}
 use Rattle.st_law.specs.Inputs.{IsStartable}
@@ -16,7 +16,7 @@ use Rattle.st_law.specs.Recorded.{choice_of, choices_back, recorded_choices}
 use Rattle.st_law.proofs.Laws.{lawful_step, prefix_lawful, run_lawful}
 use Rattle.st_law.proofs.OperatorRecorded.{learned_recorded, replied_recorded}
 use Rattle.st_law.proofs.Steps.{Says}
-use Rattle.st_law.proofs.ThreadsRecorded.{denied_recorded, ended_recorded, entered_recorded, stored_recorded, used_recorded}
+use Rattle.st_law.proofs.ThreadsRecorded.{reloaded_recorded, denied_recorded, ended_recorded, entered_recorded, stored_recorded, used_recorded}
 use Rattle.st_law.proofs.Ties.{state-is}
 use Rattle.st_law.proofs.Whole.{Whole, whole_of}
 use Rattle.st_law.proofs.WorkersRecorded.{answered_recorded, claimed_recorded, copied_recorded, faulted_recorded, looked_recorded}
@@ -32,6 +32,7 @@ entry_recorded i st whole (Copied q part place word) x = copied_recorded i st q 
 entry_recorded i st whole (Looked q part name seen) x = looked_recorded i st q part name seen x
 entry_recorded i st whole (Faulted q errno) x = faulted_recorded i st q errno x
 entry_recorded i st whole (Answered w s v applied) x = answered_recorded i st w s v applied x
+entry_recorded i st whole (Reloaded t n done changes) x = reloaded_recorded i st t n done changes x
 entry_recorded i st whole (Used t seq call regs args ids result changes) x = used_recorded i st t seq call regs args ids result changes x
 entry_recorded i st whole (Denied t seq errno cause) x = denied_recorded i st t whole.calls seq errno cause x
 entry_recorded i st whole (Ended t) x = ended_recorded i st t x

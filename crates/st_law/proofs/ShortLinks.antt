@@ -24,7 +24,7 @@ use Rattle.st_trace.specs.declared.entry.CallResult.TheVariants.{Value, Failed}
 use Rattle.st_trace.specs.declared.entry.Change.{Change}
 use Rattle.st_trace.specs.declared.entry.Change.TheVariants.{Renewed}
 use Rattle.st_trace.specs.declared.entry.Entry.{Entry}
-use Rattle.st_trace.specs.declared.entry.Entry.TheVariants.{Stored, Entered, Claimed, Copied, Looked, Faulted, Answered, Used, Denied, Ended, Replied, Learned}
+use Rattle.st_trace.specs.declared.entry.Entry.TheVariants.{Stored, Entered, Claimed, Copied, Looked, Faulted, Answered, Used, Denied, Ended, Replied, Learned, Reloaded}
 use Rattle.st_trace.specs.declared.entry.Way.{Way}
 use Rattle.st_trace.specs.declared.entry.Way.TheVariants.{Fast, Barred, Held, Untraced}
 use Rattle.st_law.specs.declared.input.Input.{Input}
@@ -34,10 +34,10 @@ use Rattle.st_law.specs.Lawful.{IsEffect, IsFailure, IsUnlinkedOutcome, IsUnheld
 use Rattle.st_law.specs.Machine.{first_state, state_after}
 use Rattle.st_law.specs.Messages.{Head, new_head, renewed_head, head_after_change, head_after}
 use Rattle.st_law.specs.Processes.{process_count, no_descriptors, first_tree}
-use Rattle.st_law.specs.State.{State, is_last_thread, system_of, request_of, arguments_now, link_now}
+use Rattle.st_law.specs.State.{State, held_from, is_held_under, is_last_thread, reload_changes, system_of, thread_count, request_of, arguments_now, link_now}
 use Rattle.st_law.specs.Threads.{History}
 use Rattle.st_law.proofs.ShortArguments.{HasShortFirst, HasRule, arguments_short, copies_short, fit_arguments}
-use Rattle.st_law.proofs.ShortOutcomes.{Fits, fits_of}
+use Rattle.st_law.proofs.ShortOutcomes.{Fits, fits_of, renewals_fit}
 use Rattle.st_law.proofs.ShortTables.{HasPlainFiles, files_then, close_all_plain, start_plain}
 use Rattle.st_law.proofs.ShortTrees.{IsShortContent, AreShort, HasShortLinks, IsPlainAt, IsShortStep, AreFit, steps_of, short_rows}
 
@@ -53,30 +53,30 @@ pub record Short (i : Input) (st : State) : Type 0 where
 
 module _ (i : Input) where
   -- a renewed head keeps its rule
-  rule_renewed : (process : Process) (o : Option Head) → HasRule i o → HasRule i (option_map (renewed_head process) o)
-  rule_renewed process None rule = tt
-  rule_renewed process (Some head) rule = rule
+  rule_renewed : (processes : ℕ → Process) (versions : List ℕ → ℕ) (o : Option Head) → HasRule i o → HasRule i (option_map (renewed_head processes versions) o)
+  rule_renewed processes versions None rule = tt
+  rule_renewed processes versions (Some head) rule = rule
 
   -- one of two heads
   either_rule : (b : Bool) (first second : Option Head) → HasRule i first → HasRule i second → HasRule i (cond b first second)
   either_rule true first second x y = x
   either_rule false first second x y = y
 
-  module _ (heads : ℕ → Option Head) (rules : (q : ℕ) → HasRule i (heads q)) (process : Process) (q : ℕ) where
-    rule_change : (before : Option Head) (c : Change) → HasRule i before → HasRule i (head_after_change heads process q before c)
-    rule_change before (Renewed old new) rule = either_rule (new == q) (option_map (renewed_head process) (heads old)) before (rule_renewed process (heads old) (rules old)) rule
+  module _ (heads : ℕ → Option Head) (rules : (q : ℕ) → HasRule i (heads q)) (processes : ℕ → Process) (versions : List ℕ → ℕ) (q : ℕ) where
+    rule_change : (before : Option Head) (c : Change) → HasRule i before → HasRule i (head_after_change heads (renewed_head processes versions) q before c)
+    rule_change before (Renewed old new) rule = either_rule (new == q) (option_map (renewed_head processes versions) (heads old)) before (rule_renewed processes versions (heads old) (rules old)) rule
     rule_change before _ rule = rule
 
-    rule_changes : (before : Option Head) (changes : List Change) → HasRule i before → HasRule i (fold (head_after_change heads process q) before changes)
+    rule_changes : (before : Option Head) (changes : List Change) → HasRule i before → HasRule i (fold (head_after_change heads (renewed_head processes versions) q) before changes)
     rule_changes before [] rule = rule
-    rule_changes before (c ∷ changes) rule = rule_changes (head_after_change heads process q before c) changes (rule_change before c rule)
+    rule_changes before (c ∷ changes) rule = rule_changes (head_after_change heads (renewed_head processes versions) q before c) changes (rule_change before c rule)
 
   -- the head of a held call
-  rule_entered : (processes : ℕ → Process) (m t : ℕ) (call : SysCall) (regs : List ℕ) (way : Way) (heads : ℕ → Option Head) → ((q : ℕ) → HasRule i (heads q)) → (q : ℕ) → HasRule i (head_after i processes m heads (Entered t call regs way) q)
-  rule_entered processes m t call regs Fast heads rules q = rules q
-  rule_entered processes m t call regs Untraced heads rules q = rules q
-  rule_entered processes m t call regs (Barred n) heads rules q = rules q
-  rule_entered processes m t call regs (Held p) heads rules q = either_rule (p == q) (Some (new_head i t m (processes m) call regs)) (heads q) refl (rules q)
+  rule_entered : (versions : List ℕ → ℕ) (processes : ℕ → Process) (m t : ℕ) (call : SysCall) (regs : List ℕ) (way : Way) (heads : ℕ → Option Head) → ((q : ℕ) → HasRule i (heads q)) → (q : ℕ) → HasRule i (head_after i versions processes m heads (Entered t call regs way) q)
+  rule_entered versions processes m t call regs Fast heads rules q = rules q
+  rule_entered versions processes m t call regs Untraced heads rules q = rules q
+  rule_entered versions processes m t call regs (Barred n) heads rules q = rules q
+  rule_entered versions processes m t call regs (Held p) heads rules q = either_rule (p == q) (Some (new_head i t m (processes m) (versions (processes m).policy) call regs)) (heads q) refl (rules q)
 
 -- ---- a call that is made
 
@@ -95,7 +95,7 @@ module _ (i : Input) (st : State) (x : Short i st) where
           links = step.short x.links;
           root = step.plain 0 x.root;
           files = files;
-          rules = λ q. rule_changes i (λ p. (st.messages p).head) x.rules (process_after st.processes (st.threads t).owner (st.threads t).owner changes) q (st.messages q).head changes (x.rules q);
+          rules = λ q. rule_changes i (λ p. (st.messages p).head) x.rules (λ p. process_after st.processes (st.threads t).owner p changes) st.versions q (st.messages q).head changes (x.rules q);
         }
 
     -- a call that fails leaves the descriptors
@@ -131,6 +131,22 @@ module _ (i : Input) (st : State) (x : Short i st) where
       effect_short t (Some q) call regs args ids result changes y.outcome y.unlinked
       (subst (HasShortFirst call) (sym y.args_are) (copies_short i st q y.copies call (x.rules q) y.permitted.judged.copies y.call_is))
 
+  -- ---- a reload
+
+  reload_fit : (n : ℕ) (done : Bool) → AreFit st.tree.objects (reload_changes i st n done)
+  reload_fit n true = renewals_fit (system_of i st) (is_held_under i st n) (suc st.posted) (held_from st 1 (thread_count i))
+  reload_fit n false = tt
+
+  reload_short : (t n : ℕ) (done : Bool) → Short i (state_after i st (Reloaded t n done (reload_changes i st n done)))
+  reload_short t n done =
+      let changes : List Change = reload_changes i st n done in
+      let step : IsShortStep st.tree.objects (tree_after st.tree changes).objects = steps_of st.tree changes (reload_fit n done) in record {
+        links = step.short x.links;
+        root = step.plain 0 x.root;
+        files = files_then st.tree.objects (tree_after st.tree changes).objects step st.descriptors.files x.files;
+        rules = λ q. rule_changes i (λ p. (st.messages p).head) x.rules (λ p. process_after st.processes (st.threads t).owner p changes) (state_after i st (Reloaded t n done changes)).versions q (st.messages q).head changes (x.rules q);
+      }
+
   -- ---- every entry
 
   -- the open files after the end of a thread
@@ -141,7 +157,8 @@ module _ (i : Input) (st : State) (x : Short i st) where
   -- the invariant is kept by each lawful entry
   pub short_later : (e : Entry) → IsLawful i st e → Short i (state_after i st e)
   short_later (Used t seq call regs args ids result changes) y = call_short t seq call regs args ids result changes y
-  short_later (Entered t call regs way) y = record { links = x.links; root = x.root; files = x.files; rules = λ q. rule_entered i st.processes (st.threads t).owner t call regs way (λ p. (st.messages p).head) x.rules q }
+  short_later (Reloaded t n done changes) y = subst (λ cs. Short i (state_after i st (Reloaded t n done cs))) (sym y.changes_are) (reload_short t n done)
+  short_later (Entered t call regs way) y = record { links = x.links; root = x.root; files = x.files; rules = λ q. rule_entered i st.versions st.processes (st.threads t).owner t call regs way (λ p. (st.messages p).head) x.rules q }
   short_later (Ended t) y = record { links = x.links; root = x.root; files = ended_files t (is_last_thread i st t); rules = x.rules }
   short_later (Stored t place word) y = record { links = x.links; root = x.root; files = x.files; rules = x.rules }
   short_later (Claimed w q) y = record { links = x.links; root = x.root; files = x.files; rules = x.rules }

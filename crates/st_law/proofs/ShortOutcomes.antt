@@ -24,7 +24,7 @@ use Rattle.st_effects.specs.Descriptors.{open_object_outcome, open_node_outcome,
 use Rattle.st_effects.specs.Effect.{effect}
 use Rattle.st_effects.specs.NameTests.{Object, is_allowed_at, object_at, on_found, on_object}
 use Rattle.st_effects.specs.Names.{make_outcome, move_outcome, link_mode}
-use Rattle.st_effects.specs.Processes.{policy_changes, set_ids_outcome, renewals}
+use Rattle.st_effects.specs.Processes.{is_other_of, policy_changes, set_ids_outcome, renewals, renewals_by}
 use Rattle.st_effects.specs.System.{System, Request, Outcome, HeldCall, success, unless_error, unless_refused, register, arg_text_at, arg_name_at}
 use Rattle.st_trace.specs.declared.entry.CallResult.{CallResult}
 use Rattle.st_trace.specs.declared.entry.CallResult.TheVariants.{Value}
@@ -47,6 +47,14 @@ HasFitArguments system request Open =
 HasFitArguments system request Symlink = length (arg_text_at request 0) ≤ LONGEST_TEXT
 HasFitArguments system request Truncate = is_link_at system.tree (arg_name_at request 0) ≡ false
 HasFitArguments system request _ = Unit {0}
+
+-- renewals leave the tree
+pub renewals_fit : (system : System) (is : HeldCall → Bool) (next : ℕ) (helds : List HeldCall) → AreFit system.tree.objects (renewals_by is next helds)
+renewals_fit system is next [] = tt
+renewals_fit system is next (held ∷ more) = by (is held) (renewals_fit system is (next + 1) more) (renewals_fit system is next more) where
+  by : (b : Bool) → AreFit system.tree.objects (renewals_by is (next + 1) more) → AreFit system.tree.objects (renewals_by is next more) → AreFit system.tree.objects (cond b (Renewed held.number next ∷ renewals_by is (next + 1) more) (renewals_by is next more))
+  by true x y = (tt, x)
+  by false x y = y
 
 module _ (system : System) (request : Request) (plain : HasPlainFiles system.tree.objects system.descriptors) where
   -- changes that fit, and a table whose open files weren't links before
@@ -218,19 +226,11 @@ module _ (system : System) (request : Request) (plain : HasPlainFiles system.tre
   execed_fits : (result : CallResult) (binary : List ℕ) → Fits system (record { result = result; changes = Execed binary system.next_space ∷ policy_changes request.inherit binary; descriptors = system.descriptors })
   execed_fits result binary = some result system.descriptors (Execed binary system.next_space ∷ policy_changes request.inherit binary) plain (tt, policy_fits request.inherit binary)
 
-  -- renewals leave the tree
-  renewals_fit : (pid tid next : ℕ) (helds : List HeldCall) → AreFit system.tree.objects (renewals pid tid next helds)
-  renewals_fit pid tid next [] = tt
-  renewals_fit pid tid next (held ∷ more) = by _ (renewals_fit pid tid (next + 1) more) (renewals_fit pid tid next more) where
-    by : (b : Bool) → AreFit system.tree.objects (renewals pid tid (next + 1) more) → AreFit system.tree.objects (renewals pid tid next more) → AreFit system.tree.objects (cond b (Renewed held.number next ∷ renewals pid tid (next + 1) more) (renewals pid tid next more))
-    by true x y = (tt, x)
-    by false x y = y
-
   -- ids are set
   set_fits : (setting : SysCall) → Fits system (set_ids_outcome setting system request)
   set_fits setting = unless_error_fits (first_error (set_refused setting request.ids (register request 0) ∷ [])) _ (some (Value 0) system.descriptors
       (SetIds (ids_after_set setting request.ids (register request 0)) ∷ renewals request.pid request.tid system.next_number system.held) plain
-      (tt, renewals_fit request.pid request.tid system.next_number system.held))
+      (tt, renewals_fit system (is_other_of request.pid request.tid) system.next_number system.held))
 
 -- every call
 module _ (system : System) (request : Request) (plain : HasPlainFiles system.tree.objects system.descriptors) where

@@ -12,7 +12,7 @@ use Rattle.st_calls.specs.declared.judged.Verdict.TheVariants.{Permit, Refuse, U
 use Rattle.st_filter.specs.Formula.{FilterValue}
 use Rattle.st_filter.specs.Judging.{holds, verdict, verdict_by, verdict_from}
 use Rattle.st_trace.specs.declared.entry.Entry.{Entry}
-use Rattle.st_trace.specs.declared.entry.Entry.TheVariants.{Stored, Entered, Claimed, Copied, Looked, Faulted, Answered, Used, Denied, Ended, Replied, Learned}
+use Rattle.st_trace.specs.declared.entry.Entry.TheVariants.{Stored, Entered, Claimed, Copied, Looked, Faulted, Answered, Used, Denied, Ended, Replied, Learned, Reloaded}
 use Rattle.st_law.specs.declared.input.Input.{Input}
 use Rattle.st_law.specs.History.{looking_back, message_at, session_at}
 use Rattle.st_law.specs.Inputs.{IsStartable}
@@ -22,12 +22,19 @@ use Rattle.st_trace.specs.declared.entry.CallResult.{CallResult}
 use Rattle.st_trace.specs.declared.entry.Cause.TheVariants.{Filter}
 use Rattle.st_trace.specs.declared.entry.Change.{Change}
 use Rattle.st_law.specs.Laws.{IsUsedAsAnswered}
-use Rattle.st_law.specs.Lawful.{IsUsedHeld, IsDeniedHeld, IsLawful, IsLawfulBack}
+use Rattle.st_law.specs.Lawful.{IsRunning, IsHeld, IsUsedHeld, IsDeniedHeld, IsLawful, IsLawfulBack}
 use Rattle.st_law.specs.Machine.{state_after}
 use Rattle.st_law.specs.Sessions.{SessionFilter, session_filters, learnt_by, replied_by, verdict_or, decision}
-use Rattle.st_filter.specs.Policies.{read_filters}
-use Rattle.st_law.specs.State.{State, progress_of_head, snapshot_of_progress, snapshot_in, snapshot_of_message, decision_in}
+use Rattle.st_filter.specs.Judged.{verdict_under}
+use Rattle.st_filter.specs.Policies.{filters_in_force}
+use Rattle.st_law.specs.State.{State, read_at, progress_of_head, snapshot_of_progress, snapshot_in, snapshot_of_message, decision_in}
+use Rattle.st_law.specs.Entries.{Reloads}
+use Rattle.st_law.specs.Splits.{NoneTouches}
 use Rattle.st_law.specs.Threads.{History}
+use Rattle.st_trace.specs.declared.entry.Way.TheVariants.{Held}
+use Rattle.st_law.proofs.Invariant.{IsOpen, IfPending, Fine}
+use Rattle.st_law.proofs.Reloads.{version_stays}
+use Rattle.st_law.proofs.ThreadSteps.{IsCopyOf, copies_of}
 use Rattle.st_law.proofs.Growth.{session_append}
 use Rattle.st_law.proofs.Moves.{Moves, moves}
 use Rattle.st_law.proofs.Turns.{turn_of, unlike}
@@ -62,6 +69,7 @@ module _ (i : Input) (st : State) (whole : Whole i st) (q : ℕ) (answered : (st
   copies_after (Faulted p errno) y = headed (state_after i st (Faulted p errno)) (moves i st whole.calls (Faulted p errno) y) refl refl
   copies_after (Answered w s v applied) y = headed (state_after i st (Answered w s v applied)) (moves i st whole.calls (Answered w s v applied) y) refl refl
   copies_after (Used u seq call regs args ids result changes) y = headed (state_after i st (Used u seq call regs args ids result changes)) (moves i st whole.calls (Used u seq call regs args ids result changes) y) refl refl
+  copies_after (Reloaded u n done changes) y = headed (state_after i st (Reloaded u n done changes)) (moves i st whole.calls (Reloaded u n done changes) y) refl refl
   copies_after (Denied u seq errno cause) y = headed (state_after i st (Denied u seq errno cause)) (moves i st whole.calls (Denied u seq errno cause) y) refl refl
   copies_after (Ended u) y = headed (state_after i st (Ended u)) (moves i st whole.calls (Ended u) y) refl refl
   copies_after (Learned p n) y = headed (state_after i st (Learned p n)) (moves i st whole.calls (Learned p n) y) refl refl
@@ -75,6 +83,7 @@ module _ (i : Input) (st : State) (whole : Whole i st) (q : ℕ) (answered : (st
   answered_after_entry (Claimed w p) = answered
   answered_after_entry (Faulted p errno) = answered
   answered_after_entry (Used u seq call regs args ids result changes) = answered
+  answered_after_entry (Reloaded u n done changes) = answered
   answered_after_entry (Denied u seq errno cause) = answered
   answered_after_entry (Ended u) = answered
   answered_after_entry (Learned p n) = answered
@@ -141,15 +150,18 @@ session_grows i (Looked p part name seen ∷ later) earlier = session_grows i la
 session_grows i (Faulted p errno ∷ later) earlier = session_grows i later earlier
 session_grows i (Answered w s v applied ∷ later) earlier = session_grows i later earlier
 session_grows i (Used u seq call regs args ids result changes ∷ later) earlier = session_grows i later earlier
+session_grows i (Reloaded u n done changes ∷ later) earlier = session_grows i later earlier
 session_grows i (Denied u seq errno cause ∷ later) earlier = session_grows i later earlier
 session_grows i (Ended u ∷ later) earlier = session_grows i later earlier
 
--- a decision is kept by all later entries
-pub decision_stands : (i : Input) (later earlier : History) (s : Snapshot) → decision_in i (looking_back i earlier) s ≢ Unmatched → decision_in i (looking_back i (later ++ earlier)) s ≡ decision_in i (looking_back i earlier) s
-decision_stands i later earlier s some = let x : Grows i later earlier = session_grows i later earlier in
-    ap (λ session. decision (read_filters i.policies s.policy s.rule) (session_filters session s.policy s.rule) s) x.1
-    ∙ ap (λ fs. decision (read_filters i.policies s.policy s.rule) fs s) (session_append (session_at i earlier) x.0 s.policy s.rule)
-    ∙ decision_append (read_filters i.policies s.policy s.rule) (session_filters (session_at i earlier) s.policy s.rule) (session_filters x.0 s.policy s.rule) s some
+-- a decision is kept by all later entries, while the policy isn't reloaded
+pub decision_stands : (i : Input) (later earlier : History) (s : Snapshot) → NoneTouches (Reloads i s.policy) later earlier → decision_in i (looking_back i earlier) s ≢ Unmatched → decision_in i (looking_back i (later ++ earlier)) s ≡ decision_in i (looking_back i earlier) s
+decision_stands i later earlier s none some = let x : Grows i later earlier = session_grows i later earlier in
+    let read : List FilterValue = read_at i (looking_back i earlier) s.policy s.rule in
+    ap (λ version. decision (filters_in_force i.policies s.policy version s.rule) (session_filters (session_at i (later ++ earlier)) s.policy s.rule) s) (version_stays i s.policy later earlier none)
+    ∙ ap (λ session. decision read (session_filters session s.policy s.rule) s) x.1
+    ∙ ap (λ fs. decision read fs s) (session_append (session_at i earlier) x.0 s.policy s.rule)
+    ∙ decision_append read (session_filters (session_at i earlier) s.policy s.rule) (session_filters x.0 s.policy s.rule) s some
 
 -- ---- a call is made as it was answered
 
@@ -157,7 +169,7 @@ module _ (i : Input) (startable : IsStartable i) (later earlier : History) (w : 
   abbrev following : History
   following = later ++ Answered w s v true ∷ earlier
 
-  answer_verdict : (later : History) → IsLawfulBack i (later ++ Answered w s v true ∷ earlier) → v ≡ verdict (read_filters i.policies s.policy s.rule) s
+  answer_verdict : (later : History) → IsLawfulBack i (later ++ Answered w s v true ∷ earlier) → v ≡ verdict_under i.policies s
   answer_verdict [] lawful = lawful.0.verdict_is
   answer_verdict (e ∷ later) lawful = answer_verdict later lawful.1
 
@@ -165,8 +177,18 @@ module _ (i : Input) (startable : IsStartable i) (later earlier : History) (w : 
   pub same_copies : IsLawfulBack i following → (u : Snapshot) → snapshot_in (looking_back i following) s.seq ≡ Some u → u ≡ s
   same_copies lawful u e = same_Some u s (sym e ∙ (answer_stands i startable later earlier w s v lawful).copies)
 
-  pub same_decision : IsLawfulBack i following → v ≢ Unmatched → decision_in i (looking_back i following) s ≡ v
-  same_decision lawful some = read_decides (read_filters i.policies s.policy s.rule) (session_filters (session_at i following) s.policy s.rule) s v (sym (answer_verdict later lawful)) some
+  pub same_decision : IsLawfulBack i following → s.version ≡ (looking_back i following).versions s.policy → v ≢ Unmatched → decision_in i (looking_back i following) s ≡ v
+  same_decision lawful version some = read_decides (read_at i (looking_back i following) s.policy s.rule) (session_filters (session_at i following) s.policy s.rule) s v
+      (ap (λ n. verdict (filters_in_force i.policies s.policy n s.rule) s) (sym version) ∙ sym (answer_verdict later lawful)) some
+
+  -- the copies of a thread's held number have the version of their policy that is in force
+  version_now : IsLawfulBack i following → (t : ℕ) (call : SysCall) (regs : List ℕ) → IsRunning (looking_back i following) t → IsHeld (looking_back i following) t s.seq call regs → (u : Snapshot) → snapshot_in (looking_back i following) s.seq ≡ Some u → u.version ≡ (looking_back i following).versions u.policy
+  version_now lawful t call regs running held u e =
+      let st : State = looking_back i following in
+      let fine : Fine st t (record { call = call; regs = regs; way = Held held.first; child = held.entered.0 }) = subst (IfPending (Fine st t)) held.entered.1 ((whole_of i startable following lawful).calls.fine t) in
+      let own : IsOpen st t call regs = fine.fine running.undying in
+      let copy : IsCopyOf own.head u = copies_of st s.seq own.head (ap (λ n. (st.messages n).head) (sym held.number) ∙ own.posted) u e in
+      copy.version ∙ own.own.version_is ∙ ap st.versions (sym copy.policy)
 
   pub used_as_answered : (t : ℕ) (call : SysCall) (regs : List ℕ) (args : List ArgText) (ids : Ids) (result : CallResult) (changes : List Change) → IsLawfulBack i (Used t (Some s.seq) call regs args ids result changes ∷ following) → IsUsedAsAnswered s v call regs args ids
   used_as_answered t call regs args ids result changes lawful =
@@ -175,7 +197,7 @@ module _ (i : Input) (startable : IsStartable i) (later earlier : History) (w : 
         call_is = sym (ap (λ u. u.call) same) ∙ y.call_is;
         regs_are = sym (ap (λ u. u.regs) same) ∙ y.regs_are;
         args_are = y.args_are ∙ ap (λ u. u.parts) same;
-        ids_are = λ some. (y.permitted.filter, sym (same_decision lawful.1 some) ∙ sym (ap (decision_in i (looking_back i following)) same) ∙ y.permitted.permitted);
+        ids_are = λ some. (y.permitted.filter, sym (same_decision lawful.1 (subst (λ u. u.version ≡ (looking_back i following).versions u.policy) same y.permitted.version) some) ∙ sym (ap (decision_in i (looking_back i following)) same) ∙ y.permitted.permitted);
       }
 
   -- a filter that is the cause of the denial is the one that the answer named
@@ -183,4 +205,6 @@ module _ (i : Input) (startable : IsStartable i) (later earlier : History) (w : 
   denied_as_answered t errno n lawful some =
       let y : IsDeniedHeld i (looking_back i following) t s.seq errno (Filter n) = lawful.0 in
       let same : y.cause_is.0 ≡ s = same_copies lawful.1 y.cause_is.0 y.cause_is.1.copies in
-      sym (same_decision lawful.1 some) ∙ sym (ap (decision_in i (looking_back i following)) same) ∙ y.cause_is.2
+      let version : s.version ≡ (looking_back i following).versions s.policy =
+      subst (λ u. u.version ≡ (looking_back i following).versions u.policy) same (version_now lawful.1 t y.call y.regs y.running y.held y.cause_is.0 y.cause_is.1.copies) in
+      sym (same_decision lawful.1 version some) ∙ sym (ap (decision_in i (looking_back i following)) same) ∙ y.cause_is.2

@@ -1,16 +1,20 @@
 -- The state of a thread is read off the entries.
 use Rattle.std.proofs.Common.{◌≡◌, ◌≢◌, ◌⊎◌, ℕ, Bool, true, false, cond, not, ◌&&◌, ◌==◌, List, [], ◌∷◌, ◌++◌, drop, fold, Option, Some, None, refl, ap, sym, ◌∙◌, inl, inr}
 use Rattle.std.proofs.lemmas.Bool.{eq-eqb, ne_eqb, eqb-true, eqb-false, and_from}
+use Rattle.st_calls.specs.declared.rule.FastAnswer.{FastAnswer}
+use Rattle.st_calls.specs.declared.rule.FastAnswer.TheVariants.{Ask}
 use Rattle.st_effects.specs.Changes.{owner_after_change, dying_after_change, seq_after_change}
 use Rattle.st_trace.specs.declared.entry.Change.{Change}
 use Rattle.st_trace.specs.declared.entry.Change.TheVariants.{Forked, Execed, Dying, Renewed}
 use Rattle.st_trace.specs.declared.entry.Entry.{Entry}
-use Rattle.st_trace.specs.declared.entry.Entry.TheVariants.{Stored, Entered, Used, Denied, Ended}
+use Rattle.st_trace.specs.declared.entry.Entry.TheVariants.{Stored, Entered, Used, Denied, Ended, Reloaded}
 use Rattle.st_trace.specs.declared.entry.Way.TheVariants.{Held}
 use Rattle.st_trace.specs.declared.start.Instr.{Instr}
-use Rattle.st_trace.specs.declared.start.Instr.TheVariants.{Store, Call, Fork}
+use Rattle.st_trace.specs.declared.start.Instr.TheVariants.{Store, Call, Fork, Reload}
 use Rattle.st_law.specs.declared.input.Input.{Input}
+use Rattle.st_law.specs.Bars.{GivesAnswer, answer_at}
 use Rattle.st_law.specs.Entries.{Forks, GivesLeft, GivesNumber, GivesPending, IsChild, IsEnd, IsFork, Kills, LeavesDying, Renews, RenewsAs, Starts, StartsIn, TouchesNumber}
+use Rattle.st_law.specs.History.{answer_kept_at}
 use Rattle.st_law.specs.Splits.{IsLastGiven, IsLastOf, IsTrueAfter, NoneIn, NoneTouches, GivesSome}
 use Rattle.st_law.specs.Threads.{History, PendingCall, body_of, changes_of, child_of_next, has_ended_at, is_dying_at, left_at, number_at, owner_at, pending_at}
 use Rattle.st_law.proofs.Splitting.{when_same, when_other, when_either, same_part, other_part, same_by, either_true, or_left_true, or_right_true, none_in, fold_apart, fold_kept, flag_up, flag_stays, flag_only, kept_later, last_given, last_of, true_after}
@@ -32,6 +36,8 @@ once t p (c ∷ changes) there = ap (λ n. fold (owner_after_change t) n changes
 not_started_step : (i : Input) (t : ℕ) (e : Entry) (h : History) → (Forks t e h → ⊥) → owner_at i (e ∷ h) t ≡ owner_at i h t
 not_started_step i t (Used u seq call regs args ids result changes) h none =
     fold_kept (λ n. n) (owner_after_change t) (IsFork t) (fork_step t) (owner_at i h t) changes (none_in (IsFork t) changes none)
+not_started_step i t (Reloaded u n done changes) h none =
+    fold_kept (λ n. n) (owner_after_change t) (IsFork t) (fork_step t) (owner_at i h t) changes (none_in (IsFork t) changes none)
 not_started_step i t _ h none = refl
 
 pub not_started : (i : Input) (t : ℕ) (later earlier : History) → NoneTouches (Forks t) later earlier → owner_at i (later ++ earlier) t ≡ owner_at i earlier t
@@ -52,6 +58,7 @@ started_in t p pid changes free x there =
 
 started_now : (i : Input) (t pid : ℕ) (e : Entry) (h : History) → owner_at i h t ≡ 0 → Starts t pid e → pid ≢ 0 → owner_at i (e ∷ h) t ≡ pid
 started_now i t pid (Used u seq call regs args ids result changes) h free x there = started_in t (owner_at i h t) pid changes free x there
+started_now i t pid (Reloaded u n done changes) h free x there = started_in t (owner_at i h t) pid changes free x there
 started_now i t pid _ h free x there = absurd x
 
 pub started : (i : Input) (t pid : ℕ) (later earlier : History) (e : Entry) → owner_at i earlier t ≡ 0 → Starts t pid e → pid ≢ 0 → owner_at i (later ++ e ∷ earlier) t ≡ pid
@@ -71,11 +78,13 @@ left_taken u t l first v same split = when_same u t (drop 1 l) l same ∙ ap (dr
 left_step : (i : Input) (t : ℕ) (e : Entry) (h : History) → (GivesSome (GivesLeft i t) e h → ⊥) → left_at i (e ∷ h) t ≡ left_at i h t
 left_step i t (Stored u place word) h none = left_kept u t (left_at i h t) (λ first v same split. none (v, (first, same, split)))
 left_step i t (Entered u call regs way) h none = left_kept u t (left_at i h t) (λ first v same split. none (v, (first, same, split)))
+left_step i t (Reloaded u n done changes) h none = left_kept u t (left_at i h t) (λ first v same split. none (v, (first, same, split)))
 left_step i t _ h none = refl
 
 left_give : (i : Input) (t : ℕ) (e : Entry) (h : History) (v : List Instr) → GivesLeft i t e h v → left_at i (e ∷ h) t ≡ v
 left_give i t (Stored u place word) h v x = left_taken u t (left_at i h t) x.0 v x.1 x.2
 left_give i t (Entered u call regs way) h v x = left_taken u t (left_at i h t) x.0 v x.1 x.2
+left_give i t (Reloaded u n done changes) h v x = left_taken u t (left_at i h t) x.0 v x.1 x.2
 left_give i t _ h v x = absurd x
 
 pub left : (i : Input) (t : ℕ) → IsLastOf (λ h. left_at i h t) (body_of i t) (GivesLeft i t)
@@ -88,12 +97,14 @@ child_there [] = refl
 child_there (Store place word ∷ l) = refl
 child_there (Call call regs ∷ l) = refl
 child_there (Fork child ∷ l) = refl
+child_there (Reload n ∷ l) = refl
 
 child_is : (l : List Instr) (c : ℕ) → IsChild l c → child_of_next l ≡ c
 child_is [] c x = sym x
 child_is (Store place word ∷ l) c x = sym x
 child_is (Call call regs ∷ l) c x = sym x
 child_is (Fork child ∷ l) c x = sym x
+child_is (Reload n ∷ l) c x = sym x
 
 pending_step : (i : Input) (t : ℕ) (e : Entry) (h : History) → (GivesSome (GivesPending i t) e h → ⊥) → pending_at i (e ∷ h) t ≡ pending_at i h t
 pending_step i t (Entered u call regs way) h none =
@@ -114,6 +125,19 @@ pending_give i t _ h v x = absurd x
 
 pub pending : (i : Input) (t : ℕ) → IsLastOf (λ h. pending_at i h t) None (GivesPending i t)
 pending i t = last_of (λ h. pending_at i h t) None (GivesPending i t) refl (pending_step i t) (pending_give i t)
+
+-- ---- the kernel's own answer to its call
+
+answer_step : (i : Input) (t : ℕ) (e : Entry) (h : History) → (GivesSome (GivesAnswer i t) e h → ⊥) → answer_kept_at i (e ∷ h) t ≡ answer_kept_at i h t
+answer_step i t (Entered u call regs way) h none = when_other u t (answer_at i h t call regs) (answer_kept_at i h t) (λ same. none (answer_at i h t call regs, (same, refl)))
+answer_step i t _ h none = refl
+
+answer_give : (i : Input) (t : ℕ) (e : Entry) (h : History) (v : FastAnswer) → GivesAnswer i t e h v → answer_kept_at i (e ∷ h) t ≡ v
+answer_give i t (Entered u call regs way) h v x = when_same u t (answer_at i h t call regs) (answer_kept_at i h t) x.0 ∙ sym x.1
+answer_give i t _ h v x = absurd x
+
+pub answer : (i : Input) (t : ℕ) → IsLastOf (λ h. answer_kept_at i h t) Ask (GivesAnswer i t)
+answer i t = last_of (λ h. answer_kept_at i h t) Ask (GivesAnswer i t) refl (answer_step i t) (answer_give i t)
 
 -- ---- its number
 
@@ -136,11 +160,13 @@ number_renewed q p changes x =
 number_step : (t : ℕ) (e : Entry) (h : History) → (TouchesNumber t e h → ⊥) → number_at (e ∷ h) t ≡ number_at h t
 number_step t (Entered u call regs (Held q)) h none = when_other u t q (number_at h t) none
 number_step t (Used u seq call regs args ids result changes) h none = number_kept (number_at h t) changes (none_in (Renews (number_at h t)) changes none)
+number_step t (Reloaded u n done changes) h none = number_kept (number_at h t) changes (none_in (Renews (number_at h t)) changes none)
 number_step t _ h none = refl
 
 number_give : (t : ℕ) (e : Entry) (h : History) (v : ℕ) → GivesNumber t e h v → number_at (e ∷ h) t ≡ v
 number_give t (Entered u call regs (Held q)) h v x = when_same u t q (number_at h t) x.0 ∙ sym x.1
 number_give t (Used u seq call regs args ids result changes) h v x = number_renewed (number_at h t) v changes x
+number_give t (Reloaded u n done changes) h v x = number_renewed (number_at h t) v changes x
 number_give t _ h v x = absurd x
 
 pub number : (t : ℕ) → IsLastGiven (λ h. number_at h t) 0 (TouchesNumber t) (GivesNumber t)
@@ -185,15 +211,21 @@ kill_only i t u h b _ x = inr x
 pub dying_up : (i : Input) (t : ℕ) (e : Entry) (h : History) → LeavesDying i t e h → is_dying_at i (e ∷ h) t ≡ true
 dying_up i t (Used u seq call regs args ids result changes) h x =
     flag_up (falls i t u h) (Kills i t u h) (kill_up i t u h) (kill_stays i t u h) (kill_only i t u h) (is_dying_at i h t) changes x
+dying_up i t (Reloaded u n done changes) h x =
+    flag_up (falls i t u h) (Kills i t u h) (kill_up i t u h) (kill_stays i t u h) (kill_only i t u h) (is_dying_at i h t) changes x
 dying_up i t _ h x = absurd x
 
 pub dying_stays : (i : Input) (t : ℕ) (e : Entry) (h : History) → is_dying_at i h t ≡ true → is_dying_at i (e ∷ h) t ≡ true
 dying_stays i t (Used u seq call regs args ids result changes) h x =
     flag_stays (falls i t u h) (Kills i t u h) (kill_up i t u h) (kill_stays i t u h) (kill_only i t u h) (is_dying_at i h t) changes x
+dying_stays i t (Reloaded u n done changes) h x =
+    flag_stays (falls i t u h) (Kills i t u h) (kill_up i t u h) (kill_stays i t u h) (kill_only i t u h) (is_dying_at i h t) changes x
 dying_stays i t _ h x = x
 
 pub dying_only : (i : Input) (t : ℕ) (e : Entry) (h : History) → is_dying_at i (e ∷ h) t ≡ true → LeavesDying i t e h ⊎ (is_dying_at i h t ≡ true)
 dying_only i t (Used u seq call regs args ids result changes) h x =
+    flag_only (falls i t u h) (Kills i t u h) (kill_up i t u h) (kill_stays i t u h) (kill_only i t u h) (is_dying_at i h t) changes x
+dying_only i t (Reloaded u n done changes) h x =
     flag_only (falls i t u h) (Kills i t u h) (kill_up i t u h) (kill_stays i t u h) (kill_only i t u h) (is_dying_at i h t) changes x
 dying_only i t _ h x = inr x
 

@@ -23,7 +23,7 @@ use Rattle.st_trace.specs.declared.entry.Entry.TheVariants.{Entered}
 use Rattle.st_trace.specs.declared.entry.Way.{Way}
 use Rattle.st_trace.specs.declared.entry.Way.TheVariants.{Fast, Barred, Held, Untraced}
 use Rattle.st_trace.specs.declared.start.Instr.{Instr}
-use Rattle.st_trace.specs.declared.start.Instr.TheVariants.{Store, Call, Fork}
+use Rattle.st_trace.specs.declared.start.Instr.TheVariants.{Store, Call, Fork, Reload}
 use Rattle.st_law.specs.declared.input.Input.{Input}
 use Rattle.st_law.specs.Lawful.{IsRunning, IsEnded, IsPending, IsUnheld, IsUnheldOutcome, IsUnlinkedOutcome, IsHeld, IsJudged, IsPermitted, IsLawful}
 use Rattle.st_law.specs.Machine.{way_of_answer, next_instruction_entry, unlinked_entry, unheld_entry, barred_entry, permitted_entry, decided_entry, answered_entry, held_entry, pending_entry, running_entry, thread_entry}
@@ -50,17 +50,27 @@ abbrev ids_in : Ids → Option Snapshot → Ids
 ids_in other None = other
 ids_in other (Some s) = s.ids
 
--- copies have the call, the registers and the ids of their head
+abbrev policy_in : List ℕ → Option Snapshot → List ℕ
+policy_in other None = other
+policy_in other (Some s) = s.policy
+
+abbrev version_in : ℕ → Option Snapshot → ℕ
+version_in other None = other
+version_in other (Some s) = s.version
+
+-- copies have the call, the registers, the ids, the policy and the version of their head
 pub record IsCopyOf (head : Head) (s : Snapshot) : Type 0 where
   pub call : s.call ≡ head.call
   pub regs : s.regs ≡ head.regs
   pub ids : s.ids ≡ head.ids
+  pub policy : s.policy ≡ head.policy
+  pub version : s.version ≡ head.version
 
 copy_of : (q : ℕ) (head : Head) (pr : Progress) (s : Snapshot) → snapshot_of_progress q (Some head) pr ≡ Some s → IsCopyOf head s
 copy_of q head (Word part place) s e = cc
 copy_of q head (Look part name) s e = cc
 copy_of q head (Stuck errno) s e = cc
-copy_of q head (Ready args) s e = record { call = sym (ap (call_in head.call) e); regs = sym (ap (regs_in head.regs) e); ids = sym (ap (ids_in head.ids) e) }
+copy_of q head (Ready args) s e = record { call = sym (ap (call_in head.call) e); regs = sym (ap (regs_in head.regs) e); ids = sym (ap (ids_in head.ids) e); policy = sym (ap (policy_in head.policy) e); version = sym (ap (version_in head.version) e) }
 
 pub copies_of : (st : State) (q : ℕ) (head : Head) → (st.messages q).head ≡ Some head → (s : Snapshot) → snapshot_in st q ≡ Some s → IsCopyOf head s
 copies_of st q head posted s e =
@@ -90,6 +100,7 @@ module _ (i : Input) (st : State) (t : ℕ) (running : IsRunning st t) where
   going_on : (st.threads t).pending ≡ None → (left : List Instr) → (st.threads t).left ≡ left → Says (IsLawful i st) (next_instruction_entry i st t left)
   going_on idle [] e = ended_by (inr (e, idle))
   going_on idle (Store place word ∷ later) e = record { running = running; idle = idle; later = later; next = e }
+  going_on idle (Reload n ∷ later) e = record { running = running; idle = idle; later = later; next = e; done_is = refl; changes_are = refl }
   going_on idle (Fork child ∷ later) e = entered_by idle call.Fork no_registers (Fork child) later e (refl, refl) (process_in st t).traced refl
   going_on idle (Call call regs ∷ later) e = entered_by idle call regs (Call call regs) later e (refl, refl) (process_in st t).traced refl
 
@@ -134,7 +145,7 @@ module _ (i : Input) (st : State) (t : ℕ) (running : IsRunning st t) where
 
   -- ---- barred calls
 
-  denied_by : (call : SysCall) (regs : List ℕ) (n : ℕ) → IsPending st t call regs (Barred n) → n ≡ 1 → (given : FastAnswer) → answer_in i st (process_in st t) call regs ≡ given → Says (IsLawful i st) (barred_entry t n given)
+  denied_by : (call : SysCall) (regs : List ℕ) (n : ℕ) → IsPending st t call regs (Barred n) → n ≡ 1 → (given : FastAnswer) → (st.threads t).answer ≡ given → Says (IsLawful i st) (barred_entry t n given)
   denied_by call regs n entered first answer.Permit e = tt
   denied_by call regs n entered first (answer.Refuse errno) e = record {
     running = running;
@@ -152,9 +163,9 @@ module _ (i : Input) (st : State) (t : ℕ) (running : IsRunning st t) where
     held_with : (call : SysCall) (regs : List ℕ) → IsPending st t call regs (Held first) → IsHeld st t q call regs
     held_with call regs entered = record { first = first; entered = entered; number = number; live = live }
 
-    module _ (s : Snapshot) (entered : IsPending st t s.call s.regs (Held first)) (identity : s.ids ≡ (process_in st t).ids) (judged : IsJudged st q s) where
+    module _ (s : Snapshot) (entered : IsPending st t s.call s.regs (Held first)) (identity : s.ids ≡ (process_in st t).ids) (version : s.version ≡ st.versions s.policy) (judged : IsJudged st q s) where
       permitted_by : (n : ℕ) (ids : Ids) → decision_in i st s ≡ Permit n ids → IsPermitted i st t q s ids
-      permitted_by n ids e = record { judged = judged; filter = n; permitted = e; identity = identity }
+      permitted_by n ids e = record { judged = judged; filter = n; permitted = e; identity = identity; version = version }
 
       unmet_by : (n : ℕ) (ids : Ids) → decision_in i st s ≡ Permit n ids → (o : Option Components) → link_now i st s.call s.regs s.parts ≡ o → IsLawful i st (permitted_entry i st t q s ids o)
       unmet_by n ids e (Some name) met = record {
@@ -188,7 +199,7 @@ module _ (i : Input) (st : State) (t : ℕ) (running : IsRunning st t) where
     answered_by call regs entered head posted own answered unfaulted (Some s) e =
         let copy : IsCopyOf head s = copies_of st q head posted s e in
         decided_by s (subst (λ c. IsPending st t c s.regs (Held first)) (sym (copy.call ∙ own.call_is)) (subst (λ r. IsPending st t call r (Held first)) (sym (copy.regs ∙ own.regs_are)) entered))
-        (copy.ids ∙ own.ids_are) (record { answered = answered; unfaulted = unfaulted; copies = e }) (decision_in i st s) refl
+        (copy.ids ∙ own.ids_are) (copy.version ∙ own.version_is ∙ ap st.versions (sym copy.policy)) (record { answered = answered; unfaulted = unfaulted; copies = e }) (decision_in i st s) refl
 
     held_by : (call : SysCall) (regs : List ℕ) → IsPending st t call regs (Held first) → (head : Head) → (st.messages q).head ≡ Some head → IsOwn st t call regs head → (o : Option Errno) → (st.messages q).fault ≡ o → Says (IsLawful i st) (held_entry i st t q o)
     held_by call regs entered head posted own (Some errno) e =
@@ -200,17 +211,17 @@ module _ (i : Input) (st : State) (t : ℕ) (running : IsRunning st t) where
   live_of_open call regs x =
       (λ k. is_live_by (x.posted k) (x.unclosed k) (λ u. (st.threads u).dying)) ∙ (λ k. not (st.threads (x.own.tid_is k)).dying) ∙ (λ k. not (running.undying k))
 
-  finished_by : (call : SysCall) (regs : List ℕ) (way : Way) → IsPending st t call regs way → IsFine i st t call regs way → Says (IsLawful i st) (pending_entry i st t call regs way)
+  finished_by : (call : SysCall) (regs : List ℕ) (way : Way) → IsPending st t call regs way → IsFine st t call regs way → Says (IsLawful i st) (pending_entry i st t call regs way)
   finished_by call regs Fast entered fine = unheld_by call regs Fast entered tt (arguments_now i st t call regs) refl
   finished_by call regs Untraced entered fine = unheld_by call regs Untraced entered tt (arguments_now i st t call regs) refl
-  finished_by call regs (Barred n) entered fine = denied_by call regs n entered fine.first (answer_in i st (process_in st t) call regs) refl
+  finished_by call regs (Barred n) entered fine = denied_by call regs n entered fine.first (st.threads t).answer refl
   finished_by call regs (Held first) entered fine =
       held_by (st.threads t).number refl first (live_of_open call regs fine) call regs entered fine.head fine.posted fine.own (st.messages (st.threads t).number).fault refl
 
   proceeding : Invariant i st → (o : Option PendingCall) → (st.threads t).pending ≡ o → Says (IsLawful i st) (running_entry i st t o)
   proceeding inv None e = going_on e (st.threads t).left refl
   proceeding inv (Some entered) e =
-      let fine : Fine i st t entered = subst (IfPending (Fine i st t)) e (inv.fine t) in
+      let fine : Fine st t entered = subst (IfPending (Fine st t)) e (inv.fine t) in
       finished_by entered.call entered.regs entered.way (entered.child, e) (fine.fine running.undying)
 
 -- the step of a thread is lawful

@@ -16,14 +16,14 @@ use Rattle.st_trace.specs.declared.entry.CallResult.{CallResult}
 use Rattle.st_trace.specs.declared.entry.Cause.{Cause}
 use Rattle.st_trace.specs.declared.entry.Cause.TheVariants.{Filter, NoFilter, Fault, Link}
 use Rattle.st_trace.specs.declared.entry.Change.{Change}
-use Rattle.st_trace.specs.declared.entry.Entry.TheVariants.{Stored, Entered, Used, Denied, Ended}
+use Rattle.st_trace.specs.declared.entry.Entry.TheVariants.{Stored, Entered, Used, Denied, Ended, Reloaded}
 use Rattle.st_trace.specs.declared.entry.Way.{Way}
 use Rattle.st_trace.specs.declared.entry.Way.TheVariants.{Fast, Barred, Held, Untraced}
 use Rattle.st_trace.specs.declared.start.Instr.{Instr}
-use Rattle.st_trace.specs.declared.start.Instr.TheVariants.{Store, Call, Fork}
+use Rattle.st_trace.specs.declared.start.Instr.TheVariants.{Store, Call, Fork, Reload}
 use Rattle.st_law.specs.declared.input.Input.{Input}
-use Rattle.st_law.specs.Lawful.{IsRunning, IsStored, IsWay, IsEntered, IsEnded, IsUnheld, IsFailure, IsEffect, IsUnlinkedOutcome, IsUnheldOutcome, IsPending, IsUsedUnheld, IsDeniedBarred, IsHeld, IsJudged, IsUsedHeld, IsUsed, IsCause, IsDenied}
-use Rattle.st_law.specs.Machine.{way_of_answer, entered_entry, next_instruction_entry, used_entry, failed_entry, unlinked_entry, unheld_entry, barred_entry, permitted_entry, decided_entry, answered_entry, held_entry, pending_entry, running_entry, thread_entry}
+use Rattle.st_law.specs.Lawful.{IsRunning, IsStored, IsWay, IsEntered, IsReloaded, IsEnded, IsUnheld, IsFailure, IsEffect, IsUnlinkedOutcome, IsUnheldOutcome, IsPending, IsUsedUnheld, IsDeniedBarred, IsHeld, IsJudged, IsUsedHeld, IsUsed, IsCause, IsDenied}
+use Rattle.st_law.specs.Machine.{way_of_answer, entered_entry, reloaded_entry, next_instruction_entry, used_entry, failed_entry, unlinked_entry, unheld_entry, barred_entry, permitted_entry, decided_entry, answered_entry, held_entry, pending_entry, running_entry, thread_entry}
 use Rattle.st_law.specs.State.{State, process_in, decision_in, answer_in, system_of, request_of, arguments_now, link_now}
 use Rattle.st_law.specs.Threads.{PendingCall}
 use Rattle.st_law.proofs.Invariant.{IsOpen, IfPending, Fine, Invariant}
@@ -50,12 +50,18 @@ module _ (i : Input) (st : State) (t : ℕ) where
   next_recorded : (instruction : Instr) (later : List Instr) (call : SysCall) (regs : List ℕ) → IsCallOf instruction call regs → next_instruction_entry i st t (instruction ∷ later) ≡ entered_entry i st t call regs
   next_recorded (Store place word) later call regs makes = absurd makes
   next_recorded (Call own own_regs) later call regs makes = λ k. entered_entry i st t (sym makes.0 k) (sym makes.1 k)
+  next_recorded (Reload n) later call regs makes = absurd makes
   next_recorded (Fork child) later call regs makes = λ k. entered_entry i st t (sym makes.0 k) (sym makes.1 k)
 
   pub entered_recorded : (call : SysCall) (regs : List ℕ) (way : Way) → IsEntered i st t call regs way → thread_entry i st t ≡ Some (Entered t call regs way)
   entered_recorded call regs way x =
       goes_on x.running None x.idle ∙ ap (next_instruction_entry i st t) x.next ∙ next_recorded x.instruction x.later call regs x.makes
       ∙ ap (λ each. Some (Entered t call regs each)) (way_recorded (process_in st t).traced (suc st.posted) way (answer_in i st (process_in st t) call regs) x.way_is)
+
+  pub reloaded_recorded : (n : ℕ) (done : Bool) (changes : List Change) → IsReloaded i st t n done changes → thread_entry i st t ≡ Some (Reloaded t n done changes)
+  reloaded_recorded n done changes x =
+      goes_on x.running None x.idle ∙ ap (next_instruction_entry i st t) x.next ∙ ap (λ b. Some (reloaded_entry i st t n b)) (sym x.done_is)
+      ∙ ap (λ cs. Some (Reloaded t n done cs)) (sym x.changes_are)
 
   pub ended_recorded : IsEnded st t → thread_entry i st t ≡ Some (Ended t)
   ended_recorded x = (λ k. cond (ne_eqb (st.threads t).owner 0 x.started k || x.unended k) None (cond (st.threads t).dying (Some (Ended t)) (running_entry i st t (st.threads t).pending))) ∙ by (st.threads t).dying refl x.over where
@@ -124,7 +130,7 @@ module _ (i : Input) (st : State) (t : ℕ) where
     -- the copies of a thread's held number have the same first link in the way as its pending call with their arguments
     same_link : (s : Snapshot) → IsJudged st q s → link_now i st s.call s.regs s.parts ≡ link_now i st call regs s.parts
     same_link s judged =
-        let fine : Fine i st t (record { call = call; regs = regs; way = Held held.first; child = held.entered.0 }) = subst (IfPending (Fine i st t)) held.entered.1 (inv.fine t) in
+        let fine : Fine st t (record { call = call; regs = regs; way = Held held.first; child = held.entered.0 }) = subst (IfPending (Fine st t)) held.entered.1 (inv.fine t) in
         let own : IsOpen st t call regs = fine.fine running.undying in
         let copy : IsCopyOf own.head s = copies_of st q own.head (ap (λ n. (st.messages n).head) (sym held.number) ∙ own.posted) s judged.copies in
         λ k. link_now i st ((copy.call ∙ own.own.call_is) k) ((copy.regs ∙ own.own.regs_are) k) s.parts

@@ -7,7 +7,7 @@ use Rattle.st_calls.specs.declared.judged.Verdict.{Verdict}
 use Rattle.st_names.specs.Name.{Components}
 use Rattle.st_names.specs.declared.seen.SeenText.{SeenText}
 use Rattle.st_trace.specs.declared.entry.Entry.{Entry}
-use Rattle.st_trace.specs.declared.entry.Entry.TheVariants.{Stored, Entered, Claimed, Copied, Looked, Faulted, Answered, Used, Denied, Ended, Replied, Learned}
+use Rattle.st_trace.specs.declared.entry.Entry.TheVariants.{Stored, Entered, Claimed, Copied, Looked, Faulted, Answered, Used, Denied, Ended, Replied, Learned, Reloaded}
 use Rattle.st_law.specs.declared.input.Input.{Input}
 use Rattle.st_law.specs.Lawful.{IsClaimed, IsAnswered, IsLawful}
 use Rattle.st_law.specs.Machine.{state_after}
@@ -232,6 +232,7 @@ module _ (i : Input) (st : State) (inv : Invariant i st) (x : Turns i st) where
   turns_after (Stored u place word) y = turns_moved i st inv x (state_after i st (Stored u place word)) (moves i st inv (Stored u place word) y) refl (λ p. refl) (λ p. refl) (λ p. refl) (λ p. refl) (λ p. refl)
   turns_after (Entered u call regs way) y = turns_moved i st inv x (state_after i st (Entered u call regs way)) (moves i st inv (Entered u call regs way) y) refl (λ p. refl) (λ p. refl) (λ p. refl) (λ p. refl) (λ p. refl)
   turns_after (Used u seq call regs args ids result changes) y = turns_moved i st inv x (state_after i st (Used u seq call regs args ids result changes)) (moves i st inv (Used u seq call regs args ids result changes) y) refl (λ p. refl) (λ p. refl) (λ p. refl) (λ p. refl) (λ p. refl)
+  turns_after (Reloaded u n done changes) y = turns_moved i st inv x (state_after i st (Reloaded u n done changes)) (moves i st inv (Reloaded u n done changes) y) refl (λ p. refl) (λ p. refl) (λ p. refl) (λ p. refl) (λ p. refl)
   turns_after (Denied u seq errno cause) y = turns_moved i st inv x (state_after i st (Denied u seq errno cause)) (moves i st inv (Denied u seq errno cause) y) refl (λ p. refl) (λ p. refl) (λ p. refl) (λ p. refl) (λ p. refl)
   turns_after (Ended u) y = turns_moved i st inv x (state_after i st (Ended u)) (moves i st inv (Ended u) y) refl (λ p. refl) (λ p. refl) (λ p. refl) (λ p. refl) (λ p. refl)
   turns_after (Learned q n) y = turns_moved i st inv x (state_after i st (Learned q n)) (moves i st inv (Learned q n) y) refl (λ p. refl) (λ p. refl) (λ p. refl) (λ p. refl) (λ p. refl)

@@ -14,6 +14,7 @@ use Rattle.st_trace.specs.declared.entry.Entry.TheVariants.{Used}
 use Rattle.st_law.specs.declared.input.Input.{Input}
 use Rattle.st_law.specs.Inputs.{IsThread}
 use Rattle.st_law.specs.Machine.{state_after}
+use Rattle.st_law.specs.Messages.{renewed_head}
 use Rattle.st_law.specs.State.{State, process_in}
 use Rattle.st_law.specs.Threads.{PendingCall}
 use Rattle.st_law.proofs.Carried.{open_kept, fine_by, if_pending, numbers_differ}
@@ -62,17 +63,17 @@ module _ (i : Input) (st : State) (inv : Invariant i st) (u : ℕ) (seq : Option
   undying_then : (t : ℕ) (changes : List Change) → ((new changes).threads t).dying ≡ false → (st.threads t).dying ≡ false
   undying_then t changes e = undying_before t (st.threads t).owner u (st.threads u).owner (st.threads t).dying changes e
 
-  still_fine : (changes : List Change) → Keeps changes → (t : ℕ) → t ≢ u → (entered : PendingCall) → (st.threads t).pending ≡ Some entered → Fine i st t entered → Fine i (new changes) t entered
+  still_fine : (changes : List Change) → Keeps changes → (t : ℕ) → t ≢ u → (entered : PendingCall) → (st.threads t).pending ≡ Some entered → Fine st t entered → Fine (new changes) t entered
   still_fine changes keeps t differ entered e x = record {
     started = λ none. x.started (sym (keeps.owner t x.started) ∙ none);
-    fine = λ undying. fine_by i st (new changes) t entered.call entered.regs entered.way (λ policy rule errno f. f) (keeps.policy t x.started differ undying)
+    fine = λ undying. fine_by st (new changes) t entered.call entered.regs entered.way refl
         (λ first way. keeps.opened t entered.call entered.regs x.started (record { entered = entered; pending = e; first = first; way = way; undying = undying_then t changes undying }) differ undying)
         (x.fine (undying_then t changes undying));
   }
 
-  fine_at : (changes : List Change) → Keeps changes → (t : ℕ) (b : Bool) → (u == t) ≡ b → IfPending (Fine i (new changes) t) (cond b None (st.threads t).pending)
+  fine_at : (changes : List Change) → Keeps changes → (t : ℕ) (b : Bool) → (u == t) ≡ b → IfPending (Fine (new changes) t) (cond b None (st.threads t).pending)
   fine_at changes keeps t true e = tt
-  fine_at changes keeps t false e = if_pending (Fine i st t) (Fine i (new changes) t) (st.threads t).pending (still_fine changes keeps t (λ same. eqb-false u t e (sym same))) (inv.fine t)
+  fine_at changes keeps t false e = if_pending (Fine st t) (Fine (new changes) t) (st.threads t).pending (still_fine changes keeps t (λ same. eqb-false u t e (sym same))) (inv.fine t)
 
   child_at : (t : ℕ) (b : Bool) → IfPending (HasChild i) (cond b None (st.threads t).pending)
   child_at t true = tt
@@ -97,7 +98,7 @@ module _ (i : Input) (st : State) (inv : Invariant i st) (u : ℕ) (seq : Option
     mute_posted = posted_mute st.posted changes mute
 
     mute_heads : (q : ℕ) → (new changes).posted < q → ((new changes).messages q).head ≡ None
-    mute_heads q high = head_mute (λ p. (st.messages p).head) (process_after st.processes (st.threads u).owner (st.threads u).owner changes) q changes mute
+    mute_heads q high = head_mute (λ p. (st.messages p).head) (renewed_head (λ p. process_after st.processes (st.threads u).owner p changes) st.versions) q changes mute
         ∙ inv.heads q (let same = mute_posted in omega (arith, same, high))
 
     mute_closed : (q : ℕ) → (new changes).posted < q → ((new changes).messages q).closed ≡ false
@@ -105,13 +106,15 @@ module _ (i : Input) (st : State) (inv : Invariant i st) (u : ℕ) (seq : Option
         let above : st.posted < q = (let same = mute_posted in omega (arith, same, high)) in
         (λ k. not_closed_above st u q seq open_seq above k || renewed_mute q (st.messages q).closed changes mute k) ∙ inv.closed q above
 
-    pub mute_kept : (t : ℕ) (c : SysCall) (r : List ℕ) → t ≢ u → ((new changes).threads t).owner ≡ (st.threads t).owner → (process_in (new changes) t).ids ≡ (process_in st t).ids → IsOpen st t c r → IsOpen (new changes) t c r
-    mute_kept t c r differ owner ids_kept x = open_kept st (new changes) t c r (let same = mute_posted in omega (arith, same)) (record {
+    pub mute_kept : (t : ℕ) (c : SysCall) (r : List ℕ) → t ≢ u → ((new changes).threads t).owner ≡ (st.threads t).owner → (process_in (new changes) t).ids ≡ (process_in st t).ids → (process_in (new changes) t).policy ≡ (process_in st t).policy → IsOpen st t c r → IsOpen (new changes) t c r
+    mute_kept t c r differ owner ids_kept policy_kept x = open_kept st (new changes) t c r (let same = mute_posted in omega (arith, same)) (record {
       owner = owner;
       ids = ids_kept;
+      policy = policy_kept;
       number = seq_mute (st.threads t).number changes mute;
-      head = head_mute (λ p. (st.messages p).head) (process_after st.processes (st.threads u).owner (st.threads u).owner changes) (st.threads t).number changes mute;
+      head = head_mute (λ p. (st.messages p).head) (renewed_head (λ p. process_after st.processes (st.threads u).owner p changes) st.versions) (st.threads t).number changes mute;
       closed = λ unclosed. (λ k. not_closed_by st u t seq open_seq differ c r x k || renewed_mute (st.threads t).number (st.messages (st.threads t).number).closed changes mute k) ∙ unclosed;
+      version = λ head posted. refl;
     }) x
 
     -- by what is kept of threads and processes
@@ -121,9 +124,9 @@ module _ (i : Input) (st : State) (inv : Invariant i st) (u : ℕ) (seq : Option
       owners = owners;
       posted = let same = mute_posted in omega (arith, same);
       heads = mute_heads;
-      stays = λ q low. head_mute (λ p. (st.messages p).head) (process_after st.processes (st.threads u).owner (st.threads u).owner changes) q changes mute;
+      stays = λ q low. head_mute (λ p. (st.messages p).head) (renewed_head (λ p. process_after st.processes (st.threads u).owner p changes) st.versions) q changes mute;
       closed = mute_closed;
       owner = owner;
       policy = policy;
-      opened = λ t c r there holder differ undying x. mute_kept t c r differ (owner t there) (ids_kept t there differ undying) x;
+      opened = λ t c r there holder differ undying x. mute_kept t c r differ (owner t there) (ids_kept t there differ undying) (policy t there differ undying) x;
     }

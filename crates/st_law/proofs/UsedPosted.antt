@@ -5,7 +5,7 @@ use Rattle.std.specs.List.{fold}
 use Rattle.st_base.specs.declared.ids.Ids.{Ids}
 use Rattle.st_calls.specs.declared.argument.ArgText.{ArgText}
 use Rattle.st_calls.specs.declared.call.SysCall.{SysCall}
-use Rattle.st_effects.specs.Processes.{policy_changes}
+use Rattle.st_effects.specs.Processes.{is_other_of, policy_changes}
 use Rattle.st_trace.specs.declared.entry.CallResult.{CallResult}
 use Rattle.st_trace.specs.declared.entry.Change.{Change}
 use Rattle.st_trace.specs.declared.entry.Change.TheVariants.{Execed}
@@ -13,7 +13,7 @@ use Rattle.st_law.specs.declared.input.Input.{Input}
 use Rattle.st_law.specs.Lawful.{IsUsed}
 use Rattle.st_law.specs.Messages.{posted_after_change}
 use Rattle.st_calls.specs.Call.{sets_ids}
-use Rattle.st_law.specs.State.{State, thread_count, held_from, system_of, request_of}
+use Rattle.st_law.specs.State.{State, thread_count, held_from, is_held_under, reload_changes, system_of, request_of}
 use Rattle.st_law.proofs.HeldCalls.{few_held}
 use Rattle.st_law.proofs.QuietChanges.{mute_of_quiet, posted_mute}
 use Rattle.st_law.proofs.Renewals.{posted_high}
@@ -37,8 +37,14 @@ module _ (i : Input) (st : State) (few : thread_count i ≤ 64) (u : ℕ) (call 
   shape_posts regs args ids changes (forked is e) = inl (ap posted_by e)
   shape_posts regs args ids changes (execed binary e) = subst PostsFew (sym e) (exec_posts binary i.options.inherit)
   shape_posts regs args ids changes (renewed set sets e) = subst PostsFew (sym e)
-      (inr (sets, let high = posted_high (st.threads u).owner u st.posted (suc st.posted) (held_from st 1 (thread_count i)) in let held = few_held st 1 (thread_count i) in omega (arith, high, held, few)))
+      (inr (sets, let high = posted_high (is_other_of (st.threads u).owner u) st.posted (suc st.posted) (held_from st 1 (thread_count i)) in let held = few_held st 1 (thread_count i) in omega (arith, high, held, few)))
 
   -- how many numbers a call that is made posts
   pub used_posts : (regs : List ℕ) (args : List ArgText) (ids : Ids) (result : CallResult) (changes : List Change) (seq : Option ℕ) → IsUsed i st u seq call regs args ids result changes → PostsFew changes
   used_posts regs args ids result changes seq x = shape_posts regs args ids changes (used_shape i st u call regs args ids result changes seq x)
+
+-- a reload posts at most 64 numbers
+pub reload_posts : (i : Input) (st : State) → thread_count i ≤ 64 → (n : ℕ) (done : Bool) → fold posted_after_change st.posted (reload_changes i st n done) ≤ st.posted + 64
+reload_posts i st few n true =
+    let high = posted_high (is_held_under i st n) st.posted (suc st.posted) (held_from st 1 (thread_count i)) in let held = few_held st 1 (thread_count i) in omega (arith, high, held, few)
+reload_posts i st few n false = omega arith

@@ -3,7 +3,7 @@ use native.Mathlib.Omega.{arith}
 use Rattle.std.proofs.Common.{◌≡◌, ◌≤◌, ℕ, zero, suc, Bool, true, false, ◌||◌, ◌==◌, [], ◌∷◌, Option, Some, None, refl, ap, subst, ◌∙◌}
 use Rattle.std.proofs.lemmas.Bool.{eqb-true}
 use Rattle.st_trace.specs.declared.entry.Entry.{Entry}
-use Rattle.st_trace.specs.declared.entry.Entry.TheVariants.{Stored, Entered, Claimed, Copied, Looked, Faulted, Answered, Used, Denied, Ended, Replied, Learned}
+use Rattle.st_trace.specs.declared.entry.Entry.TheVariants.{Stored, Entered, Claimed, Copied, Looked, Faulted, Answered, Used, Denied, Ended, Replied, Learned, Reloaded}
 use Rattle.st_law.specs.declared.input.Input.{Input}
 use Rattle.st_law.specs.History.{looking_back}
 use Rattle.st_law.specs.Inputs.{IsStartable}
@@ -59,6 +59,7 @@ module _ (i : Input) (st : State) (whole : Whole i st) where
   posted_later (Faulted q errno) y moved = record { zero = moved.heads 0 (omega arith) ∙ whole.posted.zero; claimed = λ p f. kept_head (state_after i st (Faulted q errno)) moved p f }
   posted_later (Answered w s v applied) y moved = record { zero = moved.heads 0 (omega arith) ∙ whole.posted.zero; claimed = λ p f. kept_head (state_after i st (Answered w s v applied)) moved p f }
   posted_later (Used u seq call regs args ids result changes) y moved = record { zero = moved.heads 0 (omega arith) ∙ whole.posted.zero; claimed = λ p f. kept_head (state_after i st (Used u seq call regs args ids result changes)) moved p f }
+  posted_later (Reloaded u n done changes) y moved = record { zero = moved.heads 0 (omega arith) ∙ whole.posted.zero; claimed = λ p f. kept_head (state_after i st (Reloaded u n done changes)) moved p f }
   posted_later (Denied u seq errno cause) y moved = record { zero = moved.heads 0 (omega arith) ∙ whole.posted.zero; claimed = λ p f. kept_head (state_after i st (Denied u seq errno cause)) moved p f }
   posted_later (Ended u) y moved = record { zero = moved.heads 0 (omega arith) ∙ whole.posted.zero; claimed = λ p f. kept_head (state_after i st (Ended u)) moved p f }
   posted_later (Learned q n) y moved = record { zero = moved.heads 0 (omega arith) ∙ whole.posted.zero; claimed = λ p f. kept_head (state_after i st (Learned q n)) moved p f }

@@ -130,11 +130,15 @@ plainly mode = record { mode = mode; inherit = false; aliasing = true; ids = Non
 
 abbrev pub input : Options → List BinaryPolicy → List TreeRow → List ProcessRow → List ThreadRow → List Reply → Input
 input options policies tree processes threads replies = record {
-  policies = policies;
+  policies = record { read = policies; blocks = [] };
   start = record { users = []; groups = []; tree = tree; processes = processes; threads = threads };
   replies = replies;
   options = options;
 }
+
+-- the same with policies of the script
+abbrev pub with_blocks : List BinaryPolicy → Input → Input
+with_blocks blocks i = record i { policies = record { read = i.policies.read; blocks = blocks } }
 
 -- ---- schedules
 
@@ -171,4 +175,8 @@ arg label index text = record { label = label; index = index; text = codes text 
 
 abbrev pub copies : ℕ → ℕ → Ids → String → Rule → SysCall → List ℕ → List ArgText → Snapshot
 copies seq pid ids policy rule call regs parts =
-    record { seq = seq; pid = pid; ids = ids; policy = codes policy; rule = rule; call = call; regs = regs; parts = parts }
+    record { seq = seq; pid = pid; ids = ids; policy = codes policy; version = 0; rule = rule; call = call; regs = regs; parts = parts }
+
+-- the same copies at a version of their policy
+abbrev pub at_version : ℕ → Snapshot → Snapshot
+at_version version s = record s { version = version }

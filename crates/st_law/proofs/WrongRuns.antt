@@ -48,32 +48,32 @@ use Rattle.st_law.proofs.Scripts.{etc_files, tmp_dir, passwd_only, cat_input, as
 
 -- ---- impossible equalities
 
-not_true : false ≡ true → ⊥
+pub not_true : false ≡ true → ⊥
 not_true e = cc
 
-not_false : true ≡ false → ⊥
+pub not_false : true ≡ false → ⊥
 not_false e = cc
 
-unequal : (m n : ℕ) → (m == n) ≡ false → m ≡ n → ⊥
+pub unequal : (m n : ℕ) → (m == n) ≡ false → m ≡ n → ⊥
 unequal m n d e = let t : (m == n) ≡ true = eq-eqb m n e in cc
 
 not_none : {A : Type 0} (a : A) → Some a ≡ None → ⊥
 not_none a e = cc
 
-not_empty : {A : Type 0} (a : A) (more : List A) → [] ≡ a ∷ more → ⊥
+pub not_empty : {A : Type 0} (a : A) (more : List A) → [] ≡ a ∷ more → ⊥
 not_empty a more e = cc
 
-not_permit : (n m : ℕ) (errno : Errno) (granted : Ids) → Refuse n errno ≡ Permit m granted → ⊥
+pub not_permit : (n m : ℕ) (errno : Errno) (granted : Ids) → Refuse n errno ≡ Permit m granted → ⊥
 not_permit n m errno granted e = cc
 
-not_unmatched : (n : ℕ) (errno : Errno) → Refuse n errno ≡ Unmatched → ⊥
+pub not_unmatched : (n : ℕ) (errno : Errno) → Refuse n errno ≡ Unmatched → ⊥
 not_unmatched n errno e = cc
 
 permit_decides : (n : ℕ) (granted : Ids) → Permit n granted ≡ Unmatched → ⊥
 permit_decides n granted e = cc
 
 -- the copies of a number are these, so what holds of the copies found holds of these
-said_of : {R : Type 0} (said : Snapshot → R) (s u : Snapshot) (v w : R) → Some s ≡ Some u → said s ≡ v → said u ≡ w → v ≡ w
+pub said_of : {R : Type 0} (said : Snapshot → R) (s u : Snapshot) (v w : R) → Some s ≡ Some u → said s ≡ v → said u ≡ w → v ≡ w
 said_of said s u v w e is so = sym is ∙ ap said (same_Some s u e) ∙ so
 
 -- ---- the use of a name

@@ -6,10 +6,10 @@ use Rattle.st_base.specs.declared.errno.Errno.{Errno}
 use Rattle.st_base.specs.declared.ids.Ids.{Ids}
 use Rattle.st_calls.specs.Call.{rule_of}
 use Rattle.st_calls.specs.declared.judged.Snapshot.{Snapshot}
+use Rattle.st_filter.specs.Policies.{binary_of_block, with_binary}
 use Rattle.st_filter.specs.declared.set.Reply.{Reply}
 use Rattle.st_model.specs.DescriptorCalls.{table_after_close_all}
 use Rattle.st_model.specs.Descriptors.{Table}
-use Rattle.st_model.specs.Process.{Process}
 use Rattle.st_names.specs.Name.{Components}
 use Rattle.st_names.specs.declared.seen.SeenText.{SeenText}
 use Rattle.st_effects.specs.Effect.{effect}
@@ -17,18 +17,19 @@ use Rattle.st_trace.specs.declared.entry.CallResult.TheVariants.{Value}
 use Rattle.st_trace.specs.declared.entry.Change.{Change}
 use Rattle.st_trace.specs.declared.entry.Change.TheVariants.{Put, Forked, Execed, SetIds, Cwd, Dying, Renewed, Policy}
 use Rattle.st_trace.specs.declared.entry.Entry.{Entry}
-use Rattle.st_trace.specs.declared.entry.Entry.TheVariants.{Stored, Entered, Claimed, Copied, Looked, Faulted, Answered, Used, Denied, Ended, Learned, Replied}
+use Rattle.st_trace.specs.declared.entry.Entry.TheVariants.{Stored, Entered, Claimed, Copied, Looked, Faulted, Answered, Used, Denied, Ended, Learned, Replied, Reloaded}
 use Rattle.st_trace.specs.declared.entry.Way.TheVariants.{Held}
 use Rattle.st_trace.specs.declared.start.Instr.{Instr}
 use Rattle.st_trace.specs.declared.start.Instr.TheVariants.{Fork}
 use Rattle.st_law.specs.declared.input.Input.{Input}
-use Rattle.st_law.specs.History.{message_at, session_at, looking_back, descriptors_at}
+use Rattle.st_law.specs.History.{changed_at, message_at, session_at, looking_back, descriptors_at}
 use Rattle.st_law.specs.Messages.{Head, head_at, words_at, lookups_at, turn_at}
 use Rattle.st_law.specs.Processes.{process_at, byte_at}
 use Rattle.st_law.specs.Sessions.{SessionFilter, learnt_filter}
 use Rattle.st_law.specs.Splits.{NoneIn, SomeIn, LastGives, NoneTouches}
 use Rattle.st_law.specs.State.{thread_count, system_of, request_of, snapshot_of_message}
 use Rattle.st_law.specs.Threads.{History, PendingCall, owner_at, left_at, number_at, has_ended_at}
+use Rattle.st_law.specs.Versions.{version_at}
 
 -- ---- threads
 
@@ -40,6 +41,7 @@ IsFork t _ = ⊥
 -- an entry has a change that starts thread t
 abbrev pub Forks : ℕ → Entry → History → Type 0
 Forks t (Used u seq call regs args ids result changes) h = SomeIn (IsFork t) changes
+Forks t (Reloaded u n done changes) h = SomeIn (IsFork t) changes
 Forks t _ h = ⊥
 
 -- the first of these changes that starts thread t starts it in this process
@@ -53,12 +55,14 @@ pub record StartsIn (t pid : ℕ) (changes : List Change) : Type 0 where
 -- an entry starts thread t in this process
 abbrev pub Starts : ℕ → ℕ → Entry → Type 0
 Starts t pid (Used u seq call regs args ids result changes) = StartsIn t pid changes
+Starts t pid (Reloaded u n done changes) = StartsIn t pid changes
 Starts t pid _ = ⊥
 
 -- an entry takes the first instruction that thread t has left, and leaves it these
 abbrev pub GivesLeft : Input → ℕ → Entry → History → List Instr → Type 0
 GivesLeft i t (Stored u place word) h v = (first : Instr) × (u ≡ t) × (left_at i h t ≡ first ∷ v)
 GivesLeft i t (Entered u call regs way) h v = (first : Instr) × (u ≡ t) × (left_at i h t ≡ first ∷ v)
+GivesLeft i t (Reloaded u n done changes) h v = (first : Instr) × (u ≡ t) × (left_at i h t ≡ first ∷ v)
 GivesLeft i t _ h v = ⊥
 
 -- the next instruction starts this thread, 0 if it starts none
@@ -91,12 +95,14 @@ pub record RenewsAs (q p : ℕ) (changes : List Change) : Type 0 where
 abbrev pub GivesNumber : ℕ → Entry → History → ℕ → Type 0
 GivesNumber t (Entered u call regs (Held q)) h v = (u ≡ t) × (v ≡ q)
 GivesNumber t (Used u seq call regs args ids result changes) h v = RenewsAs (number_at h t) v changes
+GivesNumber t (Reloaded u n done changes) h v = RenewsAs (number_at h t) v changes
 GivesNumber t _ h v = ⊥
 
 -- an entry gives thread t a number, or renews the number that it has
 abbrev pub TouchesNumber : ℕ → Entry → History → Type 0
 TouchesNumber t (Entered u call regs (Held q)) h = u ≡ t
 TouchesNumber t (Used u seq call regs args ids result changes) h = SomeIn (Renews (number_at h t)) changes
+TouchesNumber t (Reloaded u n done changes) h = SomeIn (Renews (number_at h t)) changes
 TouchesNumber t _ h = ⊥
 
 -- a change made by thread u leaves thread t dying: it kills the process of t, or u executes another binary in it
@@ -108,6 +114,7 @@ Kills i t u h _ = ⊥
 -- an entry leaves thread t dying
 abbrev pub LeavesDying : Input → ℕ → Entry → History → Type 0
 LeavesDying i t (Used u seq call regs args ids result changes) h = SomeIn (Kills i t u h) changes
+LeavesDying i t (Reloaded u n done changes) h = SomeIn (Kills i t u h) changes
 LeavesDying i t _ h = ⊥
 
 -- an entry is the end of thread t
@@ -200,6 +207,7 @@ TouchesByte i s b _ h = ⊥
 abbrev pub changes_so_far : History → List Change
 changes_so_far [] = []
 changes_so_far (Used t seq call regs args ids result changes ∷ h) = changes_so_far h ++ changes
+changes_so_far (Reloaded t n done changes ∷ h) = changes_so_far h ++ changes
 changes_so_far (_ ∷ h) = changes_so_far h
 
 -- ---- messages
@@ -215,6 +223,7 @@ abbrev pub numbers_so_far : History → List ℕ
 numbers_so_far [] = []
 numbers_so_far (Entered t call regs (Held q) ∷ h) = numbers_so_far h ++ q ∷ []
 numbers_so_far (Used t seq call regs args ids result changes ∷ h) = numbers_so_far h ++ new_numbers changes
+numbers_so_far (Reloaded t n done changes ∷ h) = numbers_so_far h ++ new_numbers changes
 numbers_so_far (_ ∷ h) = numbers_so_far h
 
 -- a change renews a number as number q
@@ -222,24 +231,26 @@ abbrev pub RenewsTo : ℕ → Change → Type 0
 RenewsTo q (Renewed old new) = new ≡ q
 RenewsTo q _ = ⊥
 
--- the head of the old number with the ids and the directory of this process; none if the old number has none
-abbrev pub IsRenewedHead : Process → Option Head → Option Head → Type 0
-IsRenewedHead process None v = v ≡ None
-IsRenewedHead process (Some head) v = v ≡ Some (record {
+-- the head of the old number with the ids and the directory of its process, and the version of its policy, after these entries; none if the
+-- old number has none
+abbrev pub IsRenewedHead : Input → History → Option Head → Option Head → Type 0
+IsRenewedHead i after None v = v ≡ None
+IsRenewedHead i after (Some head) v = v ≡ Some (record {
   tid = head.tid;
   pid = head.pid;
-  ids = process.ids;
-  cwd = process.cwd;
+  ids = (process_at i after head.pid).ids;
+  cwd = (process_at i after head.pid).cwd;
   policy = head.policy;
+  version = version_at i after head.policy;
   rule = head.rule;
   call = head.call;
   regs = head.regs;
 })
 
--- a change gives number q its head, by the heads before the entry and the process after the entry
-abbrev pub GivesHeadIn : Input → ℕ → History → Process → List Change → Change → Option Head → Type 0
-GivesHeadIn i q h process before (Renewed old new) v = (new ≡ q) × IsRenewedHead process (head_at i h old) v
-GivesHeadIn i q h process before _ v = ⊥
+-- a change gives number q its head, by the entries before that of the change, and those up to it
+abbrev pub GivesHeadIn : Input → ℕ → History → History → List Change → Change → Option Head → Type 0
+GivesHeadIn i q h after before (Renewed old new) v = (new ≡ q) × IsRenewedHead i after (head_at i h old) v
+GivesHeadIn i q h after before _ v = ⊥
 
 -- an entry gives number q its head: a call that is held under q, with its thread and process as they are then, or the last renewal as q
 abbrev pub GivesHead : Input → ℕ → Entry → History → Option Head → Type 0
@@ -249,18 +260,21 @@ GivesHead i q (Entered t call regs (Held p)) h v = (p ≡ q) × (v ≡ Some (rec
   ids = (process_at i h (owner_at i h t)).ids;
   cwd = (process_at i h (owner_at i h t)).cwd;
   policy = (process_at i h (owner_at i h t)).policy;
+  version = version_at i h (process_at i h (owner_at i h t)).policy;
   rule = rule_of call regs i.options.aliasing;
   call = call;
   regs = regs;
 }))
 GivesHead i q (Used u seq call regs args ids result changes) h v =
-    LastGives (RenewsTo q) (GivesHeadIn i q h (process_at i (Used u seq call regs args ids result changes ∷ h) (owner_at i h u))) changes v
+    LastGives (RenewsTo q) (GivesHeadIn i q h (Used u seq call regs args ids result changes ∷ h)) changes v
+GivesHead i q (Reloaded u n done changes) h v = LastGives (RenewsTo q) (GivesHeadIn i q h (Reloaded u n done changes ∷ h)) changes v
 GivesHead i q _ h v = ⊥
 
 -- an entry posts number q
 abbrev pub Posts : ℕ → Entry → History → Type 0
 Posts q (Entered t call regs (Held p)) h = p ≡ q
 Posts q (Used u seq call regs args ids result changes) h = SomeIn (RenewsTo q) changes
+Posts q (Reloaded u n done changes) h = SomeIn (RenewsTo q) changes
 Posts q _ h = ⊥
 
 -- an entry claims number q
@@ -292,6 +306,7 @@ AnswersTo q _ h = ⊥
 abbrev pub Closes : ℕ → Entry → History → Type 0
 Closes q (Used t seq call regs args ids result changes) h = (seq ≡ Some q) ⊎ SomeIn (Renews q) changes
 Closes q (Denied t seq errno cause) h = seq ≡ Some q
+Closes q (Reloaded t n done changes) h = SomeIn (Renews q) changes
 Closes q _ h = ⊥
 
 -- number q is live, with this head: some entry posted it with this head, and no later entry makes or denies its call, renews it, or leaves
@@ -313,6 +328,18 @@ GivesTurn w (Answered v snapshot verdict applied) h o = (v ≡ w) × (o ≡ None
 GivesTurn w (Faulted q errno) h o = (turn_at h w ≡ Some q) × (o ≡ None)
 GivesTurn w _ h o = ⊥
 
+-- ---- the versions of policies
+
+-- an entry is a reload of the policy of this binary that is done
+abbrev pub Reloads : Input → List ℕ → Entry → History → Type 0
+Reloads i binary (Reloaded t n done changes) h = (done ≡ true) × (binary_of_block i.policies n ≡ Some binary)
+Reloads i binary _ h = ⊥
+
+-- an entry gives the policy of this binary a version: a reload that is done puts the script's policy of its number in force
+abbrev pub GivesVersion : Input → List ℕ → Entry → History → ℕ → Type 0
+GivesVersion i binary (Reloaded t n done changes) h v = (done ≡ true) × (binary_of_block i.policies n ≡ Some binary) × (v ≡ n)
+GivesVersion i binary _ h v = ⊥
+
 -- ---- the session
 
 -- an entry appends one filter to the session, for the policy and the rule of the copies of its number
@@ -322,6 +349,15 @@ GivesSession i (Learned q number) h v = (s : Snapshot) × (snapshot_of_message q
 GivesSession i (Replied q n number) h v = (s : Snapshot) × (reply : Reply) × (snapshot_of_message q (message_at i h q) ≡ Some s)
     × (item_at_number i.replies n ≡ Some reply) × (v ≡ session_at i h ++ record { policy = s.policy; rule = s.rule; filter = reply.filter } ∷ [])
 GivesSession i _ h v = ⊥
+
+-- an entry makes this the list of the binaries whose policies the run has changed: the binary of the copies of the number that it gives a
+-- filter, or that of its reload that is done, is appended if it isn't among them
+abbrev pub GivesChanged : Input → Entry → History → List (List ℕ) → Type 0
+GivesChanged i (Learned q number) h v = (s : Snapshot) × (snapshot_of_message q (message_at i h q) ≡ Some s) × (v ≡ with_binary (changed_at i h) s.policy)
+GivesChanged i (Replied q n number) h v = (s : Snapshot) × (reply : Reply) × (snapshot_of_message q (message_at i h q) ≡ Some s)
+    × (item_at_number i.replies n ≡ Some reply) × (v ≡ with_binary (changed_at i h) s.policy)
+GivesChanged i (Reloaded t n done changes) h v = (binary : List ℕ) × (done ≡ true) × (binary_of_block i.policies n ≡ Some binary) × (v ≡ with_binary (changed_at i h) binary)
+GivesChanged i _ h v = ⊥
 
 -- an entry gives reply n
 abbrev pub Replies : ℕ → Entry → History → Type 0

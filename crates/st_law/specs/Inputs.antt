@@ -11,9 +11,10 @@ use Rattle.st_model.specs.declared.limits.TheConstants.{LONGEST_TEXT}
 use Rattle.st_model.specs.declared.object.NewKind.{NewKind}
 use Rattle.st_model.specs.declared.object.NewKind.TheVariants as kind
 use Rattle.st_trace.specs.declared.start.Instr.{Instr}
-use Rattle.st_trace.specs.declared.start.Instr.TheVariants.{Store, Call, Fork}
+use Rattle.st_trace.specs.declared.start.Instr.TheVariants.{Store, Call, Fork, Reload}
 use Rattle.st_trace.specs.declared.start.TreeRow.{TreeRow}
 use Rattle.st_law.specs.declared.input.Input.{Input}
+use Rattle.st_law.specs.declared.input.Mode.TheVariants.{Learn}
 use Rattle.st_law.specs.Processes.{process_count, tree_with_row}
 use Rattle.st_law.specs.State.{thread_count}
 use Rattle.st_law.specs.Threads.{first_owner}
@@ -27,11 +28,17 @@ HasProcess count (Some p) = (1 ≤ p) × (p ≤ count)
 abbrev pub IsThread : Input → ℕ → Type 0
 IsThread i t = (1 ≤ t) × (t ≤ thread_count i)
 
--- an instruction that forks names the thread that it starts, and no call instruction is a fork
+-- a number is that of a policy of the script
+abbrev pub IsBlock : Input → ℕ → Type 0
+IsBlock i n = (1 ≤ n) × (n ≤ length i.policies.blocks)
+
+-- an instruction that forks names the thread that it starts, and no call instruction is a fork; a reload names a policy of the script, and
+-- there is none in a run that learns
 abbrev pub IsInstruction : Input → Instr → Type 0
 IsInstruction i (Store place word) = Unit {0}
 IsInstruction i (Call call regs) = call ≢ calls.Fork
 IsInstruction i (Fork child) = IsThread i child
+IsInstruction i (Reload n) = IsBlock i n × (i.options.mode ≢ Learn)
 
 -- a new object is no link, or a link whose target isn't too long
 abbrev pub HasShortTarget : NewKind → Type 0

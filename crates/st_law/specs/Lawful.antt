@@ -10,7 +10,7 @@ use Rattle.st_calls.specs.declared.judged.Verdict.{Verdict}
 use Rattle.st_calls.specs.declared.judged.Verdict.TheVariants.{Permit, Refuse, Unmatched}
 use Rattle.st_calls.specs.declared.rule.FastAnswer.{FastAnswer}
 use Rattle.st_calls.specs.declared.rule.FastAnswer.TheVariants as answer
-use Rattle.st_filter.specs.Judging.{verdict}
+use Rattle.st_filter.specs.Judged.{verdict_under}
 use Rattle.st_names.specs.Name.{Components}
 use Rattle.st_names.specs.declared.seen.SeenText.{SeenText}
 use Rattle.st_model.specs.Tree.{look}
@@ -23,15 +23,15 @@ use Rattle.st_trace.specs.declared.entry.Cause.{Cause}
 use Rattle.st_trace.specs.declared.entry.Cause.TheVariants.{Filter, NoFilter, Fault, Link}
 use Rattle.st_trace.specs.declared.entry.Change.{Change}
 use Rattle.st_trace.specs.declared.entry.Entry.{Entry}
-use Rattle.st_trace.specs.declared.entry.Entry.TheVariants.{Stored, Entered, Claimed, Copied, Looked, Faulted, Answered, Used, Denied, Ended, Replied, Learned}
+use Rattle.st_trace.specs.declared.entry.Entry.TheVariants.{Stored, Entered, Claimed, Copied, Looked, Faulted, Answered, Used, Denied, Ended, Replied, Learned, Reloaded}
 use Rattle.st_trace.specs.declared.entry.Way.{Way}
 use Rattle.st_trace.specs.declared.entry.Way.TheVariants.{Fast, Barred, Held, Untraced}
 use Rattle.st_trace.specs.declared.start.Instr.{Instr}
-use Rattle.st_trace.specs.declared.start.Instr.TheVariants.{Store}
+use Rattle.st_trace.specs.declared.start.Instr.TheVariants.{Store, Reload}
 use Rattle.st_law.specs.declared.input.Input.{Input}
 use Rattle.st_law.specs.declared.input.Mode.TheVariants.{Learn, AskText}
 use Rattle.st_law.specs.History.{looking_back}
-use Rattle.st_law.specs.State.{State, process_in, is_live, progress_in, snapshot_in, is_worker, worker_at, read_at, decision_in, answer_in, filter_count, is_reply_left, is_question, system_of, request_of, arguments_now, link_now, word_for}
+use Rattle.st_law.specs.State.{State, process_in, is_live, progress_in, snapshot_in, is_worker, worker_at, decision_in, answer_in, filter_count, is_reply_left, is_question, system_of, request_of, arguments_now, link_now, may_reload, reload_changes, word_for}
 use Rattle.st_law.specs.Threads.{History}
 
 -- ---- entries of threads
@@ -66,6 +66,16 @@ pub record IsEntered (i : Input) (st : State) (t : ℕ) (call : SysCall) (regs :
   pub next : (st.threads t).left ≡ instruction ∷ later
   pub makes : IsCallOf instruction call regs
   pub way_is : IsWay (process_in st t).traced (suc st.posted) way (answer_in i st (process_in st t) call regs)
+
+-- a thread reloads the policy that its next instruction names, while no call is pending. It is done exactly if its process may reload; then
+-- each live message under the policy is renewed.
+pub record IsReloaded (i : Input) (st : State) (t n : ℕ) (done : Bool) (changes : List Change) : Type 0 where
+  pub running : IsRunning st t
+  pub idle : (st.threads t).pending ≡ None
+  pub later : List Instr
+  pub next : (st.threads t).left ≡ Reload n ∷ later
+  pub done_is : done ≡ may_reload (process_in st t)
+  pub changes_are : changes ≡ reload_changes i st n done
 
 -- a thread ends if it is dying, or if nothing is left of its body and no call is pending
 pub record IsEnded (st : State) (t : ℕ) : Type 0 where
@@ -106,13 +116,13 @@ pub record IsFaulted (i : Input) (st : State) (q : ℕ) (errno : Errno) : Type 0
   pub served : IsServed i st q
   pub due : progress_in st q ≡ Stuck errno
 
--- a worker answers with the verdict of the filters that were read on the copies of its number; the answer is applied exactly if the number
--- is live
+-- a worker answers with the verdict on the copies of its number of the filters in force at their version; the answer is applied exactly if
+-- the number is live
 pub record IsAnswered (i : Input) (st : State) (w : ℕ) (s : Snapshot) (v : Verdict) (applied : Bool) : Type 0 where
   pub worker : is_worker i w ≡ true
   pub at : worker_at st w ≡ Some s.seq
   pub copies : snapshot_in st s.seq ≡ Some s
-  pub verdict_is : v ≡ verdict (read_at i st s.policy s.rule) s
+  pub verdict_is : v ≡ verdict_under i.policies s
   pub applied_is : applied ≡ is_live st s.seq
 
 -- ---- calls that aren't held
@@ -162,13 +172,13 @@ pub record IsUsedUnheld (i : Input) (st : State) (t : ℕ) (call : SysCall) (reg
   pub identity : ids ≡ (process_in st t).ids
   pub outcome : IsUnheldOutcome i st t call regs ids (arguments_now i st t call regs) args result changes
 
--- the pending call, which is barred, is denied with the error of the filter that bars it, and that filter is the cause
+-- the pending call, which is barred, is denied with the error of the filter that barred it when it was entered, and that filter is the cause
 pub record IsDeniedBarred (i : Input) (st : State) (t : ℕ) (errno : Errno) (cause : Cause) : Type 0 where
   pub running : IsRunning st t
   pub call : SysCall
   pub regs : List ℕ
   pub entered : IsPending st t call regs (Barred 1)
-  pub refused : answer_in i st (process_in st t) call regs ≡ answer.Refuse errno
+  pub refused : (st.threads t).answer ≡ answer.Refuse errno
   pub cause_is : cause ≡ Filter 1
 
 -- ---- held calls
@@ -186,12 +196,14 @@ pub record IsJudged (st : State) (q : ℕ) (s : Snapshot) : Type 0 where
   pub unfaulted : (st.messages q).fault ≡ None
   pub copies : snapshot_in st q ≡ Some s
 
--- the first filter that holds of a number's copies permits them under these ids, and the copies have the current ids of its process
+-- the first filter that holds of a number's copies permits them under these ids; the copies have the current ids of its process, and the
+-- version of their policy that is in force
 pub record IsPermitted (i : Input) (st : State) (t q : ℕ) (s : Snapshot) (ids : Ids) : Type 0 where
   pub judged : IsJudged st q s
   pub filter : ℕ
   pub permitted : decision_in i st s ≡ Permit filter ids
   pub identity : s.ids ≡ (process_in st t).ids
+  pub version : s.version ≡ st.versions s.policy
 
 -- the pending call, which is held, is made with exactly the copies that its filters permitted, under the ids that they granted, and no link
 -- is in its way
@@ -273,6 +285,7 @@ IsLawful i st (Denied t seq errno cause) = IsDenied i st t seq errno cause
 IsLawful i st (Ended t) = IsEnded st t
 IsLawful i st (Replied q reply n) = IsReplied i st q reply n
 IsLawful i st (Learned q n) = IsLearned i st q n
+IsLawful i st (Reloaded t n done changes) = IsReloaded i st t n done changes
 
 -- each entry of a history is lawful in the state after the entries before it
 abbrev pub IsLawfulBack : Input → History → Type 0

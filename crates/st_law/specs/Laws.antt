@@ -1,5 +1,5 @@
 -- The conclusions of the laws of runs, apart from the lawfulness of each entry.
-use Rattle.std.specs.Prelude.{◌≡◌, ◌≢◌, ◌≤◌, ◌<◌, ◌⊎◌, ℕ, suc, false, List, [], ◌∷◌, ◌++◌, length, slice_get, None, Some}
+use Rattle.std.specs.Prelude.{◌≡◌, ◌≢◌, ◌≤◌, ◌<◌, ◌⊎◌, ℕ, suc, false, List, [], ◌∷◌, ◌++◌, drop, length, slice_get, None, Some}
 use Rattle.st_calls.specs.Argument.{name_of_label}
 use Rattle.st_base.specs.declared.ids.Ids.{Ids}
 use Rattle.st_calls.specs.declared.argument.ArgText.{ArgText}
@@ -10,17 +10,17 @@ use Rattle.st_calls.specs.declared.judged.Verdict.TheVariants.{Permit, Unmatched
 use Rattle.st_effects.specs.System.{HeldCall}
 use Rattle.st_trace.specs.Instructions.{IsCallOf}
 use Rattle.st_trace.specs.declared.entry.Entry.{Entry}
-use Rattle.st_trace.specs.declared.entry.Entry.TheVariants.{Stored, Entered}
+use Rattle.st_trace.specs.declared.entry.Entry.TheVariants.{Stored, Entered, Reloaded}
 use Rattle.st_trace.specs.declared.entry.Way.TheVariants.{Held}
 use Rattle.st_trace.specs.declared.start.Instr.{Instr}
-use Rattle.st_trace.specs.declared.start.Instr.TheVariants.{Store}
+use Rattle.st_trace.specs.declared.start.Instr.TheVariants.{Store, Reload}
 use Rattle.st_law.specs.declared.input.Input.{Input}
-use Rattle.st_law.specs.History.{looking_back}
+use Rattle.st_law.specs.History.{looking_back, thread_at}
 use Rattle.st_law.specs.Machine.{state_of_run, IsSettled}
 use Rattle.st_law.specs.Messages.{turn_at}
 use Rattle.st_law.specs.Schedules.{Played}
 use Rattle.st_law.specs.State.{State}
-use Rattle.st_law.specs.Threads.{History, PendingCall}
+use Rattle.st_law.specs.Threads.{History, PendingCall, left_at}
 
 -- a call of a number is made with the copies that its answer judged and, if the answer decided, under the ids that it granted
 pub record IsUsedAsAnswered (s : Snapshot) (v : Verdict) (call : SysCall) (regs : List ℕ) (args : List ArgText) (ids : Ids) : Type 0 where
@@ -53,6 +53,12 @@ pub record IsStale (i : Input) (h : History) (w : ℕ) (e : Entry) : Type 0 wher
   pub own : turn_at (e ∷ h) w ≡ None
   pub others : (u : ℕ) → u ≢ w → turn_at (e ∷ h) u ≡ turn_at h u
 
+-- an entry changes nothing except that this thread goes past its next instruction
+pub record IsPassedBy (i : Input) (h : History) (t : ℕ) (e : Entry) : Type 0 where
+  pub record_stays : looking_back i (e ∷ h) ≡ record (looking_back i h) { threads = thread_at i (e ∷ h) }
+  pub own : thread_at i (e ∷ h) t ≡ record (thread_at i h t) { left = drop 1 (left_at i h t) }
+  pub others : (u : ℕ) → u ≢ t → thread_at i (e ∷ h) u ≡ thread_at i h u
+
 -- ---- the instructions that a thread has begun, in order
 
 -- an own entry of the thread appends this instruction to those begun before it; an entry of another thread appends none
@@ -61,11 +67,12 @@ IsBegun u t Is Before begun =
     ((u ≡ t) × ((earlier : List Instr) × (instruction : Instr) × Is instruction × Before earlier × (begun ≡ earlier ++ instruction ∷ []))) ⊎
     ((u ≢ t) × Before begun)
 
--- these are the instructions that a thread has stored and entered, in order
+-- these are the instructions that a thread has stored, entered and reloaded, in order
 abbrev pub HasBegun : ℕ → History → List Instr → Type 0
 HasBegun t [] begun = begun ≡ []
 HasBegun t (Stored u place word ∷ h) begun = IsBegun u t (λ instruction. instruction ≡ Store place word) (HasBegun t h) begun
 HasBegun t (Entered u call regs way ∷ h) begun = IsBegun u t (λ instruction. IsCallOf instruction call regs) (HasBegun t h) begun
+HasBegun t (Reloaded u n done changes ∷ h) begun = IsBegun u t (λ instruction. instruction ≡ Reload n) (HasBegun t h) begun
 HasBegun t (_ ∷ h) begun = HasBegun t h begun
 
 -- ---- what a call sees

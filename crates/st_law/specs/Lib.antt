@@ -17,4 +17,5 @@ pub mod Sessions
 pub mod Splits
 pub mod State
 pub mod Threads
+pub mod Versions
 pub mod Recorded

@@ -1,5 +1,5 @@
 -- The machine: a state and a choice give at most one entry, and a state and an entry give the next state.
-use Rattle.std.specs.Prelude.{◌≡◌, ℕ, suc, false, ◌||◌, ◌==◌, if◌then◌else◌, List, [], ◌∷◌, reverse, Option, Some, None}
+use Rattle.std.specs.Prelude.{◌≡◌, ℕ, suc, Bool, false, ◌||◌, ◌==◌, if◌then◌else◌, List, [], ◌∷◌, reverse, Option, Some, None}
 use Rattle.st_base.specs.declared.errno.Errno.{Errno}
 use Rattle.st_base.specs.declared.errno.Errno.TheVariants.{EPERM, ELOOP}
 use Rattle.st_base.specs.declared.ids.Ids.{Ids}
@@ -11,7 +11,7 @@ use Rattle.st_calls.specs.declared.judged.Verdict.{Verdict}
 use Rattle.st_calls.specs.declared.judged.Verdict.TheVariants.{Permit, Refuse, Unmatched}
 use Rattle.st_calls.specs.declared.rule.FastAnswer.{FastAnswer}
 use Rattle.st_calls.specs.declared.rule.FastAnswer.TheVariants as answer
-use Rattle.st_filter.specs.Judging.{verdict}
+use Rattle.st_filter.specs.Judged.{verdict_under}
 use Rattle.st_model.specs.Tree.{look}
 use Rattle.st_names.specs.Name.{Components}
 use Rattle.st_effects.specs.Changes.{owner_after, dying_after, tree_after, process_after, next_process_after, next_space_after}
@@ -24,25 +24,26 @@ use Rattle.st_trace.specs.declared.entry.Cause.TheVariants.{Filter, NoFilter, Fa
 use Rattle.st_trace.specs.declared.entry.Choice.{Choice}
 use Rattle.st_trace.specs.declared.entry.Choice.TheVariants as choice
 use Rattle.st_trace.specs.declared.entry.Entry.{Entry}
-use Rattle.st_trace.specs.declared.entry.Entry.TheVariants.{Stored, Entered, Claimed, Copied, Looked, Faulted, Answered, Used, Denied, Ended, Learned, Replied}
+use Rattle.st_trace.specs.declared.entry.Entry.TheVariants.{Stored, Entered, Claimed, Copied, Looked, Faulted, Answered, Used, Denied, Ended, Learned, Replied, Reloaded}
 use Rattle.st_trace.specs.declared.entry.Way.{Way}
 use Rattle.st_trace.specs.declared.entry.Way.TheVariants.{Fast, Barred, Held, Untraced}
 use Rattle.st_trace.specs.declared.start.Instr.{Instr}
-use Rattle.st_trace.specs.declared.start.Instr.TheVariants.{Store, Call, Fork}
+use Rattle.st_trace.specs.declared.start.Instr.TheVariants.{Store, Call, Fork, Reload}
 use Rattle.st_law.specs.declared.input.Input.{Input}
 use Rattle.st_law.specs.declared.input.Mode.{Mode}
 use Rattle.st_law.specs.declared.input.Mode.TheVariants.{Enforce, Learn, AskText}
 use Rattle.st_law.specs.Messages.{head_after, posted_after, claimed_after, words_after, lookups_after, fault_after, answered_after, closed_after, turn_after}
 use Rattle.st_law.specs.Processes.{first_process, first_tree, first_descriptors, process_count, memory_after_entry}
 use Rattle.st_law.specs.Sessions.{session_after, replied_after, least_from}
-use Rattle.st_law.specs.State.{ThreadState, Message, State, process_in, is_live, progress_in, snapshot_in, snapshot_of_message, snapshot_of_progress, is_worker, worker_at, is_waiting, read_at, decision_in, answer_in, filter_count, next_reply, is_question, system_of, request_of, arguments_now, link_now, word_for, table_after}
-use Rattle.st_law.specs.Threads.{History, PendingCall, changes_of, thread_of, first_owner, body_of, pending_after, left_after, ended_after, number_after}
+use Rattle.st_law.specs.State.{ThreadState, Message, State, process_in, is_live, progress_in, snapshot_in, snapshot_of_message, snapshot_of_progress, is_worker, worker_at, is_waiting, decision_in, answer_in, filter_count, next_reply, is_question, system_of, request_of, arguments_now, link_now, may_reload, reload_changes, word_for, table_after}
+use Rattle.st_law.specs.Threads.{History, PendingCall, changes_of, thread_of, first_owner, body_of, pending_after, left_after, answer_after, ended_after, number_after}
+use Rattle.st_law.specs.Versions.{changed_after, version_after}
 
 -- ---- the state
 
 -- a thread before the first entry
 abbrev pub first_thread : Input → ℕ → ThreadState
-first_thread i t = record { owner = first_owner i t; left = body_of i t; pending = None; number = 0; dying = false; ended = false }
+first_thread i t = record { owner = first_owner i t; left = body_of i t; pending = None; answer = answer.Ask; number = 0; dying = false; ended = false }
 
 -- a message that wasn't posted
 abbrev pub no_message : Message
@@ -61,16 +62,19 @@ first_state i = record {
   posted = 0;
   turns = λ w. None;
   session = [];
+  versions = λ binary. 0;
+  changed = [];
   replied = λ n. false;
   descriptors = first_descriptors i;
 }
 
 -- a thread after an entry
-abbrev pub thread_after : State → Entry → ℕ → ThreadState
-thread_after st e t = record {
+abbrev pub thread_after : Input → State → Entry → ℕ → ThreadState
+thread_after i st e t = record {
   owner = owner_after t (st.threads t).owner (changes_of e);
   left = left_after e t (st.threads t).left;
   pending = pending_after e t (st.threads t).left (st.threads t).pending;
+  answer = answer_after (answer_in i st (process_in st t)) e t (st.threads t).answer;
   number = number_after e t (st.threads t).number;
   dying = dying_after t (st.threads t).owner (thread_of e) (st.threads (thread_of e)).owner (st.threads t).dying (changes_of e);
   ended = ended_after e t (st.threads t).ended;
@@ -79,7 +83,7 @@ thread_after st e t = record {
 -- the message of a number after an entry
 abbrev pub message_after : Input → State → Entry → ℕ → Message
 message_after i st e q = record {
-  head = head_after i st.processes (st.threads (thread_of e)).owner (λ p. (st.messages p).head) e q;
+  head = head_after i (λ binary. version_after i e binary (st.versions binary)) st.processes (st.threads (thread_of e)).owner (λ p. (st.messages p).head) e q;
   claimed = claimed_after e q (st.messages q).claimed;
   words = λ j. words_after e q j ((st.messages q).words j);
   lookups = λ j. lookups_after e q j ((st.messages q).lookups j);
@@ -91,7 +95,7 @@ message_after i st e q = record {
 -- the state after an entry
 abbrev pub state_after : Input → State → Entry → State
 state_after i st e = record {
-  threads = thread_after st e;
+  threads = thread_after i st e;
   processes = λ p. process_after st.processes (st.threads (thread_of e)).owner p (changes_of e);
   next_process = next_process_after st.next_process (changes_of e);
   next_space = next_space_after st.next_space (changes_of e);
@@ -101,6 +105,8 @@ state_after i st e = record {
   posted = posted_after e st.posted;
   turns = λ w. turn_after e w (st.turns w);
   session = session_after i.replies (λ q. snapshot_of_message q (st.messages q)) e st.session;
+  versions = λ binary. version_after i e binary (st.versions binary);
+  changed = changed_after i (λ q. snapshot_of_message q (st.messages q)) e st.changed;
   replied = λ n. replied_after e n (st.replied n);
   descriptors = table_after i st e;
 }
@@ -123,12 +129,17 @@ abbrev pub entered_entry : Input → State → ℕ → SysCall → List ℕ → 
 entered_entry i st t call regs =
     Some (Entered t call regs (if (process_in st t).traced then way_of_answer (suc st.posted) (answer_in i st (process_in st t) call regs) else Untraced))
 
+-- a thread reloads the policy of a binary, or is refused
+abbrev pub reloaded_entry : Input → State → ℕ → ℕ → Bool → Entry
+reloaded_entry i st t n done = Reloaded t n done (reload_changes i st n done)
+
 -- a thread without a pending call goes on to its next instruction, or ends after the last
 abbrev pub next_instruction_entry : Input → State → ℕ → List Instr → Option Entry
 next_instruction_entry i st t [] = Some (Ended t)
 next_instruction_entry i st t (Store place word ∷ later) = Some (Stored t place word)
 next_instruction_entry i st t (Call call regs ∷ later) = entered_entry i st t call regs
 next_instruction_entry i st t (Fork child ∷ later) = entered_entry i st t calls.Fork no_registers
+next_instruction_entry i st t (Reload n ∷ later) = Some (reloaded_entry i st t n (may_reload (process_in st t)))
 
 -- a call is made, with this outcome
 abbrev pub used_entry : ℕ → Option ℕ → SysCall → List ℕ → List ArgText → Ids → Outcome → Entry
@@ -150,7 +161,7 @@ unheld_entry i st t call regs ids (Look part name) = None
 unheld_entry i st t call regs ids (Stuck errno) = Some (failed_entry t call regs ids errno)
 unheld_entry i st t call regs ids (Ready args) = Some (unlinked_entry i st t call regs ids args (link_now i st call regs args))
 
--- a barred call is denied with the error of the filter that bars it
+-- a barred call is denied with the error of the filter that barred it
 abbrev pub barred_entry : ℕ → ℕ → FastAnswer → Option Entry
 barred_entry t n answer.Permit = None
 barred_entry t n (answer.Refuse errno) = Some (Denied t None errno (Filter n))
@@ -181,7 +192,7 @@ held_entry i st t q None = if (st.messages q).answered then answered_entry i st 
 abbrev pub pending_entry : Input → State → ℕ → SysCall → List ℕ → Way → Option Entry
 pending_entry i st t call regs Fast = unheld_entry i st t call regs (process_in st t).ids (arguments_now i st t call regs)
 pending_entry i st t call regs Untraced = unheld_entry i st t call regs (process_in st t).ids (arguments_now i st t call regs)
-pending_entry i st t call regs (Barred n) = barred_entry t n (answer_in i st (process_in st t) call regs)
+pending_entry i st t call regs (Barred n) = barred_entry t n (st.threads t).answer
 pending_entry i st t call regs (Held first) = held_entry i st t (st.threads t).number (st.messages (st.threads t).number).fault
 
 -- a thread goes on, by its pending call
@@ -207,10 +218,10 @@ abbrev pub claimed_entry : ℕ → Option ℕ → Option Entry
 claimed_entry w None = None
 claimed_entry w (Some q) = Some (Claimed w q)
 
--- a worker answers with the verdict of the filters that were read on these copies, if they are complete
+-- a worker answers with the verdict on these copies of the filters in force at their version, if they are complete
 abbrev pub answer_entry : Input → State → ℕ → ℕ → Option Snapshot → Option Entry
 answer_entry i st w q None = None
-answer_entry i st w q (Some s) = Some (Answered w s (verdict (read_at i st s.policy s.rule) s) (is_live st q))
+answer_entry i st w q (Some s) = Some (Answered w s (verdict_under i.policies s) (is_live st q))
 
 -- a worker copies the next word, looks up the next name, finds a fault, or answers
 abbrev pub working_entry : Input → State → ℕ → ℕ → Progress → Option Entry

@@ -12,7 +12,7 @@ use Rattle.st_calls.specs.declared.judged.Verdict.TheVariants.{Unmatched}
 use Rattle.st_calls.specs.declared.rule.Rule.{Rule}
 use Rattle.st_filter.specs.Formula.{True, FilterValue}
 use Rattle.st_filter.specs.Judging.{verdict}
-use Rattle.st_filter.specs.Policies.{read_filters}
+use Rattle.st_filter.specs.Policies.{filters_in_force}
 use Rattle.st_filter.specs.declared.filter.Action.TheVariants as action
 use Rattle.st_filter.specs.declared.filter.FilterName.TheVariants as name
 use Rattle.st_filter.specs.declared.set.Reply.{Reply}
@@ -58,6 +58,7 @@ pub record AreCopies (st : State) (q : ℕ) (s : Snapshot) : Type 0 where
   pub pid_is : s.pid ≡ head.pid
   pub ids_are : s.ids ≡ head.ids
   pub policy_is : s.policy ≡ head.policy
+  pub version_is : s.version ≡ head.version
   pub rule_is : s.rule ≡ head.rule
   pub call_is : s.call ≡ head.call
   pub regs_are : s.regs ≡ head.regs
@@ -83,10 +84,10 @@ AreKeptFor policy rule (kept ∷ session) n =
     (IsKeptFor policy rule kept × ((m : ℕ) × (n ≡ suc m) × AreKeptFor policy rule session m))
     ⊎ ((IsKeptFor policy rule kept → ⊥) × AreKeptFor policy rule session n)
 
--- the first filter of a policy and a rule: the first that was read, or the session's first if none was read
+-- the first filter of a policy and a rule: the first in force, or the session's first if none is in force
 abbrev pub IsFirstFilter : Input → State → List ℕ → Rule → FilterValue → Type 0
-IsFirstFilter i st policy rule f = ((more : List FilterValue) × (read_filters i.policies policy rule ≡ f ∷ more))
-    ⊎ ((read_filters i.policies policy rule ≡ []) × IsFirstKept policy rule st.session f)
+IsFirstFilter i st policy rule f = ((more : List FilterValue) × (filters_in_force i.policies policy (st.versions policy) rule ≡ f ∷ more))
+    ⊎ ((filters_in_force i.policies policy (st.versions policy) rule ≡ []) × IsFirstKept policy rule st.session f)
 
 -- `true then permit`, without a grant, a log or a predicate
 pub record IsPlainPermit (f : FilterValue) : Type 0 where
@@ -118,14 +119,14 @@ abbrev pub IsNextReply : Input → State → List ℕ → Rule → Option ℕ �
 IsNextReply i st policy rule None = (r : ℕ) → IsLeft i st policy rule r → ⊥
 IsNextReply i st policy rule (Some r) = IsLeft i st policy rule r × ((k : ℕ) → k < r → IsLeft i st policy rule k → ⊥)
 
--- a number is a question: it is live and answered, neither the filters read nor the session's decide its copies, and the operator learns,
+-- a number is a question: it is live and answered, neither the filters in force nor the session's decide its copies, and the operator learns,
 -- or has a reply left for it
 pub record IsAsking (i : Input) (st : State) (q : ℕ) : Type 0 where
   pub live : is_live st q ≡ true
   pub answered : (st.messages q).answered ≡ true
   pub copies : Snapshot
   pub copied : snapshot_in st q ≡ Some copies
-  pub unread : verdict (read_filters i.policies copies.policy copies.rule) copies ≡ Unmatched
+  pub unread : verdict (filters_in_force i.policies copies.policy (st.versions copies.policy) copies.rule) copies ≡ Unmatched
   pub unkept : verdict (session_filters st.session copies.policy copies.rule) copies ≡ Unmatched
   pub operator : (i.options.mode ≡ Learn) ⊎ ((i.options.mode ≡ AskText) × ((r : ℕ) × IsLeft i st copies.policy copies.rule r))
 

@@ -14,11 +14,12 @@ use Rattle.st_effects.specs.Changes.{process_after}
 use Rattle.st_trace.specs.declared.entry.Change.{Change}
 use Rattle.st_trace.specs.declared.entry.Change.TheVariants.{Renewed}
 use Rattle.st_trace.specs.declared.entry.Entry.{Entry}
-use Rattle.st_trace.specs.declared.entry.Entry.TheVariants.{Entered, Claimed, Copied, Looked, Faulted, Answered, Used, Denied}
+use Rattle.st_trace.specs.declared.entry.Entry.TheVariants.{Entered, Claimed, Copied, Looked, Faulted, Answered, Used, Denied, Reloaded}
 use Rattle.st_trace.specs.declared.entry.Way.TheVariants.{Held}
 use Rattle.st_law.specs.declared.input.Input.{Input}
 use Rattle.st_law.specs.Threads.{History, thread_of, owner_at}
 use Rattle.st_law.specs.Processes.{process_at}
+use Rattle.st_law.specs.Versions.{version_at}
 
 -- a held call, as it was when its number was posted
 pub record Head : Type 0 where
@@ -27,20 +28,22 @@ pub record Head : Type 0 where
   pub ids : Ids
   -- the directory from which its relative names are resolved
   pub cwd : Components
-  -- the binary whose policy judges it
+  -- the binary whose policy judges it, and the version of that policy
   pub policy : List ℕ
+  pub version : ℕ
   pub rule : Rule
   pub call : SysCall
   pub regs : List ℕ
 
--- the head of the message that is posted for this call of a thread, whose process has this number and row
-abbrev pub new_head : Input → ℕ → ℕ → Process → SysCall → List ℕ → Head
-new_head i t pid process call regs = record {
+-- the head of the message that is posted for this call of a thread, whose process has this number and row, and this version of its policy
+abbrev pub new_head : Input → ℕ → ℕ → Process → ℕ → SysCall → List ℕ → Head
+new_head i t pid process version call regs = record {
   tid = t;
   pid = pid;
   ids = process.ids;
   cwd = process.cwd;
   policy = process.policy;
+  version = version;
   rule = rule_of call regs i.options.aliasing;
   call = call;
   regs = regs;
@@ -48,25 +51,30 @@ new_head i t pid process call regs = record {
 
 -- ---- what each entry does to the message of a number
 
--- the head of a renewed message: it has the current ids and directory
-abbrev pub renewed_head : Process → Head → Head
-renewed_head process head = record head { ids = process.ids; cwd = process.cwd }
+-- the head of a renewed message: it has the ids and the directory of its process, and the version of its policy, as they are now
+abbrev pub renewed_head : (ℕ → Process) → (List ℕ → ℕ) → Head → Head
+renewed_head processes versions head =
+    record head { version = versions head.policy; ids = (processes head.pid).ids; cwd = (processes head.pid).cwd }
 
--- the head of number q after a change, by the heads before the entry and the process after the entry
-abbrev pub head_after_change : (ℕ → Option Head) → Process → ℕ → Option Head → Change → Option Head
-head_after_change heads process q before (Renewed old new) = if new == q then option_map (renewed_head process) (heads old) else before
-head_after_change heads process q before _ = before
+-- the head of number q after a change, by the heads before the entry and what a renewal makes of a head
+abbrev pub head_after_change : (ℕ → Option Head) → (Head → Head) → ℕ → Option Head → Change → Option Head
+head_after_change heads renewed q before (Renewed old new) = if new == q then option_map renewed (heads old) else before
+head_after_change heads renewed q before _ = before
 
 -- the head of number q after changes
-abbrev pub head_after_changes : (ℕ → Option Head) → Process → ℕ → List Change → Option Head
-head_after_changes heads process q changes = fold (head_after_change heads process q) (heads q) changes
+abbrev pub head_after_changes : (ℕ → Option Head) → (Head → Head) → ℕ → List Change → Option Head
+head_after_changes heads renewed q changes = fold (head_after_change heads renewed q) (heads q) changes
 
--- the head of number q after an entry: a held call and a renewal each post one, by the number of the process and its row
-abbrev pub head_after : Input → (ℕ → Process) → ℕ → (ℕ → Option Head) → Entry → ℕ → Option Head
-head_after i processes m heads (Entered t call regs (Held p)) q = if p == q then Some (new_head i t m (processes m) call regs) else heads q
-head_after i processes m heads (Used t seq call regs args ids result changes) q =
-    head_after_changes heads (process_after processes m m changes) q changes
-head_after i processes m heads _ q = heads q
+-- the head of number q after an entry: a held call and a renewal each post one, by the versions after the entry, the rows of processes before
+-- it, and the number of the thread's process
+abbrev pub head_after : Input → (List ℕ → ℕ) → (ℕ → Process) → ℕ → (ℕ → Option Head) → Entry → ℕ → Option Head
+head_after i versions processes m heads (Entered t call regs (Held p)) q =
+    if p == q then Some (new_head i t m (processes m) (versions (processes m).policy) call regs) else heads q
+head_after i versions processes m heads (Used t seq call regs args ids result changes) q =
+    head_after_changes heads (renewed_head (λ p. process_after processes m p changes) versions) q changes
+head_after i versions processes m heads (Reloaded t n done changes) q =
+    head_after_changes heads (renewed_head (λ p. process_after processes m p changes) versions) q changes
+head_after i versions processes m heads _ q = heads q
 
 -- how many numbers were posted after a change
 abbrev pub posted_after_change : ℕ → Change → ℕ
@@ -77,6 +85,7 @@ posted_after_change before _ = before
 abbrev pub posted_after : Entry → ℕ → ℕ
 posted_after (Entered t call regs (Held q)) before = suc before
 posted_after (Used t seq call regs args ids result changes) before = fold posted_after_change before changes
+posted_after (Reloaded t n done changes) before = fold posted_after_change before changes
 posted_after _ before = before
 
 -- whether number q is claimed after an entry
@@ -113,6 +122,7 @@ is_renewed_by q before _ = before
 abbrev pub closed_after : Entry → ℕ → Bool → Bool
 closed_after (Used t seq call regs args ids result changes) q before = is_number q seq || fold (is_renewed_by q) before changes
 closed_after (Denied t seq errno cause) q before = is_number q seq || before
+closed_after (Reloaded t n done changes) q before = fold (is_renewed_by q) before changes
 closed_after _ q before = before
 
 -- ---- what each entry does to a worker's turn
@@ -134,7 +144,7 @@ turn_after _ w before = before
 -- the head of a number, none if it wasn't posted
 abbrev pub head_at : Input → History → ℕ → Option Head
 head_at i [] q = None
-head_at i (e ∷ h) q = head_after i (process_at i h) (owner_at i h (thread_of e)) (head_at i h) e q
+head_at i (e ∷ h) q = head_after i (version_at i (e ∷ h)) (process_at i h) (owner_at i h (thread_of e)) (head_at i h) e q
 
 -- how many numbers were posted; they are 1, 2, 3 and so on
 abbrev pub posted_at : History → ℕ

@@ -6,7 +6,7 @@ use Rattle.st_model.specs.Tree.{is_number}
 use Rattle.st_trace.specs.declared.entry.Change.{Change}
 use Rattle.st_trace.specs.declared.entry.Change.TheVariants.{Renewed}
 use Rattle.st_trace.specs.declared.entry.Entry.{Entry}
-use Rattle.st_trace.specs.declared.entry.Entry.TheVariants.{Entered, Claimed, Copied, Looked, Faulted, Answered, Used, Denied, Replied, Learned}
+use Rattle.st_trace.specs.declared.entry.Entry.TheVariants.{Entered, Claimed, Copied, Looked, Faulted, Answered, Used, Denied, Replied, Learned, Reloaded}
 use Rattle.st_trace.specs.declared.entry.Way.{Way}
 use Rattle.st_trace.specs.declared.entry.Way.TheVariants.{Held}
 use Rattle.st_law.specs.declared.input.Input.{Input}
@@ -86,6 +86,7 @@ numbers_after_change circle kept numbers _ = numbers
 abbrev pub numbers_after : ℕ → (ℕ → Bool) → Numbers → Entry → Numbers
 numbers_after circle kept numbers (Entered t call regs (Held q)) = drawn_as circle q numbers
 numbers_after circle kept numbers (Used t seq call regs args ids result changes) = fold (numbers_after_change circle kept) numbers changes
+numbers_after circle kept numbers (Reloaded t n done changes) = fold (numbers_after_change circle kept) numbers changes
 numbers_after circle kept numbers _ = numbers
 
 -- the numbers before the first entry
@@ -123,6 +124,7 @@ drawings_after_change drawings _ = drawings
 abbrev pub drawings_after : Drawings → Entry → Drawings
 drawings_after drawings (Entered t call regs (Held n)) = counted drawings n
 drawings_after drawings (Used t seq call regs args ids result changes) = fold drawings_after_change drawings changes
+drawings_after drawings (Reloaded t n done changes) = fold drawings_after_change drawings changes
 drawings_after drawings _ = drawings
 
 -- the drawings after a history of numbers
@@ -149,6 +151,7 @@ renumbered named new changed (Used t seq call regs args ids result changes) = Us
 renumbered named new changed (Denied t seq errno cause) = Denied t (option_map named seq) errno cause
 renumbered named new changed (Replied q reply n) = Replied (named q) reply n
 renumbered named new changed (Learned q n) = Learned (named q) n
+renumbered named new changed (Reloaded t n done changes) = Reloaded t n done (changed changes)
 renumbered named new changed e = e
 
 -- a change with the numbers of its drawings
@@ -210,4 +213,5 @@ NamesDrawing q (Used t seq call regs args ids result changes) = (seq ≡ Some q)
 NamesDrawing q (Denied t seq errno cause) = seq ≡ Some q
 NamesDrawing q (Replied p reply n) = p ≡ q
 NamesDrawing q (Learned p n) = p ≡ q
+NamesDrawing q (Reloaded t n done changes) = SomeIn (Renews q) changes
 NamesDrawing q _ = ⊥

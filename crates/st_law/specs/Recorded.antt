@@ -4,7 +4,7 @@ use Rattle.st_model.specs.Tree.{is_number}
 use Rattle.st_trace.specs.declared.entry.Choice.{Choice}
 use Rattle.st_trace.specs.declared.entry.Choice.TheVariants.{Thread, Worker, Operator}
 use Rattle.st_trace.specs.declared.entry.Entry.{Entry}
-use Rattle.st_trace.specs.declared.entry.Entry.TheVariants.{Stored, Entered, Claimed, Copied, Looked, Faulted, Answered, Used, Denied, Ended, Replied, Learned}
+use Rattle.st_trace.specs.declared.entry.Entry.TheVariants.{Stored, Entered, Claimed, Copied, Looked, Faulted, Answered, Used, Denied, Ended, Replied, Learned, Reloaded}
 use Rattle.st_law.specs.declared.input.Input.{Input}
 use Rattle.st_law.specs.History.{looking_back}
 use Rattle.st_law.specs.Sessions.{least_from}
@@ -29,6 +29,7 @@ choice_of i st (Denied t seq errno cause) = Thread t
 choice_of i st (Ended t) = Thread t
 choice_of i st (Replied q reply n) = Operator
 choice_of i st (Learned q n) = Operator
+choice_of i st (Reloaded t n done changes) = Thread t
 
 -- the choices that a history implies, the newest first, as its entries are
 abbrev pub choices_back : Input → History → List Choice

@@ -1,5 +1,5 @@
 -- The choices that a schedule gives, and the bounds of steps.
-use Rattle.std.specs.Prelude.{ℕ, zero, suc, ◌+◌, ◌*◌, Bool, false, List, [], ◌∷◌, ◌++◌, length, sum_by, count_by, Option, Some, None}
+use Rattle.std.specs.Prelude.{ℕ, zero, suc, ◌+◌, ◌*◌, Bool, true, false, List, [], ◌∷◌, ◌++◌, length, sum_by, count_by, Option, Some, None}
 use Rattle.st_calls.specs.Call.{sets_ids}
 use Rattle.st_trace.specs.declared.entry.Choice.{Choice}
 use Rattle.st_trace.specs.declared.entry.Choice.TheVariants as choice
@@ -7,7 +7,7 @@ use Rattle.st_trace.specs.declared.entry.Entry.{Entry}
 use Rattle.st_trace.specs.declared.entry.Entry.TheVariants.{Claimed, Copied, Looked, Faulted, Answered, Learned}
 use Rattle.st_model.specs.Tree.{is_number}
 use Rattle.st_trace.specs.declared.start.Instr.{Instr}
-use Rattle.st_trace.specs.declared.start.Instr.TheVariants.{Store, Call, Fork}
+use Rattle.st_trace.specs.declared.start.Instr.TheVariants.{Store, Call, Fork, Reload}
 use Rattle.st_law.specs.declared.input.Input.{Input}
 use Rattle.st_law.specs.declared.input.ReadSchedule.{ReadSchedule}
 use Rattle.st_law.specs.declared.input.ScheduleLine.{ScheduleLine}
@@ -42,22 +42,23 @@ first_enabled i st =
 
 -- ---- `rest`
 
--- whether an instruction is a call that sets ids
-abbrev pub is_set_id_instruction : Instr → Bool
-is_set_id_instruction (Store place word) = false
-is_set_id_instruction (Call call regs) = sets_ids call
-is_set_id_instruction (Fork child) = false
+-- whether an instruction renews messages: a call that sets ids, or a reload
+abbrev pub is_renewing_instruction : Instr → Bool
+is_renewing_instruction (Store place word) = false
+is_renewing_instruction (Call call regs) = sets_ids call
+is_renewing_instruction (Fork child) = false
+is_renewing_instruction (Reload n) = true
 
--- how many instructions a script has, and how many of them are calls that set ids
+-- how many instructions a script has, and how many of them are calls that set ids or reloads
 abbrev pub instruction_count : Input → ℕ
 instruction_count i = sum_by (λ row. length row.body) i.start.threads
 
-abbrev pub set_id_count : Input → ℕ
-set_id_count i = sum_by (λ row. count_by is_set_id_instruction row.body) i.start.threads
+abbrev pub renewing_count : Input → ℕ
+renewing_count i = sum_by (λ row. count_by is_renewing_instruction row.body) i.start.threads
 
 -- the bound of steps: no run has more
 abbrev pub most_steps : Input → ℕ
-most_steps i = 10000 * (instruction_count i + 64 * set_id_count i + 1) + length i.replies
+most_steps i = 10000 * (instruction_count i + 64 * renewing_count i + 1) + length i.replies
 
 -- choices, and the state after them
 pub record Played : Type 0 where

@@ -12,7 +12,7 @@ use Rattle.st_calls.specs.declared.judged.Verdict.TheVariants.{Permit, Refuse, U
 use Rattle.st_calls.specs.declared.rule.Rule.{Rule}
 use Rattle.st_filter.specs.Formula.{Formula, True, Test, And, FilterValue}
 use Rattle.st_filter.specs.Judging.{verdict, verdict_from}
-use Rattle.st_filter.specs.Policies.{is_for}
+use Rattle.st_filter.specs.Policies.{is_for, with_binary}
 use Rattle.st_filter.specs.declared.filter.Action.TheVariants as action
 use Rattle.st_filter.specs.declared.filter.FilterName.TheVariants as name
 use Rattle.st_filter.specs.declared.filter.Op.TheVariants.{Eq}
@@ -75,6 +75,10 @@ abbrev pub session_after : List Reply → (ℕ → Option Snapshot) → Entry �
 session_after replies copies (Learned q n) before = before ++ learnt_by (copies q)
 session_after replies copies (Replied q reply n) before = before ++ replied_by (item_at_number replies reply) (copies q)
 session_after replies copies _ before = before
+
+-- binaries, with those of these filters of a session appended that aren't among them
+abbrev pub with_binaries : List (List ℕ) → List SessionFilter → List (List ℕ)
+with_binaries binaries session = fold (λ all kept. with_binary all kept.policy) binaries session
 
 -- whether a reply was given after an entry
 abbrev pub replied_after : Entry → ℕ → Bool → Bool

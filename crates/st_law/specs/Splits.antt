@@ -3,10 +3,10 @@
 use Rattle.std.specs.Prelude.{◌≡◌, ◌⊎◌, ℕ, Bool, true, List, [], ◌∷◌, ◌++◌}
 use Rattle.st_trace.specs.declared.entry.Change.{Change}
 use Rattle.st_trace.specs.declared.entry.Entry.{Entry}
-use Rattle.st_trace.specs.declared.entry.Entry.TheVariants.{Used}
+use Rattle.st_trace.specs.declared.entry.Entry.TheVariants.{Used, Reloaded}
 use Rattle.st_law.specs.Threads.{History}
 
--- ---- changes of one call, the oldest first
+-- ---- changes of one entry, the oldest first
 
 -- none of these changes is of the kind
 abbrev pub NoneIn : (Change → Type 0) → List Change → Type 0
@@ -53,11 +53,13 @@ IsLastOf value first Gives = IsLastGiven value first (GivesSome Gives) Gives
 -- the changes of an entry touch the part, by the thread that makes them and the entries before it
 abbrev pub ChangeTouches : {V : Type 0} → (ℕ → History → Change → V → Type 0) → Entry → History → Type 0
 ChangeTouches {V} Gives (Used t seq call regs args ids result changes) h = SomeIn (λ c. (v : V) × Gives t h c v) changes
+ChangeTouches {V} Gives (Reloaded t n done changes) h = SomeIn (λ c. (v : V) × Gives t h c v) changes
 ChangeTouches Gives _ h = ⊥
 
 -- the last change of an entry that touches the part gives it this value
 abbrev pub ChangeGives : {V : Type 0} → (ℕ → History → Change → V → Type 0) → Entry → History → V → Type 0
 ChangeGives {V} Gives (Used t seq call regs args ids result changes) h v = LastGives (λ c. (w : V) × Gives t h c w) (λ before. Gives t h) changes v
+ChangeGives {V} Gives (Reloaded t n done changes) h v = LastGives (λ c. (w : V) × Gives t h c w) (λ before. Gives t h) changes v
 ChangeGives Gives _ h v = ⊥
 
 -- the part has the last value that any change gives it

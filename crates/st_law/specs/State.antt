@@ -13,7 +13,7 @@ use Rattle.st_calls.specs.declared.rule.FastAnswer.{FastAnswer}
 use Rattle.st_calls.specs.declared.rule.Rule.{Rule}
 use Rattle.st_filter.specs.Fast.{fast}
 use Rattle.st_filter.specs.Formula.{FilterValue}
-use Rattle.st_filter.specs.Policies.{read_filters}
+use Rattle.st_filter.specs.Policies.{filters_in_force, is_block_of}
 use Rattle.st_model.specs.DescriptorCalls.{table_after_close_all}
 use Rattle.st_model.specs.Descriptors.{Table}
 use Rattle.st_model.specs.Memory.{word_of}
@@ -22,9 +22,11 @@ use Rattle.st_model.specs.Tree.{Tree}
 use Rattle.st_names.specs.Name.{Components}
 use Rattle.st_names.specs.declared.seen.SeenText.{SeenText}
 use Rattle.st_effects.specs.Effect.{effect}
+use Rattle.st_effects.specs.Processes.{renewals_by}
 use Rattle.st_effects.specs.Progress.{Progress, Word, Look, Stuck, Ready, ArgRequest, progress}
 use Rattle.st_effects.specs.System.{System, Request, HeldCall}
 use Rattle.st_trace.specs.declared.entry.CallResult.TheVariants.{Value}
+use Rattle.st_trace.specs.declared.entry.Change.{Change}
 use Rattle.st_trace.specs.declared.entry.Entry.{Entry}
 use Rattle.st_trace.specs.declared.entry.Entry.TheVariants.{Used, Ended}
 use Rattle.st_trace.specs.declared.start.Instr.{Instr}
@@ -45,6 +47,8 @@ pub record ThreadState : Type 0 where
   -- the instructions that it has left
   pub left : List Instr
   pub pending : Option PendingCall
+  -- the kernel's own answer to the call that it entered last, as it was then
+  pub answer : FastAnswer
   -- the number of its held call
   pub number : ℕ
   pub dying : Bool
@@ -76,6 +80,10 @@ pub record State : Type 0 where
   -- the number that each worker has claimed and neither answered nor found faulty
   pub turns : ℕ → Option ℕ
   pub session : List SessionFilter
+  -- the version of each binary's policy that is in force
+  pub versions : List ℕ → ℕ
+  -- the binaries that have filters of the session or a reload that is done, in the order of the first entry that gave them one
+  pub changed : List (List ℕ)
   -- which of the script's replies were given
   pub replied : ℕ → Bool
   pub descriptors : Table
@@ -146,6 +154,7 @@ snapshot_with q head args = record {
   pid = head.pid;
   ids = head.ids;
   policy = head.policy;
+  version = head.version;
   rule = head.rule;
   call = head.call;
   regs = head.regs;
@@ -191,23 +200,27 @@ is_waiting st q = is_live st q && not (st.messages q).claimed
 
 -- ---- filters
 
--- the filters that are in force for a policy and a rule in a state, without the session's; they are those that were read, in every state
+-- the filters that are in force for a policy and a rule in a state, without the session's
 abbrev pub read_at : Input → State → List ℕ → Rule → List FilterValue
-read_at i st policy rule = read_filters i.policies policy rule
+read_at i st policy rule = filters_in_force i.policies policy (st.versions policy) rule
 
--- the decision of the filters read on these copies, otherwise of the session's
+-- the decision of the filters in force on these copies, otherwise of the session's
 abbrev pub decision_in : Input → State → Snapshot → Verdict
 decision_in i st s = decision (read_at i st s.policy s.rule) (session_filters st.session s.policy s.rule) s
 
+-- the kernel's own answer for a rule under a policy, by the versions of policies and the session's filters
+abbrev pub answer_under : Input → (List ℕ → ℕ) → List SessionFilter → List ℕ → Rule → FastAnswer
+answer_under i versions session policy rule = fast (filters_in_force i.policies policy (versions policy) rule ++ session_filters session policy rule)
+
 -- the kernel's own answer for a rule under a policy
 abbrev pub answer_for : Input → State → List ℕ → Rule → FastAnswer
-answer_for i st policy rule = fast (read_at i st policy rule ++ session_filters st.session policy rule)
+answer_for i st policy rule = answer_under i st.versions st.session policy rule
 
 -- the kernel's own answer for a call of a process
 abbrev pub answer_in : Input → State → Process → SysCall → List ℕ → FastAnswer
 answer_in i st process call regs = answer_for i st process.policy (rule_of call regs i.options.aliasing)
 
--- how many filters the policy and the rule of these copies have, read and of the session
+-- how many filters the policy and the rule of these copies have, in force and of the session
 abbrev pub filter_count : Input → State → Snapshot → ℕ
 filter_count i st s = length (read_at i st s.policy s.rule ++ session_filters st.session s.policy s.rule)
 
@@ -259,6 +272,27 @@ held_by_pending st t (Some entered) = held_by_way st t entered.way
 abbrev pub held_from : State → ℕ → ℕ → List HeldCall
 held_from st t zero = []
 held_from st t (suc count) = held_by_pending st t (st.threads t).pending ++ held_from st (suc t) count
+
+-- ---- reloads
+
+-- whether a process may reload a policy: it is untraced, and its effective user is 0
+abbrev pub may_reload : Process → Bool
+may_reload process = not process.traced && process.ids.euid == 0
+
+-- whether a head is under the policy of the binary that the script's policy with this number is for
+abbrev pub is_head_under : Input → ℕ → Option Head → Bool
+is_head_under i n None = false
+is_head_under i n (Some head) = is_block_of i.policies n head.policy
+
+-- whether the message of a held call is under the policy of the binary that the script's policy with this number is for
+abbrev pub is_held_under : Input → State → ℕ → HeldCall → Bool
+is_held_under i st n held = is_head_under i n (st.messages held.number).head
+
+-- the changes of a reload, by whether it is done: each live message under the policy is renewed, in the order of the threads
+abbrev pub reload_changes : Input → State → ℕ → Bool → List Change
+reload_changes i st n done = if done then renewals_by (is_held_under i st n) (suc st.posted) (held_from st 1 (thread_count i)) else []
+
+-- ---- calls
 
 -- the modelled system that a call sees
 abbrev pub system_of : Input → State → System

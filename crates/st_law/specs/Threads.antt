@@ -2,14 +2,15 @@
 use Rattle.std.specs.Prelude.{ℕ, Bool, false, ◌||◌, ◌==◌, if◌then◌else◌, List, [], ◌∷◌, drop, Option, Some, None, unwrap_or}
 use Rattle.st_base.specs.Numbered.{item_at_number}
 use Rattle.st_calls.specs.declared.call.SysCall.{SysCall}
+use Rattle.st_calls.specs.declared.rule.FastAnswer.{FastAnswer}
 use Rattle.st_effects.specs.Changes.{owner_after, dying_after, seq_after}
 use Rattle.st_trace.specs.declared.entry.Change.{Change}
 use Rattle.st_trace.specs.declared.entry.Entry.{Entry}
-use Rattle.st_trace.specs.declared.entry.Entry.TheVariants.{Stored, Entered, Used, Denied, Ended}
+use Rattle.st_trace.specs.declared.entry.Entry.TheVariants.{Stored, Entered, Used, Denied, Ended, Reloaded}
 use Rattle.st_trace.specs.declared.entry.Way.{Way}
 use Rattle.st_trace.specs.declared.entry.Way.TheVariants.{Held}
 use Rattle.st_trace.specs.declared.start.Instr.{Instr}
-use Rattle.st_trace.specs.declared.start.Instr.TheVariants.{Store, Call, Fork}
+use Rattle.st_trace.specs.declared.start.Instr.TheVariants.{Store, Call, Fork, Reload}
 use Rattle.st_trace.specs.declared.start.ThreadRow.{ThreadRow}
 use Rattle.st_law.specs.declared.input.Input.{Input}
 
@@ -17,9 +18,10 @@ use Rattle.st_law.specs.declared.input.Input.{Input}
 abbrev pub History : Type 0
 History = List Entry
 
--- the changes of an entry: only a call that is made has some
+-- the changes of an entry: only a call that is made and a reload have some
 abbrev pub changes_of : Entry → List Change
 changes_of (Used t seq call regs args ids result changes) = changes
+changes_of (Reloaded t n done changes) = changes
 changes_of _ = []
 
 -- the thread that makes an entry, 0 if a worker or the operator makes it
@@ -29,6 +31,7 @@ thread_of (Entered t call regs way) = t
 thread_of (Used t seq call regs args ids result changes) = t
 thread_of (Denied t seq errno cause) = t
 thread_of (Ended t) = t
+thread_of (Reloaded t n done changes) = t
 thread_of _ = 0
 
 -- ---- what the rows of the script say
@@ -67,6 +70,7 @@ child_of_next [] = 0
 child_of_next (Store place word ∷ later) = 0
 child_of_next (Call call regs ∷ later) = 0
 child_of_next (Fork child ∷ later) = child
+child_of_next (Reload n ∷ later) = 0
 
 -- the pending call of a thread after an entry, by the instructions that it had left before
 abbrev pub pending_after : Entry → ℕ → List Instr → Option PendingCall → Option PendingCall
@@ -80,6 +84,7 @@ pending_after _ t left before = before
 abbrev pub left_after : Entry → ℕ → List Instr → List Instr
 left_after (Stored u place word) t before = if u == t then drop 1 before else before
 left_after (Entered u call regs way) t before = if u == t then drop 1 before else before
+left_after (Reloaded u n done changes) t before = if u == t then drop 1 before else before
 left_after _ t before = before
 
 -- whether a thread has ended after an entry
@@ -87,10 +92,16 @@ abbrev pub ended_after : Entry → ℕ → Bool → Bool
 ended_after (Ended u) t before = u == t || before
 ended_after _ t before = before
 
+-- the kernel's own answer to the call that a thread entered last, after an entry, by its answer to each call when the entry is made
+abbrev pub answer_after : (SysCall → List ℕ → FastAnswer) → Entry → ℕ → FastAnswer → FastAnswer
+answer_after given (Entered u call regs way) t before = if u == t then given call regs else before
+answer_after given _ t before = before
+
 -- the number of a thread's held call after an entry; a renewal gives another
 abbrev pub number_after : Entry → ℕ → ℕ → ℕ
 number_after (Entered u call regs (Held q)) t before = if u == t then q else before
 number_after (Used u seq call regs args ids result changes) t before = seq_after before changes
+number_after (Reloaded u n done changes) t before = seq_after before changes
 number_after _ t before = before
 
 -- ---- looking back

@@ -1,11 +1,11 @@
 use st_base::Sequence;
-use st_filter::{PolicySet, Reply};
+use st_filter::{Policies, Reply};
 use st_trace::{Choice, Start};
 
-/// The input of a run: the policies that were read, the script's start, the operator's replies, and the options.
+/// The input of a run: the policies that were read and those of the script, the script's start, the operator's replies, and the options.
 #[derive(Debug)]
 pub struct Input {
-    pub policies: PolicySet,
+    pub policies: Policies,
     pub start: Start,
     /// The script's replies to questions, counted from 1.
     pub replies: Sequence<Reply>,

@@ -18,21 +18,23 @@ ghost use Rattle.st_trace.specs.declared.entry.Cause.TheVariants.{Filter};
 ghost use Rattle.st_trace.specs.declared.entry.Change.{Change};
 ghost use Rattle.st_trace.specs.declared.entry.Choice.{Choice};
 ghost use Rattle.st_trace.specs.declared.entry.Entry.{Entry};
-ghost use Rattle.st_trace.specs.declared.entry.Entry.TheVariants.{Answered, Denied, Learned, Used};
+ghost use Rattle.st_trace.specs.declared.entry.Entry.TheVariants.{Answered, Denied, Learned, Reloaded, Used};
 ghost use Rattle.st_trace.specs.declared.start.Instr.{Instr};
 ghost use Rattle.st_law.specs.declared.input.Input.{Input};
 ghost use Rattle.st_law.specs.declared.input.ReadSchedule.{ReadSchedule};
 ghost use Rattle.st_law.specs.Arguments.{Surroundings, link_met, link_on_way};
+ghost use Rattle.st_law.specs.Entries.{Reloads};
 ghost use Rattle.st_law.specs.History.{looking_back, session_at};
 ghost use Rattle.st_law.specs.Inputs.{IsStartable};
 ghost use Rattle.st_law.specs.Lawful.{IsLawful, IsLawfulBack, Lawful};
-ghost use Rattle.st_law.specs.Laws.{HaveEqualArguments, AreHeldCalls, HasBegun, IsRested, IsStale, IsProcessLive, IsUsedAsAnswered};
+ghost use Rattle.st_law.specs.Laws.{HaveEqualArguments, AreHeldCalls, HasBegun, IsRested, IsStale, IsPassedBy, IsProcessLive, IsUsedAsAnswered};
 ghost use Rattle.st_law.specs.Links.{IsLinkFound, IsFirstLinkInWay};
 ghost use Rattle.st_law.specs.Machine.{entry_of, history, run, state_of_run, IsEnabled};
 ghost use Rattle.st_law.specs.Numbers.{drawings_at, drawn, drawn_entry, numbered_entry, numbered_in, numbers_at};
 ghost use Rattle.st_law.specs.OneStep.{AreTakenInOneStep};
 ghost use Rattle.st_law.specs.Schedules.{Choices, most_steps, played, rest_from, steps_for};
 ghost use Rattle.st_law.specs.Sessions.{SessionFilter, decision, learnt_filter};
+ghost use Rattle.st_law.specs.Splits.{NoneTouches};
 ghost use Rattle.st_law.specs.State.{State, decision_in, snapshot_in, system_of};
 ghost use Rattle.st_law.specs.Threads.{History, body_of, has_ended_at, left_at, owner_at};
 ghost use Rattle.st_law.specs.Recorded.{choice_of, recorded_choices};
@@ -77,12 +79,18 @@ pub fn an_answer_is_final()
     ensures denied { (input : Input) → IsStartable input → (later earlier : History) (w : ℕ) (s : Snapshot) (v : Verdict) (t : ℕ) (errno : Errno) (n : ℕ) → IsLawfulBack input (Denied t (Some s.seq) errno (Filter n) ∷ (later ++ Answered w s v true ∷ earlier)) → v ≢ Unmatched → v ≡ Refuse n errno }
 {}
 
-/// If the filters that were read decide, the session's filters don't matter. Lists of filters grow only at their end. A call that was
-/// decided once, by whichever filter, is decided in the same way ever after.
+/// If the filters in force decide, the session's filters don't matter. The session's list of filters grows only at its end. A call that was
+/// decided once, by whichever filter, is decided in the same way until the policy of its binary is reloaded.
 pub fn a_decision_is_final()
     ensures read { (read session : List FilterValue) (s : Snapshot) (v : Verdict) → verdict read s ≡ v → v ≢ Unmatched → decision read session s ≡ v }
     ensures grows { (input : Input) (later earlier : History) → (more : List SessionFilter) × (session_at input (later ++ earlier) ≡ session_at input earlier ++ more) }
-    ensures stays { (input : Input) (later earlier : History) (s : Snapshot) → decision_in input (looking_back input earlier) s ≢ Unmatched → decision_in input (looking_back input (later ++ earlier)) s ≡ decision_in input (looking_back input earlier) s }
+    ensures stays { (input : Input) (later earlier : History) (s : Snapshot) → NoneTouches (Reloads input s.policy) later earlier → decision_in input (looking_back input earlier) s ≢ Unmatched → decision_in input (looking_back input (later ++ earlier)) s ≡ decision_in input (looking_back input earlier) s }
+{}
+
+/// A reload that is refused has no changes, and changes nothing except that its thread goes past the instruction.
+pub fn a_refused_reload_changes_nothing()
+    ensures none { (input : Input) (h : History) (t n : ℕ) (changes : List Change) → IsLawful input (looking_back input h) (Reloaded t n false changes) → changes ≡ [] }
+    ensures passed { (input : Input) (h : History) (t n : ℕ) → IsPassedBy input h t (Reloaded t n false []) }
 {}
 
 /// The filter that is learnt from copies holds of exactly the calls that have each of these arguments with its text, and so of the copies
@@ -117,7 +125,7 @@ pub fn one_step_takes_what_a_worker_would()
     ensures { (asked : ArgRequest) (around : Surroundings) → (words : ℕ → List ℕ) × (lookups : ℕ → List SeenText) × AreTakenInOneStep asked around words lookups }
 {}
 
-/// The instructions that a thread has stored and entered so far, in order, followed by those that it has left, are its body.
+/// The instructions that a thread has stored, entered and reloaded so far, in order, followed by those that it has left, are its body.
 pub fn a_thread_goes_through_its_body()
     ensures { (input : Input) (h : History) (t : ℕ) → IsLawfulBack input h → (begun : List Instr) × HasBegun t h begun × (begun ++ left_at input h t ≡ body_of input t) }
 {}
@@ -127,8 +135,8 @@ pub fn some_choice_is_enabled()
     ensures { (input : Input) → IsStartable input → (choices : List Choice) (t : ℕ) → owner_at input (history input (reverse choices)) t ≢ 0 → has_ended_at (history input (reverse choices)) t ≡ false → (c : Choice) × IsEnabled input (state_of_run input choices) c }
 {}
 
-/// A run has at most 10,000 x (n + 64 x s + 1) + r steps, for n instructions, s of them calls that set ids, and r replies. At most 10,000
-/// of these steps are for any one number. After the choices that `rest` gives, no choice is enabled, whatever was chosen before them.
+/// A run has at most 10,000 x (n + 64 x m + 1) + r steps, for n instructions, m of them calls that set ids or reloads, and r replies. At most
+/// 10,000 of these steps are for any one number. After the choices that `rest` gives, no choice is enabled, whatever was chosen before them.
 pub fn every_run_ends()
     ensures steps { (input : Input) → IsStartable input → (choices : List Choice) → length (run input choices) ≤ most_steps input }
     ensures number { (input : Input) → IsStartable input → (q : ℕ) (h : History) → IsLawfulBack input h → steps_for q h ≤ 10000 }

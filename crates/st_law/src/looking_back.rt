@@ -1,8 +1,10 @@
-ghost use Rattle.std.specs.Prelude.{◌≡◌, ◌≢◌, ◌++◌, ℕ, suc, true, [], ◌∷◌, length, None};
+ghost use Rattle.std.specs.Prelude.{◌≡◌, ◌≢◌, ◌++◌, ℕ, suc, true, List, [], ◌∷◌, length, None};
 ghost use Rattle.std.specs.List.{range_with_len};
+ghost use Rattle.st_calls.specs.declared.rule.FastAnswer.TheVariants as answer;
 ghost use Rattle.st_effects.specs.Changes.{tree_after};
-ghost use Rattle.st_law.specs.Entries.{AnswersTo, Claims, Closes, Forks, GivesByte, GivesCwd, GivesFault, GivesHead, GivesIds, GivesLeft, GivesLookups, GivesNextProcess, GivesNextSpace, GivesNumber, GivesPending, GivesPolicy, GivesSession, GivesSpace, GivesTable, GivesTraced, GivesTurn, GivesWords, IsEnd, LeavesDying, LivesSince, Posts, Replies, Starts, TouchesByte, TouchesNumber, changes_so_far, numbers_so_far};
-ghost use Rattle.st_law.specs.History.{descriptors_at, is_replied_at, looking_back, session_at};
+ghost use Rattle.st_law.specs.Bars.{GivesAnswer};
+ghost use Rattle.st_law.specs.Entries.{AnswersTo, Claims, Closes, Forks, GivesByte, GivesChanged, GivesCwd, GivesFault, GivesHead, GivesIds, GivesLeft, GivesLookups, GivesNextProcess, GivesNextSpace, GivesNumber, GivesPending, GivesPolicy, GivesSession, GivesSpace, GivesTable, GivesTraced, GivesTurn, GivesVersion, GivesWords, IsEnd, LeavesDying, LivesSince, Posts, Replies, Starts, TouchesByte, TouchesNumber, changes_so_far, numbers_so_far};
+ghost use Rattle.st_law.specs.History.{answer_kept_at, changed_at, descriptors_at, is_replied_at, looking_back, session_at};
 ghost use Rattle.st_law.specs.Inputs.{IsStartable};
 ghost use Rattle.st_law.specs.Lawful.{IsLawfulBack};
 ghost use Rattle.st_law.specs.Messages.{Head, fault_at, head_at, is_answered_at, is_claimed_at, is_closed_at, lookups_at, posted_at, turn_at, words_at};
@@ -10,12 +12,13 @@ ghost use Rattle.st_law.specs.Processes.{byte_at, first_descriptors, first_proce
 ghost use Rattle.st_law.specs.Splits.{IsLastChanged, IsLastGiven, IsLastOf, IsTrueAfter, NoneTouches};
 ghost use Rattle.st_law.specs.State.{is_live};
 ghost use Rattle.st_law.specs.Threads.{History, body_of, first_owner, has_ended_at, is_dying_at, left_at, number_at, owner_at, pending_at};
+ghost use Rattle.st_law.specs.Versions.{version_at};
 ghost use Rattle.st_law.specs.declared.input.Input.{Input};
 ghost use Rattle.st_trace.specs.declared.entry.Entry.{Entry};
 
 /// The state of a thread, read off the entries. Its process is the first that it was started in. It goes through its body. It holds its
-/// call under the number that the call was entered with, or was renewed as. It is dying, or has ended, exactly after an entry that makes it
-/// so.
+/// call under the number that the call was entered with, or was renewed as, and keeps the kernel's own answer to the call that it entered last.
+/// It is dying, or has ended, exactly after an entry that makes it so.
 pub fn a_thread_is_its_history()
     ensures first_process { (i : Input) (t : ℕ) → owner_at i [] t ≡ first_owner i t }
     ensures started { (i : Input) (t pid : ℕ) (later earlier : History) (e : Entry) → owner_at i earlier t ≡ 0 → Starts t pid e → pid ≢ 0 → owner_at i (later ++ e ∷ earlier) t ≡ pid }
@@ -23,6 +26,7 @@ pub fn a_thread_is_its_history()
     ensures started_once { (i : Input) (t : ℕ) (later earlier : History) → owner_at i earlier t ≢ 0 → owner_at i (later ++ earlier) t ≡ owner_at i earlier t }
     ensures left { (i : Input) (t : ℕ) → IsLastOf (λ h. left_at i h t) (body_of i t) (GivesLeft i t) }
     ensures pending { (i : Input) (t : ℕ) → IsLastOf (λ h. pending_at i h t) None (GivesPending i t) }
+    ensures answer { (i : Input) (t : ℕ) → IsLastOf (λ h. answer_kept_at i h t) answer.Ask (GivesAnswer i t) }
     ensures number { (t : ℕ) → IsLastGiven (λ h. number_at h t) 0 (TouchesNumber t) (GivesNumber t) }
     ensures dying { (i : Input) (t : ℕ) → IsTrueAfter (λ h. is_dying_at i h t) (LeavesDying i t) }
     ensures ended { (t : ℕ) → IsTrueAfter (λ h. has_ended_at h t) (IsEnd t) }
@@ -61,10 +65,17 @@ pub fn a_message_is_its_history()
     ensures turn { (w : ℕ) → IsLastOf (λ h. turn_at h w) None (GivesTurn w) }
 {}
 
-/// A session only grows, by one filter at a time, and a reply that was given stays given.
+/// The version of a binary's policy is the number of the last reload for it that was done, 0 before.
+pub fn the_version_is_that_of_the_last_reload()
+    ensures { (i : Input) (binary : List ℕ) → IsLastOf (λ h. version_at i h binary) 0 (GivesVersion i binary) }
+{}
+
+/// A session only grows, by one filter at a time, and a reply that was given stays given. The policies that were changed stand in the order in
+/// which they got their first filter of the session or their first reload.
 pub fn a_session_only_grows()
     ensures session { (i : Input) → IsLastOf (session_at i) [] (GivesSession i) }
     ensures replied { (n : ℕ) → IsTrueAfter (λ h. is_replied_at h n) (Replies n) }
+    ensures changed { (i : Input) → IsLastOf (changed_at i) [] (GivesChanged i) }
 {}
 
 /// Numbers are 1, 2, 3 and so on, in the order in which they are posted: none is skipped and none is repeated.

@@ -11,17 +11,17 @@ ghost use Rattle.st_calls.specs.declared.rule.FastAnswer.TheVariants as answer;
 ghost use Rattle.st_calls.specs.declared.rule.Rule.{Rule};
 ghost use Rattle.st_filter.specs.Formula.{FilterValue};
 ghost use Rattle.st_filter.specs.Judging.{verdict, verdict_from};
-ghost use Rattle.st_filter.specs.Policies.{read_filters};
+ghost use Rattle.st_filter.specs.Policies.{binary_of_block, filters_in_force};
 ghost use Rattle.st_model.specs.Process.{Process};
 ghost use Rattle.st_trace.specs.declared.entry.CallResult.{CallResult};
 ghost use Rattle.st_trace.specs.declared.entry.Cause.{Cause};
 ghost use Rattle.st_trace.specs.declared.entry.Change.{Change};
 ghost use Rattle.st_trace.specs.declared.entry.Entry.TheVariants.{Denied, Entered, Used};
-ghost use Rattle.st_trace.specs.declared.entry.Way.TheVariants.{Barred};
+ghost use Rattle.st_trace.specs.declared.entry.Way.TheVariants.{Barred, Fast};
 ghost use Rattle.st_trace.specs.declared.start.ProcessRow.{ProcessRow};
 ghost use Rattle.st_trace.specs.declared.start.ThreadRow.{ThreadRow};
 ghost use Rattle.st_law.specs.declared.input.Input.{Input};
-ghost use Rattle.st_law.specs.Bars.{IsBarredSince, IsDeniedByBar, answer_at};
+ghost use Rattle.st_law.specs.Bars.{IsDeniedByBar, IsEnteredSince, answer_at};
 ghost use Rattle.st_law.specs.Inputs.{IsStartable};
 ghost use Rattle.st_law.specs.Lawful.{IsLawfulBack};
 ghost use Rattle.st_law.specs.Links.{IsFirstLinkInWay};
@@ -29,8 +29,8 @@ ghost use Rattle.st_law.specs.Meaning.{AreArgumentsOf, AreCopies, AreKeptFor, Co
 ghost use Rattle.st_law.specs.Messages.{Head};
 ghost use Rattle.st_law.specs.Processes.{first_descriptors, first_tree};
 ghost use Rattle.st_law.specs.Sessions.{session_filters};
-ghost use Rattle.st_law.specs.State.{State, answer_in, arguments_now, decision_in, filter_count, is_question, is_worker, link_now, next_reply, request_of, snapshot_in, system_of, word_for, worker_at};
-ghost use Rattle.st_law.specs.Threads.{History, body_of, first_owner, is_dying_at};
+ghost use Rattle.st_law.specs.State.{State, answer_in, arguments_now, decision_in, filter_count, is_head_under, is_question, is_worker, link_now, may_reload, next_reply, request_of, snapshot_in, system_of, word_for, worker_at};
+ghost use Rattle.st_law.specs.Threads.{History, body_of, first_owner};
 
 /// A run begins as the rows of its script and its options say: the threads, the processes, the file tree and the descriptors.
 pub fn a_run_begins_as_its_script_says()
@@ -56,12 +56,12 @@ pub fn what_the_kernel_answers_by_itself()
     ensures refuses { (i : Input) (st : State) (process : Process) (call : SysCall) (regs : List ℕ) (errno : Errno) → (answer_in i st process call regs ≡ answer.Refuse errno) ↔ ((f : FilterValue) × IsFirstFilter i st process.policy (rule_of call regs i.options.aliasing) f × IsPlainDenial errno f) }
 {}
 
-/// The filters that were read decide, otherwise those of the session, which are numbered on. The count of filters of a policy and a rule
+/// The filters in force decide, otherwise those of the session, which are numbered on. The count of filters of a policy and a rule
 /// includes both.
 pub fn what_the_filters_decide()
-    ensures read { (i : Input) (st : State) (s : Snapshot) → verdict (read_filters i.policies s.policy s.rule) s ≢ Unmatched → decision_in i st s ≡ verdict (read_filters i.policies s.policy s.rule) s }
-    ensures session { (i : Input) (st : State) (s : Snapshot) → verdict (read_filters i.policies s.policy s.rule) s ≡ Unmatched → decision_in i st s ≡ verdict_from (1 + length (read_filters i.policies s.policy s.rule)) (session_filters st.session s.policy s.rule) s }
-    ensures count { (i : Input) (st : State) (s : Snapshot) → (n : ℕ) × AreKeptFor s.policy s.rule st.session n × (filter_count i st s ≡ length (read_filters i.policies s.policy s.rule) + n) }
+    ensures read { (i : Input) (st : State) (s : Snapshot) → verdict (filters_in_force i.policies s.policy (st.versions s.policy) s.rule) s ≢ Unmatched → decision_in i st s ≡ verdict (filters_in_force i.policies s.policy (st.versions s.policy) s.rule) s }
+    ensures session { (i : Input) (st : State) (s : Snapshot) → verdict (filters_in_force i.policies s.policy (st.versions s.policy) s.rule) s ≡ Unmatched → decision_in i st s ≡ verdict_from (1 + length (filters_in_force i.policies s.policy (st.versions s.policy) s.rule)) (session_filters st.session s.policy s.rule) s }
+    ensures count { (i : Input) (st : State) (s : Snapshot) → (n : ℕ) × AreKeptFor s.policy s.rule st.session n × (filter_count i st s ≡ length (filters_in_force i.policies s.policy (st.versions s.policy) s.rule) + n) }
 {}
 
 /// Which numbers are questions, and which reply is given next.
@@ -78,11 +78,24 @@ pub fn what_a_call_is_made_with()
     ensures arguments { (i : Input) (st : State) (t : ℕ) (call : SysCall) (regs : List ℕ) → AreArgumentsOf i st t call regs (arguments_now i st t call regs) }
 {}
 
-/// A call is barred if the kernel refuses it when it is entered, and this answer is final. While the call is pending and its thread isn't
-/// dying, the kernel's own answer to it doesn't change. The call is never made, and its denial has the error of that answer.
+/// A process may reload a policy exactly if it is untraced and its effective user is 0. A reload renews the held calls under the policy of
+/// the binary that the script's policy of its number is for.
+pub fn what_a_reload_needs()
+    ensures process { (process : Process) → (may_reload process ≡ true) ↔ (process.traced ≡ false) × (process.ids.euid ≡ 0) }
+    ensures under { (i : Input) (n : ℕ) (head : Head) → (is_head_under i n (Some head) ≡ true) ↔ (binary_of_block i.policies n ≡ Some head.policy) }
+{}
+
+/// A call is barred if the kernel refuses it when it is entered, and this answer is final, whatever is reloaded meanwhile. The call is never
+/// made, and its denial has the error of that answer.
 pub fn a_bar_is_final()
     ensures refused { (i : Input) (t n : ℕ) (call : SysCall) (regs : List ℕ) (h : History) → IsLawfulBack i (Entered t call regs (Barred n) ∷ h) → (errno : Errno) × (answer_at i h t call regs ≡ answer.Refuse errno) }
-    ensures stands { (i : Input) → IsStartable i → (t n : ℕ) (call : SysCall) (regs : List ℕ) (later earlier : History) → IsBarredSince i t n call regs later earlier → is_dying_at i (later ++ Entered t call regs (Barred n) ∷ earlier) t ≡ false → answer_at i (later ++ Entered t call regs (Barred n) ∷ earlier) t call regs ≡ answer_at i earlier t call regs }
-    ensures unmade { (i : Input) → IsStartable i → (t n : ℕ) (call : SysCall) (regs : List ℕ) (later earlier : History) → IsBarredSince i t n call regs later earlier → (seq : Option ℕ) (made : SysCall) (given : List ℕ) (args : List ArgText) (ids : Ids) (result : CallResult) (changes : List Change) → IsLawfulBack i (Used t seq made given args ids result changes ∷ (later ++ Entered t call regs (Barred n) ∷ earlier)) → ⊥ }
-    ensures denied { (i : Input) → IsStartable i → (t n : ℕ) (call : SysCall) (regs : List ℕ) (later earlier : History) → IsBarredSince i t n call regs later earlier → (seq : Option ℕ) (errno : Errno) (cause : Cause) → IsLawfulBack i (Denied t seq errno cause ∷ (later ++ Entered t call regs (Barred n) ∷ earlier)) → IsDeniedByBar i t call regs earlier seq errno cause }
+    ensures unmade { (i : Input) → IsStartable i → (t n : ℕ) (call : SysCall) (regs : List ℕ) (later earlier : History) → IsEnteredSince i t call regs (Barred n) later earlier → (seq : Option ℕ) (made : SysCall) (given : List ℕ) (args : List ArgText) (ids : Ids) (result : CallResult) (changes : List Change) → IsLawfulBack i (Used t seq made given args ids result changes ∷ (later ++ Entered t call regs (Barred n) ∷ earlier)) → ⊥ }
+    ensures denied { (i : Input) → IsStartable i → (t n : ℕ) (call : SysCall) (regs : List ℕ) (later earlier : History) → IsEnteredSince i t call regs (Barred n) later earlier → (seq : Option ℕ) (errno : Errno) (cause : Cause) → IsLawfulBack i (Denied t seq errno cause ∷ (later ++ Entered t call regs (Barred n) ∷ earlier)) → IsDeniedByBar i t call regs earlier seq errno cause }
+{}
+
+/// A call is fast if the kernel permits it when it is entered, and this answer is final, whatever is reloaded meanwhile: the call is never
+/// denied.
+pub fn a_fast_call_is_never_denied()
+    ensures permitted { (i : Input) (t : ℕ) (call : SysCall) (regs : List ℕ) (h : History) → IsLawfulBack i (Entered t call regs Fast ∷ h) → answer_at i h t call regs ≡ answer.Permit }
+    ensures undenied { (i : Input) (t : ℕ) (call : SysCall) (regs : List ℕ) (later earlier : History) → IsEnteredSince i t call regs Fast later earlier → (seq : Option ℕ) (errno : Errno) (cause : Cause) → IsLawfulBack i (Denied t seq errno cause ∷ (later ++ Entered t call regs Fast ∷ earlier)) → ⊥ }
 {}

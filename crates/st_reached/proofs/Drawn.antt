@@ -5,22 +5,21 @@ use Rattle.std.proofs.lemmas.Bool.{eq-eqb, eqb-true, ne_eqb, or_right, true≢fa
 use Rattle.std.proofs.lemmas.List.Folds.{fold_stays}
 use Rattle.std.specs.List.{fold}
 use Rattle.st_effects.specs.Changes.{seq_after}
-use Rattle.st_effects.specs.Processes.{renewals}
+use Rattle.st_effects.specs.Processes.{renewals_by}
 use Rattle.st_effects.specs.System.{HeldCall}
-use Rattle.st_model.specs.Process.{Process}
 use Rattle.st_trace.specs.declared.entry.Change.{Change}
 use Rattle.st_trace.specs.declared.entry.Change.TheVariants.{Renewed}
 use Rattle.st_trace.specs.declared.entry.Way.{Way}
 use Rattle.st_trace.specs.declared.entry.Way.TheVariants.{Fast, Barred, Held, Untraced}
 use Rattle.st_law.specs.declared.input.Input.{Input}
-use Rattle.st_law.specs.Messages.{Head, head_after_change, is_renewed_by, renewed_head}
+use Rattle.st_law.specs.Messages.{Head, head_after_change, is_renewed_by}
 use Rattle.st_law.specs.State.{State, held_by_way, held_by_pending, held_from}
 use Rattle.st_law.specs.Threads.{PendingCall}
 use Rattle.st_law.proofs.Carried.{numbers_differ}
 use Rattle.st_law.proofs.HeldCalls.{IsItem, each_append, held_of, items}
 use Rattle.st_law.proofs.Invariant.{Invariant}
-use Rattle.st_law.proofs.RenewalKept.{open_of}
-use Rattle.st_law.proofs.Renewals.{EachHeld, each_held, IsLow, is_renewable, head_below, lower, one_more, others_above, seq_other}
+use Rattle.st_law.proofs.HeldRenewals.{open_of}
+use Rattle.st_law.proofs.Renewals.{EachHeld, each_held, IsLow, head_below, lower, one_more, others_above, seq_other}
 
 -- ---- a number that isn't renewed stays its thread's
 
@@ -41,11 +40,11 @@ seq_kept n before (_ ∷ changes) e = seq_kept n before changes e
 -- ---- held calls have different numbers
 
 -- the thread of a held call is t or a later one
-abbrev IsAfter : ℕ → HeldCall → Type 0
+abbrev pub IsAfter : ℕ → HeldCall → Type 0
 IsAfter t held = t ≤ held.tid
 
 -- held calls in the order of their threads
-abbrev Rising : List HeldCall → Type 0
+abbrev pub Rising : List HeldCall → Type 0
 Rising [] = Unit {0}
 Rising (held ∷ more) = EachHeld (IsAfter (suc held.tid)) more × Rising more
 
@@ -88,7 +87,7 @@ module _ (st : State) where
   rising_pending a later x rising None = rising
   rising_pending a later x rising (Some entered) = rising_way a later x rising entered.way
 
-  rising : (a count : ℕ) → Rising (held_from st a count)
+  pub rising : (a count : ℕ) → Rising (held_from st a count)
   rising a zero = tt
   rising a (suc count) = rising_pending a (held_from st (suc a) count) (following (suc a) count) (rising (suc a) count) (st.threads a).pending
 
@@ -119,47 +118,47 @@ pub each_both : (P Q : HeldCall → Type 0) (helds : List HeldCall) → EachHeld
 each_both P Q [] x y = tt
 each_both P Q (held ∷ more) x y = ((x.0, y.0), each_both P Q more x.1 y.1)
 
-module _ (m u : ℕ) (heads : ℕ → Option Head) (process : Process) (q : ℕ) where
+module _ (is : HeldCall → Bool) (heads : ℕ → Option Head) (renewing : Head → Head) (q : ℕ) where
   -- these renewals give number q to a held call with this property, with its head renewed
   pub record IsDrawn (P : HeldCall → Type 0) (before : Option Head) (changes : List Change) : Type 0 where
     pub held : HeldCall
     pub item : P held
-    pub renewable : is_renewable m u held ≡ true
+    pub renewable : is held ≡ true
     pub number : seq_after held.number changes ≡ q
-    pub head : fold (head_after_change heads process q) before changes ≡ option_map (renewed_head process) (heads held.number)
+    pub head : fold (head_after_change heads renewing q) before changes ≡ option_map renewing (heads held.number)
 
   -- the head of number q is unchanged, or one of the held calls is given the number
   abbrev pub SameOrDrawn : (HeldCall → Type 0) → Option Head → List Change → Type 0
-  SameOrDrawn P before changes = (fold (head_after_change heads process q) before changes ≡ before) ⊎ IsDrawn P before changes
+  SameOrDrawn P before changes = (fold (head_after_change heads renewing q) before changes ≡ before) ⊎ IsDrawn P before changes
 
-  drawn_here : (P : HeldCall → Type 0) (before : Option Head) (next : ℕ) (held : HeldCall) (more : List HeldCall) → P held → is_renewable m u held ≡ true → EachHeld (IsLow next) more → next ≡ q → IsDrawn P before (Renewed held.number next ∷ renewals m u (next + 1) more)
+  drawn_here : (P : HeldCall → Type 0) (before : Option Head) (next : ℕ) (held : HeldCall) (more : List HeldCall) → P held → is held ≡ true → EachHeld (IsLow next) more → next ≡ q → IsDrawn P before (Renewed held.number next ∷ renewals_by is (next + 1) more)
   drawn_here P before next held more item is_so low same = record {
     held = held;
     item = item;
     renewable = is_so;
-    number = ap (λ b. seq_after (cond b next held.number) (renewals m u (next + 1) more)) (eq-eqb held.number held.number refl)
-        ∙ seq_other m u next (next + 1) more (others_above m u next next more (omega arith) low) ∙ same;
-    head = ap (λ b. fold (head_after_change heads process q) (cond b (option_map (renewed_head process) (heads held.number)) before) (renewals m u (next + 1) more)) (eq-eqb next q same)
-        ∙ head_below m u heads process q (option_map (renewed_head process) (heads held.number)) (next + 1) more (omega (arith, same));
+    number = ap (λ b. seq_after (cond b next held.number) (renewals_by is (next + 1) more)) (eq-eqb held.number held.number refl)
+        ∙ seq_other is next (next + 1) more (others_above is next next more (omega arith) low) ∙ same;
+    head = ap (λ b. fold (head_after_change heads renewing q) (cond b (option_map renewing (heads held.number)) before) (renewals_by is (next + 1) more)) (eq-eqb next q same)
+        ∙ head_below is heads renewing q (option_map renewing (heads held.number)) (next + 1) more (omega (arith, same));
   }
 
   -- one of the later held calls is given the number, and the first another number
   drawn_later : (P : HeldCall → Type 0) (before : Option Head) (next : ℕ) (held : HeldCall) (changes : List Change) → (next == q) ≡ false → SameOrDrawn (λ other. P other × held.number ≢ other.number) before changes → SameOrDrawn P before (Renewed held.number next ∷ changes)
   drawn_later P before next held changes away (inl same) =
-      inl (ap (λ b. fold (head_after_change heads process q) (cond b (option_map (renewed_head process) (heads held.number)) before) changes) away ∙ same)
+      inl (ap (λ b. fold (head_after_change heads renewing q) (cond b (option_map renewing (heads held.number)) before) changes) away ∙ same)
   drawn_later P before next held changes away (inr x) = inr (record {
     held = x.held;
     item = x.item.0;
     renewable = x.renewable;
     number = ap (λ b. seq_after (cond b next x.held.number) changes) (ne_eqb held.number x.held.number x.item.1) ∙ x.number;
-    head = ap (λ b. fold (head_after_change heads process q) (cond b (option_map (renewed_head process) (heads held.number)) before) changes) away ∙ x.head;
+    head = ap (λ b. fold (head_after_change heads renewing q) (cond b (option_map renewing (heads held.number)) before) changes) away ∙ x.head;
   })
 
-  pub drawn : (P : HeldCall → Type 0) (before : Option Head) (next : ℕ) (helds : List HeldCall) → EachHeld P helds → Apart helds → EachHeld (IsLow next) helds → SameOrDrawn P before (renewals m u next helds)
+  pub drawn : (P : HeldCall → Type 0) (before : Option Head) (next : ℕ) (helds : List HeldCall) → EachHeld P helds → Apart helds → EachHeld (IsLow next) helds → SameOrDrawn P before (renewals_by is next helds)
   drawn P before next [] items apart low = inl refl
-  drawn P before next (held ∷ more) items apart low = one_more m u (SameOrDrawn P before) next held more
+  drawn P before next (held ∷ more) items apart low = one_more is (SameOrDrawn P before) next held more
       (λ is_so. by is_so (drawn (λ other. P other × held.number ≢ other.number) before (next + 1) more (each_both P (λ other. held.number ≢ other.number) more items.1 apart.0) apart.1 (lower next more low.1)) (next == q) refl)
       (λ not_so. drawn P before next more items.1 apart.1 low.1) where
-        by : is_renewable m u held ≡ true → SameOrDrawn (λ other. P other × held.number ≢ other.number) before (renewals m u (next + 1) more) → (b : Bool) → (next == q) ≡ b → SameOrDrawn P before (Renewed held.number next ∷ renewals m u (next + 1) more)
+        by : is held ≡ true → SameOrDrawn (λ other. P other × held.number ≢ other.number) before (renewals_by is (next + 1) more) → (b : Bool) → (next == q) ≡ b → SameOrDrawn P before (Renewed held.number next ∷ renewals_by is (next + 1) more)
         by is_so later true same = inr (drawn_here P before next held more items.0 is_so low.1 (eqb-true next q same))
-        by is_so later false away = drawn_later P before next held (renewals m u (next + 1) more) away later
+        by is_so later false away = drawn_later P before next held (renewals_by is (next + 1) more) away later

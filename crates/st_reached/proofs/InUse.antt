@@ -8,7 +8,7 @@ use Rattle.std.specs.List.{range_with_len}
 use Rattle.std.specs.Prelude.{nat_lt, nat_le, unwrap_or}
 use Rattle.st_model.specs.Tree.{is_number}
 use Rattle.st_trace.specs.declared.entry.Entry.{Entry}
-use Rattle.st_trace.specs.declared.entry.Entry.TheVariants.{Stored, Entered, Claimed, Copied, Looked, Faulted, Answered, Used, Denied, Ended, Replied, Learned}
+use Rattle.st_trace.specs.declared.entry.Entry.TheVariants.{Stored, Entered, Claimed, Copied, Looked, Faulted, Answered, Used, Denied, Ended, Replied, Learned, Reloaded}
 use Rattle.st_law.specs.declared.input.Input.{Input}
 use Rattle.st_law.specs.Inputs.{IsThread}
 use Rattle.st_law.specs.Lawful.{IsLawful, IsServed}
@@ -177,6 +177,7 @@ module _ (i : Input) (st : State) (reached : Reached i st) (q : â„•) (low : q â‰
   ready_before (Faulted p errno) y = unchanged (Faulted p errno) y refl refl
   ready_before (Answered w s v applied) y = unchanged (Answered w s v applied) y refl refl
   ready_before (Used u seq call regs args ids result changes) y = unchanged (Used u seq call regs args ids result changes) y refl refl
+  ready_before (Reloaded u n done changes) y = unchanged (Reloaded u n done changes) y refl refl
   ready_before (Denied u seq errno cause) y = unchanged (Denied u seq errno cause) y refl refl
   ready_before (Ended u) y = unchanged (Ended u) y refl refl
   ready_before (Learned p n) y = unchanged (Learned p n) y refl refl

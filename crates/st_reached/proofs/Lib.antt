@@ -6,12 +6,15 @@ pub mod LifeByEntry
 pub mod Made
 pub mod Matched
 pub mod Movers
+pub mod NoReloads
 pub mod NumbersBack
 pub mod NumbersDrawn
 pub mod OwnIds
 pub mod Owning
 pub mod OwnedKept
 pub mod Reached
+pub mod ReloadedNumbers
+pub mod Renewing
 pub mod Spending
 pub mod Starting
 pub mod Still

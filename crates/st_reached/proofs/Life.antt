@@ -7,7 +7,7 @@ use Rattle.st_base.specs.declared.ids.Ids.{Ids}
 use Rattle.st_calls.specs.declared.argument.ArgText.{ArgText}
 use Rattle.st_calls.specs.declared.call.SysCall.{SysCall}
 use Rattle.st_effects.specs.Changes.{dying_after, dying_after_change, process_after}
-use Rattle.st_effects.specs.Processes.{policy_changes, renewals}
+use Rattle.st_effects.specs.Processes.{is_other_of, policy_changes, renewals, renewals_by}
 use Rattle.st_effects.specs.System.{HeldCall}
 use Rattle.st_model.specs.Process.{Process}
 use Rattle.st_model.specs.Tree.{is_number}
@@ -15,18 +15,18 @@ use Rattle.st_trace.specs.declared.entry.CallResult.{CallResult}
 use Rattle.st_trace.specs.declared.entry.Change.{Change}
 use Rattle.st_trace.specs.declared.entry.Change.TheVariants.{Execed, SetIds, Dying, Renewed}
 use Rattle.st_trace.specs.declared.entry.Entry.{Entry}
-use Rattle.st_trace.specs.declared.entry.Entry.TheVariants.{Entered, Used, Denied}
+use Rattle.st_trace.specs.declared.entry.Entry.TheVariants.{Entered, Used, Denied, Reloaded}
 use Rattle.st_trace.specs.declared.entry.Way.TheVariants.{Fast, Barred, Held, Untraced}
 use Rattle.st_law.specs.declared.input.Input.{Input}
-use Rattle.st_law.specs.Lawful.{IsEntered, IsLawful, IsUsed}
+use Rattle.st_law.specs.Lawful.{IsEntered, IsLawful, IsReloaded, IsUsed}
 use Rattle.st_law.specs.Machine.{state_after}
 use Rattle.st_law.specs.Messages.{Head, head_after_change, is_renewed_by, new_head, renewed_head}
-use Rattle.st_law.specs.State.{State, held_from, is_live, is_live_by, process_in, request_of, system_of, thread_count}
+use Rattle.st_law.specs.State.{State, held_from, is_held_under, reload_changes, is_live, is_live_by, process_in, request_of, system_of, thread_count}
 use Rattle.st_law.proofs.HeldCalls.{IsItem, items}
 use Rattle.st_law.proofs.Invariant.{IsOpen, Invariant}
 use Rattle.st_law.proofs.Preserved.{used_keeps}
 use Rattle.st_law.proofs.QuietChanges.{IsNoRenewal, mute_of, head_mute, renewed_mute, quiet_no_renewal, AreMute}
-use Rattle.st_law.proofs.RenewalKept.{open_of}
+use Rattle.st_law.proofs.HeldRenewals.{open_of}
 use Rattle.st_law.proofs.Renewals.{EachHeld, each_held, IsLow, lower, one_more, renewals_same}
 use Rattle.st_law.proofs.Shapes.{AreQuiet, Each, Shape, quiet, forked, execed, renewed}
 use Rattle.st_law.proofs.UsedKept.{not_closed_above}
@@ -119,22 +119,22 @@ renewal_life false true o fresh s c dying alive e unclosed lives = closed s o wh
   closed false (Some head) = refl
 renewal_life false false o fresh s c dying alive e unclosed lives = e
 
-module _ (st : State) (m u : ℕ) (heads : ℕ → Option Head) (process : Process) (dying : ℕ → Bool) (other : ℕ) (s : Bool) where
+module _ (st : State) (m : ℕ) (is : HeldCall → Bool) (heads : ℕ → Option Head) (renewing : Head → Head) (dying : ℕ → Bool) (other : ℕ) (s : Bool) where
   -- a held call's renewed number is live
   abbrev LivesOn : HeldCall → Type 0
-  LivesOn held = is_live_by (option_map (renewed_head process) (heads held.number)) false dying ≡ true
+  LivesOn held = is_live_by (option_map renewing (heads held.number)) false dying ≡ true
 
   renewals_life : (next : ℕ) (helds : List HeldCall) → EachHeld (IsLow next) helds → EachHeld LivesOn helds → (alive : ℕ → Bool) (o : Option Head) (c : Bool) → alive other ≡ is_live_by o (s || c) dying → (next ≤ other → (s || c) ≡ false)
-      → life_after_changes st m alive (renewals m u next helds) other ≡ is_live_by (fold (head_after_change heads process other) o (renewals m u next helds)) (s || fold (is_renewed_by other) c (renewals m u next helds)) dying
+      → life_after_changes st m alive (renewals_by is next helds) other ≡ is_live_by (fold (head_after_change heads renewing other) o (renewals_by is next helds)) (s || fold (is_renewed_by other) c (renewals_by is next helds)) dying
   renewals_life next [] low lives alive o c e unclosed = e
-  renewals_life next (held ∷ more) low lives alive o c e unclosed = one_more m u
-      (λ cs. life_after_changes st m alive cs other ≡ is_live_by (fold (head_after_change heads process other) o cs) (s || fold (is_renewed_by other) c cs) dying) next held more
+  renewals_life next (held ∷ more) low lives alive o c e unclosed = one_more is
+      (λ cs. life_after_changes st m alive cs other ≡ is_live_by (fold (head_after_change heads renewing other) o cs) (s || fold (is_renewed_by other) c cs) dying) next held more
       (λ is_so.
       let above : next ≤ other → (s || (held.number == other || c)) ≡ false = (λ high. ap (λ b. s || (b || c)) (ne_eqb held.number other (λ same. let under = low.0 in omega (arith, under, same, high))) ∙ unclosed high) in
       renewals_life (next + 1) more (lower next more low.1) lives.1 (life_after_change st m alive (Renewed held.number next))
-      (cond (next == other) (option_map (renewed_head process) (heads held.number)) o) (held.number == other || c)
+      (cond (next == other) (option_map renewing (heads held.number)) o) (held.number == other || c)
       ((λ k. cond (eqb-sym other next k) true (cond (eqb-sym other held.number k) false (alive other)))
-      ∙ renewal_life (next == other) (held.number == other) o (option_map (renewed_head process) (heads held.number)) s c dying (alive other) e (λ new. above (let same = eqb-true next other new in omega (arith, same))) lives.0)
+      ∙ renewal_life (next == other) (held.number == other) o (option_map renewing (heads held.number)) s c dying (alive other) e (λ new. above (let same = eqb-true next other new in omega (arith, same))) lives.0)
       (λ high. above (omega (arith, high))))
       (λ not_so. renewals_life next more low.1 lives.1 alive o c e unclosed)
 
@@ -166,7 +166,7 @@ module _ (i : Input) (st : State) (inv : Invariant i st) (owned : LiveNumbersAre
 
   module _ (u p : ℕ) (call : SysCall) (regs : List ℕ) (y : IsEntered i st u call regs (Held p)) where
     abbrev own_head : Head
-    own_head = new_head i u (st.threads u).owner (process_in st u) call regs
+    own_head = new_head i u (st.threads u).owner (process_in st u) (st.versions (process_in st u).policy) call regs
 
     held_life : (b : Bool) → (p == other) ≡ b → is_live_by (cond b (Some own_head) (heads other)) closed dying ≡ cond b true (is_live st other)
     held_life true same = (λ k. not (inv.closed other (let is = eqb-true p other same in let drawn : p ≡ suc st.posted = y.way_is.1 in omega (arith, is, drawn)) k) && not (y.running.undying k))
@@ -175,6 +175,49 @@ module _ (i : Input) (st : State) (inv : Invariant i st) (owned : LiveNumbersAre
     -- the next number is live, and each other number is as before
     pub entered_life : is_live (state_after i st (Entered u call regs (Held p))) other ≡ cond (other == p) true (is_live st other)
     entered_life = held_life (p == other) refl ∙ ap (λ b. cond b true (is_live st other)) (eqb-sym p other)
+
+  -- ---- held calls
+
+  abbrev helds : List HeldCall
+  helds = held_from st 1 (thread_count i)
+
+  item_low : (held : HeldCall) → IsItem st held → IsLow (suc st.posted) held
+  item_low held x = let low = (open_of i st inv held.tid x.holder).low in let same = ap number_of x.is in omega (arith, low, same) where
+    number_of : HeldCall → ℕ
+    number_of each = each.number
+
+  -- a held call lives on under its new number, if a renewal keeps the thread of a head
+  item_lives : (m : ℕ) (is : HeldCall → Bool) (processes : ℕ → Process) (versions : List ℕ → ℕ) (s : Bool) (held : HeldCall) → IsItem st held → LivesOn st m is heads (renewed_head processes versions) dying other s held
+  item_lives m is processes versions s held x =
+      let is_open : IsOpen st held.tid x.holder.entered.call x.holder.entered.regs = open_of i st inv held.tid x.holder in
+      ap (λ (c : HeldCall). is_live_by (option_map (renewed_head processes versions) (heads c.number)) false dying) x.is
+      ∙ ap (λ o. is_live_by (option_map (renewed_head processes versions) o) false dying) is_open.posted
+      ∙ ap not (ap dying is_open.own.tid_is ∙ x.holder.undying)
+
+  -- ---- a reload
+
+  module _ (u n : ℕ) where
+    abbrev m_of : ℕ
+    m_of = (st.threads u).owner
+
+    done_life : is_live (state_after i st (Reloaded u n true (reload_changes i st n true))) other ≡ life_after_changes st m_of (is_live st) (reload_changes i st n true) other
+    done_life =
+        let after : State = state_after i st (Reloaded u n true (reload_changes i st n true)) in
+        let is : HeldCall → Bool = is_held_under i st n in
+        (λ k. is_live_by (after.messages other).head (after.messages other).closed
+        (λ t. renewals_same is (dying_after_change t (st.threads t).owner u m_of) (λ b old fresh. refl) (dying t) (suc st.posted) helds k))
+        ∙ sym (renewals_life st m_of is heads (renewed_head after.processes after.versions) dying other false (suc st.posted) helds
+        (each_held (IsItem st) (IsLow (suc st.posted)) item_low helds (items st 1 (thread_count i)))
+        (each_held (IsItem st) (LivesOn st m_of is heads (renewed_head after.processes after.versions) dying other false) (item_lives m_of is after.processes after.versions false) helds (items st 1 (thread_count i)))
+        (is_live st) (heads other) closed refl (λ high. inv.closed other (omega (arith, high))))
+
+    reload_life : (b : Bool) → is_live (state_after i st (Reloaded u n b (reload_changes i st n b))) other ≡ life_after_changes st m_of (is_live st) (reload_changes i st n b) other
+    reload_life true = done_life
+    reload_life false = refl
+
+  -- which numbers are live after a reload
+  pub reloaded_is : (u n : ℕ) (b : Bool) (changes : List Change) → IsReloaded i st u n b changes → is_live (state_after i st (Reloaded u n b changes)) other ≡ life_after_changes st (st.threads u).owner (is_live st) changes other
+  reloaded_is u n b changes y = subst (λ cs. is_live (state_after i st (Reloaded u n b cs)) other ≡ life_after_changes st (st.threads u).owner (is_live st) cs other) (sym y.changes_are) (reload_life u n b)
 
   -- ---- a call that is made
 
@@ -185,8 +228,8 @@ module _ (i : Input) (st : State) (inv : Invariant i st) (owned : LiveNumbersAre
     abbrev own : ℕ
     own = (st.threads u).owner
 
-    abbrev process : Process
-    process = process_after st.processes own own changes
+    abbrev renewing_by : Head → Head
+    renewing_by = renewed_head (λ p. process_after st.processes own p changes) st.versions
 
     abbrev is_its : Bool
     is_its = is_number other seq
@@ -209,32 +252,17 @@ module _ (i : Input) (st : State) (inv : Invariant i st) (owned : LiveNumbersAre
 
     calm_used : Each IsNoRenewal changes → is_live (state_after i st made) other ≡ life_after st made other
     calm_used calm =
-        (λ k. is_live_by (head_mute heads process other changes (calm_mute changes calm) k) (is_its || renewed_mute other closed changes (calm_mute changes calm) k) (λ t. dying_after t (st.threads t).owner u own (dying t) changes))
+        (λ k. is_live_by (head_mute heads renewing_by other changes (calm_mute changes calm) k) (is_its || renewed_mute other closed changes (calm_mute changes calm) k) (λ t. dying_after t (st.threads t).owner u own (dying t) changes))
         ∙ calm_by calm (heads other) refl
-
-    abbrev helds : List HeldCall
-    helds = held_from st 1 (thread_count i)
-
-    item_low : (held : HeldCall) → IsItem st held → IsLow (suc st.posted) held
-    item_low held x = let low = (open_of i st inv held.tid x.holder).low in let is = ap number_of x.is in omega (arith, low, is) where
-      number_of : HeldCall → ℕ
-      number_of each = each.number
-
-    item_lives : (held : HeldCall) → IsItem st held → LivesOn st own u heads process dying other is_its held
-    item_lives held x =
-        let is_open : IsOpen st held.tid x.holder.entered.call x.holder.entered.regs = open_of i st inv held.tid x.holder in
-        ap (λ (c : HeldCall). is_live_by (option_map (renewed_head process) (heads c.number)) false dying) x.is
-        ∙ ap (λ o. is_live_by (option_map (renewed_head process) o) false dying) is_open.posted
-        ∙ ap not (ap dying is_open.own.tid_is ∙ x.holder.undying)
 
     renewed_used : (set : Ids) → changes ≡ SetIds set ∷ renewals own u (suc st.posted) helds → is_live (state_after i st made) other ≡ life_after st made other
     renewed_used set e =
-        (λ k. is_live_by (fold (head_after_change heads process other) (heads other) (e k)) (is_its || fold (is_renewed_by other) closed (e k)) (λ t. dying_after t (st.threads t).owner u own (dying t) (e k)))
-        ∙ (λ k. is_live_by (fold (head_after_change heads process other) (heads other) (renewals own u (suc st.posted) helds)) (is_its || fold (is_renewed_by other) closed (renewals own u (suc st.posted) helds))
-        (λ t. renewals_same own u (dying_after_change t (st.threads t).owner u own) (λ b old fresh. refl) (dying t) (suc st.posted) helds k))
-        ∙ sym (renewals_life st own u heads process dying other is_its (suc st.posted) helds
+        (λ k. is_live_by (fold (head_after_change heads renewing_by other) (heads other) (e k)) (is_its || fold (is_renewed_by other) closed (e k)) (λ t. dying_after t (st.threads t).owner u own (dying t) (e k)))
+        ∙ (λ k. is_live_by (fold (head_after_change heads renewing_by other) (heads other) (renewals own u (suc st.posted) helds)) (is_its || fold (is_renewed_by other) closed (renewals own u (suc st.posted) helds))
+        (λ t. renewals_same (is_other_of own u) (dying_after_change t (st.threads t).owner u own) (λ b old fresh. refl) (dying t) (suc st.posted) helds k))
+        ∙ sym (renewals_life st own (is_other_of own u) heads renewing_by dying other is_its (suc st.posted) helds
         (each_held (IsItem st) (IsLow (suc st.posted)) item_low helds (items st 1 (thread_count i)))
-        (each_held (IsItem st) (LivesOn st own u heads process dying other is_its) item_lives helds (items st 1 (thread_count i)))
+        (each_held (IsItem st) (LivesOn st own (is_other_of own u) heads renewing_by dying other is_its) (item_lives own (is_other_of own u) (λ p. process_after st.processes own p changes) st.versions is_its) helds (items st 1 (thread_count i)))
         (life_after_change st own (life_without st seq) (SetIds set)) (heads other) closed start_life
         (λ high. (λ k. not_closed_above st u other seq (used_keeps i st inv u seq call regs args ids result changes y).open_seq (omega (arith, high)) k || closed) ∙ inv.closed other (omega (arith, high))))
         ∙ ap (λ cs. life_after_changes st own (life_without st seq) cs other) (sym e)
@@ -255,5 +283,6 @@ module _ (i : Input) (st : State) (inv : Invariant i st) (owned : LiveNumbersAre
   life_later (Entered u call regs (Barred n)) y = refl
   life_later (Entered u call regs (Held p)) y = entered_life u p call regs y
   life_later (Used u seq call regs args ids result changes) y = used_life u seq call regs args ids result changes y
+  life_later (Reloaded u n b changes) y = reloaded_is u n b changes y
   life_later (Denied u seq errno cause) y = closed_life (is_number other seq) closed (heads other) dying
   life_later _ y = refl

@@ -10,22 +10,23 @@ use Rattle.st_trace.specs.declared.entry.Cause.{Cause}
 use Rattle.st_trace.specs.declared.entry.Change.{Change}
 use Rattle.st_trace.specs.declared.entry.Change.TheVariants.{Execed, SetIds, Dying, Renewed}
 use Rattle.st_trace.specs.declared.entry.Entry.{Entry}
-use Rattle.st_trace.specs.declared.entry.Entry.TheVariants.{Entered, Used, Denied}
+use Rattle.st_trace.specs.declared.entry.Entry.TheVariants.{Entered, Used, Denied, Reloaded}
 use Rattle.st_trace.specs.declared.entry.Way.TheVariants.{Fast, Barred, Held, Untraced}
 use Rattle.st_law.specs.declared.input.Input.{Input}
-use Rattle.st_law.specs.Lawful.{IsEntered, IsUsed}
+use Rattle.st_law.specs.Lawful.{IsEntered, IsReloaded, IsUsed}
 use Rattle.st_law.specs.Machine.{state_after}
 use Rattle.st_law.specs.State.{State, held_from, is_live, thread_count}
 use Rattle.st_law.proofs.Shapes.{Each}
 use Rattle.st_reached.specs.Reached.{is_number_of, life_after_changes, life_without}
-use Rattle.st_reached.proofs.Life.{closed_life, entered_life, eqb-sym, used_life}
+use Rattle.st_reached.proofs.Life.{closed_life, entered_life, eqb-sym, reloaded_is, used_life}
 use Rattle.st_reached.proofs.Reached.{Reached}
 
--- an entry that neither enters nor denies a held call and makes none: the same numbers are live after it
+-- an entry that neither enters nor denies a held call, makes none and reloads nothing: the same numbers are live after it
 abbrev pub LeavesNumbers : Entry → Type 0
 LeavesNumbers (Entered t call regs (Held q)) = ⊥
 LeavesNumbers (Used t seq call regs args ids result changes) = ⊥
 LeavesNumbers (Denied t (Some q) errno cause) = ⊥
+LeavesNumbers (Reloaded t n done changes) = ⊥
 LeavesNumbers _ = Unit {0}
 
 pub kept_life : (i : Input) (st : State) (e : Entry) → LeavesNumbers e → (other : ℕ) → is_live (state_after i st e) other ≡ is_live st other
@@ -36,6 +37,7 @@ kept_life i st (Entered t call regs (Held q)) x other = absurd x
 kept_life i st (Used t seq call regs args ids result changes) x other = absurd x
 kept_life i st (Denied t None errno cause) x other = refl
 kept_life i st (Denied t (Some q) errno cause) x other = absurd x
+kept_life i st (Reloaded t n done changes) x other = absurd x
 kept_life i st _ x other = refl
 
 -- the number of a call that is made or denied
@@ -60,6 +62,10 @@ module _ (i : Input) (st : State) (reached : Reached i st) where
   -- a held call posts its number
   pub held_life : (u p : ℕ) (call : SysCall) (regs : List ℕ) → IsEntered i st u call regs (Held p) → (other : ℕ) → is_live (state_after i st (Entered u call regs (Held p))) other ≡ cond (other == p) true (is_live st other)
   held_life u p call regs y other = entered_life i st reached.whole.calls reached.owned other u p call regs y
+
+  -- the numbers that are live after a reload, by its changes, one after the other
+  pub reloaded_life : (t n : ℕ) (done : Bool) (changes : List Change) → IsReloaded i st t n done changes → (q : ℕ) → is_live (state_after i st (Reloaded t n done changes)) q ≡ life_after_changes st (st.threads t).owner (is_live st) changes q
+  reloaded_life t n done changes law q = reloaded_is i st reached.whole.calls reached.owned q t n done changes law
 
   module _ (u : ℕ) (seq : Option ℕ) (call : SysCall) (regs : List ℕ) (args : List ArgText) (ids : Ids) (result : CallResult) where
     abbrev Made : List Change → Type 0

@@ -1,13 +1,13 @@
 -- How many processes and spaces a run makes: a call makes at most one of each.
 use native.Mathlib.Omega.{arith}
-use Rattle.std.proofs.Common.{◌≡◌, ◌≤◌, ℕ, suc, ◌+◌, Bool, true, false, List, [], ◌∷◌, length, refl, sym, ap, subst}
+use Rattle.std.proofs.Common.{◌≡◌, ◌≤◌, ℕ, suc, ◌+◌, Bool, true, false, List, [], ◌∷◌, length, refl, sym, ap, subst, ◌∙◌}
 use Rattle.std.proofs.lemmas.List.Sums.{sum_by-cons}
 use Rattle.std.specs.List.{sum_by}
 use Rattle.st_base.specs.declared.ids.Ids.{Ids}
 use Rattle.st_calls.specs.declared.argument.ArgText.{ArgText}
 use Rattle.st_calls.specs.declared.call.SysCall.{SysCall}
 use Rattle.st_effects.specs.Changes.{next_process_after, next_process_after_change, next_space_after, next_space_after_change}
-use Rattle.st_effects.specs.Processes.{policy_changes, renewals}
+use Rattle.st_effects.specs.Processes.{is_other_of, policy_changes, renewals}
 use Rattle.st_trace.specs.declared.entry.Change.{Change}
 use Rattle.st_trace.specs.declared.entry.Change.TheVariants.{Forked, Execed, SetIds}
 use Rattle.st_trace.specs.declared.entry.Choice.{Choice}
@@ -18,7 +18,7 @@ use Rattle.st_law.specs.Inputs.{IsStartable}
 use Rattle.st_law.specs.Machine.{state_of_run}
 use Rattle.st_law.specs.Processes.{process_count}
 use Rattle.st_law.specs.Schedules.{instruction_count}
-use Rattle.st_law.specs.State.{State, held_from, request_of, system_of, thread_count}
+use Rattle.st_law.specs.State.{State, held_from, is_held_under, reload_changes, request_of, system_of, thread_count}
 use Rattle.st_law.specs.Threads.{PendingCall}
 use Rattle.st_law.proofs.QuietChanges.{fold_same, next_quiet}
 use Rattle.st_law.proofs.Renewals.{renewals_same}
@@ -72,7 +72,7 @@ module _ (i : Input) (st : State) (u : ℕ) (regs : List ℕ) (args : List ArgTe
   one_process changes (execed binary e) = subst OneProcess (sym e) (exec_process binary i.options.inherit)
   one_process changes (renewed set sets e) = subst OneProcess (sym e)
       (let same : next_process_after st.next_process (SetIds set ∷ renewals (st.threads u).owner u (suc st.posted) (held_from st 1 (thread_count i))) ≡ st.next_process =
-      renewals_same (st.threads u).owner u next_process_after_change (λ n old fresh. refl) st.next_process (suc st.posted) (held_from st 1 (thread_count i)) in omega (arith, same))
+      renewals_same (is_other_of (st.threads u).owner u) next_process_after_change (λ n old fresh. refl) st.next_process (suc st.posted) (held_from st 1 (thread_count i)) in omega (arith, same))
 
   -- at most one more space
   abbrev OneSpace : List Change → Type 0
@@ -88,7 +88,16 @@ module _ (i : Input) (st : State) (u : ℕ) (regs : List ℕ) (args : List ArgTe
   one_space changes (execed binary e) = subst OneSpace (sym e) (exec_space binary i.options.inherit)
   one_space changes (renewed set sets e) = subst OneSpace (sym e)
       (let same : next_space_after st.next_space (SetIds set ∷ renewals (st.threads u).owner u (suc st.posted) (held_from st 1 (thread_count i))) ≡ st.next_space =
-      renewals_same (st.threads u).owner u next_space_after_change (λ n old fresh. refl) st.next_space (suc st.posted) (held_from st 1 (thread_count i)) in omega (arith, same))
+      renewals_same (is_other_of (st.threads u).owner u) next_space_after_change (λ n old fresh. refl) st.next_space (suc st.posted) (held_from st 1 (thread_count i)) in omega (arith, same))
+
+-- a reload makes no process and no space
+reload_process : (i : Input) (st : State) (n : ℕ) (done : Bool) → next_process_after st.next_process (reload_changes i st n done) ≡ st.next_process
+reload_process i st n true = renewals_same (is_held_under i st n) next_process_after_change (λ p old fresh. refl) st.next_process (suc st.posted) (held_from st 1 (thread_count i))
+reload_process i st n false = refl
+
+reload_space : (i : Input) (st : State) (n : ℕ) (done : Bool) → next_space_after st.next_space (reload_changes i st n done) ≡ st.next_space
+reload_space i st n true = renewals_same (is_held_under i st n) next_space_after_change (λ p old fresh. refl) st.next_space (suc st.posted) (held_from st 1 (thread_count i))
+reload_space i st n false = refl
 
 -- ---- every run
 
@@ -99,6 +108,7 @@ makes_processes i = record {
   enters = λ st u call regs way. omega arith;
   still = λ st e none unentered. ap (next_process_after st.next_process) none;
   used = λ st u seq call regs args ids result changes entered pending same y. one_process i st u regs args ids call changes (used_shape i st u call regs args ids result changes seq y);
+  reloaded = λ st u n done changes y. let same = ap (next_process_after st.next_process) y.changes_are ∙ reload_process i st n done in omega (arith, same);
 }
 
 makes_spaces : (i : Input) → Spends one_each one_call i (λ st. st.next_space)
@@ -108,6 +118,7 @@ makes_spaces i = record {
   enters = λ st u call regs way. omega arith;
   still = λ st e none unentered. ap (next_space_after st.next_space) none;
   used = λ st u seq call regs args ids result changes entered pending same y. one_space i st u regs args ids call changes (used_shape i st u call regs args ids result changes seq y);
+  reloaded = λ st u n done changes y. let same = ap (next_space_after st.next_space) y.changes_are ∙ reload_space i st n done in omega (arith, same);
 }
 
 module _ (i : Input) (startable : IsStartable i) (choices : List Choice) where

@@ -20,12 +20,12 @@ use Rattle.st_trace.specs.declared.entry.Entry.TheVariants.{Ended}
 use Rattle.st_trace.specs.declared.entry.Way.{Way}
 use Rattle.st_trace.specs.declared.entry.Way.TheVariants.{Fast, Barred, Held, Untraced}
 use Rattle.st_trace.specs.declared.start.Instr.{Instr}
-use Rattle.st_trace.specs.declared.start.Instr.TheVariants.{Store, Call, Fork}
+use Rattle.st_trace.specs.declared.start.Instr.TheVariants.{Store, Call, Fork, Reload}
 use Rattle.st_law.specs.declared.input.Input.{Input}
 use Rattle.st_law.specs.declared.input.Mode.{Mode}
 use Rattle.st_law.specs.declared.input.Mode.TheVariants.{Enforce, Learn, AskText}
 use Rattle.st_law.specs.Machine.{answer_entry, answered_entry, asked_entry, barred_entry, claimed_entry, decided_entry, entry_of, held_entry, least_question, least_waiting, next_instruction_entry, operator_entry, pending_entry, permitted_entry, question_entry, reply_entry, running_entry, thread_entry, turn_entry, unheld_entry, unlinked_entry, worker_entry, working_entry}
-use Rattle.st_law.specs.State.{State, answer_in, arguments_now, decision_in, is_question, is_worker, link_now, next_reply, process_in, progress_in, snapshot_in, snapshot_of_progress, worker_at}
+use Rattle.st_law.specs.State.{State, arguments_now, decision_in, is_question, is_worker, link_now, next_reply, process_in, progress_in, snapshot_in, snapshot_of_progress, worker_at}
 use Rattle.st_law.specs.Threads.{PendingCall, thread_of}
 use Rattle.st_law.proofs.Steps.{Says, says-either, says-unless, says-when}
 
@@ -40,6 +40,7 @@ module _ (i : Input) (st : State) (t : ℕ) where
   next_own (Store place word ∷ later) = refl
   next_own (Call call regs ∷ later) = refl
   next_own (Fork child ∷ later) = refl
+  next_own (Reload n ∷ later) = refl
 
   unlinked_own : (call : SysCall) (regs : List ℕ) (ids : Ids) (args : List ArgText) (o : Option Components) → IsOwn (unlinked_entry i st t call regs ids args o)
   unlinked_own call regs ids args None = refl
@@ -76,7 +77,7 @@ module _ (i : Input) (st : State) (t : ℕ) where
   pending_own : (call : SysCall) (regs : List ℕ) (way : Way) → Says IsOwn (pending_entry i st t call regs way)
   pending_own call regs Fast = unheld_own call regs (process_in st t).ids (arguments_now i st t call regs)
   pending_own call regs Untraced = unheld_own call regs (process_in st t).ids (arguments_now i st t call regs)
-  pending_own call regs (Barred n) = barred_own n (answer_in i st (process_in st t) call regs)
+  pending_own call regs (Barred n) = barred_own n (st.threads t).answer
   pending_own call regs (Held first) = held_own (st.threads t).number (st.messages (st.threads t).number).fault
 
   running_own : (o : Option PendingCall) → Says IsOwn (running_entry i st t o)

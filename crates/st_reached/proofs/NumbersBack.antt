@@ -13,13 +13,13 @@ use Rattle.st_trace.specs.declared.entry.Change.{Change}
 use Rattle.st_trace.specs.declared.entry.Change.TheVariants.{Renewed}
 use Rattle.st_trace.specs.declared.entry.Choice.{Choice}
 use Rattle.st_trace.specs.declared.entry.Entry.{Entry}
-use Rattle.st_trace.specs.declared.entry.Entry.TheVariants.{Stored, Entered, Claimed, Copied, Looked, Faulted, Answered, Used, Denied, Ended, Replied, Learned}
+use Rattle.st_trace.specs.declared.entry.Entry.TheVariants.{Stored, Entered, Claimed, Copied, Looked, Faulted, Answered, Used, Denied, Ended, Replied, Learned, Reloaded}
 use Rattle.st_trace.specs.declared.entry.Way.TheVariants.{Fast, Barred, Held, Untraced}
 use Rattle.st_law.specs.declared.input.Input.{Input}
 use Rattle.st_law.specs.History.{looking_back}
 use Rattle.st_law.specs.Inputs.{IsStartable}
 use Rattle.st_law.specs.Entries.{Renews}
-use Rattle.st_law.specs.Lawful.{IsLawful, IsServed, IsLawfulBack, IsUsed, Lawful}
+use Rattle.st_law.specs.Lawful.{IsLawful, IsServed, IsLawfulBack, IsReloaded, IsUsed, Lawful}
 use Rattle.st_law.specs.Machine.{run}
 use Rattle.st_law.specs.Messages.{posted_at, posted_after_change}
 use Rattle.st_law.specs.Numbers.{Drawings, NamesDrawing, Numbers, IsLawfulByNumber, counted, drawings_at, drawn, drawn_back, drawn_changes, drawn_entry, drawn_as, in_use_now, is_in_use, is_kept, largest_number, no_numbers, number_drawn, numbered, numbered_back, numbered_change, numbered_entry, numbered_in, numbers_after_change, numbers_at}
@@ -35,6 +35,7 @@ use Rattle.st_reached.proofs.Circle.{Covers, IsFree, contains, drawn_free}
 use Rattle.st_reached.proofs.InUse.{thread_drawings, used_before, used_live, used_made, used_served, worker_drawings}
 use Rattle.st_reached.proofs.Matched.{EachOld, Follows, IsMatched, Matched, after, changes_matched, drawn_back_changes, drawn_matched, fewer_matched, fits_at, in_use_stays, number_stays}
 use Rattle.st_reached.proofs.Reached.{Reached, reached_after, reached_back}
+use Rattle.st_reached.proofs.ReloadedNumbers.{reloaded_fits, reloaded_follows, reloaded_old, reloaded_stays}
 use Rattle.st_reached.proofs.UsedNumbers.{now_covered, old_by, used_fits, used_follows, used_old, used_stays}
 
 -- ---- the drawings that an entry names
@@ -69,6 +70,7 @@ module _ (i : Input) (st : State) where
       by : (seq ≡ Some q) ⊎ SomeIn (Renews q) changes → is_live st q ≡ true
       by (inl same) = held_live u seq call regs args ids result changes y same
       by (inr some) = renewed_live changes (used_old i st reached u seq call regs args ids result changes y) some
+    named_used (Reloaded u n done changes) y some = used_live i st q (renewed_live changes (reloaded_old i st reached u n done changes y) some)
     named_used (Denied u None errno cause) y same = absurd (none same) where
       none : None ≡ Some q → ⊥
       none f = cc
@@ -154,18 +156,18 @@ module _ (circle : ℕ) (i : Input) (room : thread_count i + i.options.workers <
         (subst (λ n. Matched circle (drawn_as circle p numbers) (counted drawings n)) number_is (drawn_matched circle numbers drawings x.matched p next free))
         (λ q used low. posted_used q (q == p) refl used low)
 
+  -- the last drawing is the last that was posted
+  last_posted : (then : Numbers) (n : ℕ) (cs : List Change) → then.last ≡ n → Follows then.last cs → (after circle (is_kept i st) then cs).last ≡ fold posted_after_change n cs
+  last_posted then n [] e f = e
+  last_posted then n (Renewed old new ∷ cs) e f = last_posted (numbers_after_change circle (is_kept i st) then (Renewed old new)) (suc n) cs (f.0 ∙ ap suc e) f.1
+  last_posted then n (_ ∷ cs) e f = last_posted then n cs e f
+
   module _ (u : ℕ) (seq : Option ℕ) (call : SysCall) (regs : List ℕ) (args : List ArgText) (ids : Ids) (result : CallResult) (changes : List Change) (y : IsUsed i st u seq call regs args ids result changes) where
     abbrev made : Entry
     made = Used u seq call regs args ids result changes
 
     follows : Follows numbers.last changes
     follows = subst (λ n. Follows n changes) (sym x.last) (used_follows i st reached u seq call regs args ids result changes y)
-
-    -- the last drawing is the last that was posted
-    last_posted : (then : Numbers) (n : ℕ) (cs : List Change) → then.last ≡ n → Follows then.last cs → (after circle (is_kept i st) then cs).last ≡ fold posted_after_change n cs
-    last_posted then n [] e f = e
-    last_posted then n (Renewed old new ∷ cs) e f = last_posted (numbers_after_change circle (is_kept i st) then (Renewed old new)) (suc n) cs (f.0 ∙ ap suc e) f.1
-    last_posted then n (_ ∷ cs) e f = last_posted then n cs e f
 
     used_tied : Tied circle i (made ∷ h)
     used_tied = tied_by made y (last_posted numbers (posted_at h) changes x.last follows)
@@ -174,6 +176,21 @@ module _ (circle : ℕ) (i : Input) (room : thread_count i + i.options.workers <
         (λ below. used_before i st reached q (let last = x.last in omega (arith, below, last)) made y used)
         (used_stays i st reached u seq call regs args ids result changes y q used)
         (let last = last_posted numbers (posted_at h) changes x.last follows in omega (arith, low, last)))
+
+  module _ (u n : ℕ) (done : Bool) (changes : List Change) (y : IsReloaded i st u n done changes) where
+    abbrev reloaded : Entry
+    reloaded = Reloaded u n done changes
+
+    reload_follows : Follows numbers.last changes
+    reload_follows = subst (λ n. Follows n changes) (sym x.last) (reloaded_follows i st reached u n done changes y)
+
+    reloaded_tied : Tied circle i (reloaded ∷ h)
+    reloaded_tied = tied_by reloaded y (last_posted numbers (posted_at h) changes x.last reload_follows)
+        (changes_matched circle (is_kept i st) (thread_count i + i.options.workers) room numbers drawings changes x.matched reload_follows (reloaded_fits i st reached u n done changes y circle (numbers_at circle i h)))
+        (λ q used low. in_use_stays circle (is_kept i st) q numbers changes reload_follows
+        (λ below. used_before i st reached q (let last = x.last in omega (arith, below, last)) reloaded y used)
+        (reloaded_stays i st reached u n done changes y q used)
+        (let last = last_posted numbers (posted_at h) changes x.last reload_follows in omega (arith, low, last)))
 
   -- ---- from the numbers of the entry back to its drawings
 
@@ -206,6 +223,24 @@ module _ (circle : ℕ) (i : Input) (room : thread_count i + i.options.workers <
     used_back : Back (Used u seq call regs args ids result changes)
     used_back = λ k. Used u (seq_back seq refl k) call regs args ids result (changes_back k)
 
+  module _ (u n : ℕ) (done : Bool) (changes : List Change) (y : IsReloaded i st u n done changes) where
+    abbrev after_of : ℕ → ℕ
+    after_of = (numbers_at circle i (Reloaded u n done changes ∷ h)).number_of
+
+    reload_follows_on : Follows numbers.last changes
+    reload_follows_on = subst (λ n. Follows n changes) (sym x.last) (reloaded_follows i st reached u n done changes y)
+
+    old_back : (q : ℕ) → is_live st q ≡ true → drawings.drawing_of (after_of q) ≡ q
+    old_back q live = let used = used_live i st q live in
+        ap drawings.drawing_of (number_stays circle (is_kept i st) q numbers changes reload_follows_on (x.matched.used q used).posted) ∙ means q used
+
+    reload_back : drawn_changes drawings.drawing_of drawings.count (map (numbered_change after_of) changes) ≡ changes
+    reload_back = drawn_back_changes after_of drawings.drawing_of drawings.count changes (subst (λ n. Follows n changes) (sym x.matched.count) reload_follows_on)
+        (old_by (λ old. is_live st old ≡ true) (λ old. drawings.drawing_of (after_of old) ≡ old) old_back changes (reloaded_old i st reached u n done changes y))
+
+    reloaded_back : Back (Reloaded u n done changes)
+    reloaded_back = ap (Reloaded u n done) reload_back
+
   pub back : (e : Entry) → IsLawful i st e → Back e
   back (Entered u call regs Fast) y = refl
   back (Entered u call regs Untraced) y = refl
@@ -217,6 +252,7 @@ module _ (circle : ℕ) (i : Input) (room : thread_count i + i.options.workers <
   back (Faulted q errno) y = ap (λ n. Faulted n errno) (named_back q (Faulted q errno) y refl)
   back (Answered w s v applied) y = ap (λ n. Answered w (record s { seq = n }) v applied) (named_back s.seq (Answered w s v applied) y refl)
   back (Used u seq call regs args ids result changes) y = used_back u seq call regs args ids result changes y
+  back (Reloaded u n done changes) y = reloaded_back u n done changes y
   back (Denied u None errno cause) y = refl
   back (Denied u (Some q) errno cause) y = ap (λ n. Denied u (Some n) errno cause) (named_back q (Denied u (Some q) errno cause) y refl)
   back (Replied q reply n) y = ap (λ p. Replied p reply n) (named_back q (Replied q reply n) y refl)
@@ -229,6 +265,7 @@ module _ (circle : ℕ) (i : Input) (room : thread_count i + i.options.workers <
   pub tied_after : (e : Entry) → IsLawful i st e → Tied circle i (e ∷ h)
   tied_after (Entered u call regs (Held p)) y = entered_tied u p call regs y
   tied_after (Used u seq call regs args ids result changes) y = used_tied u seq call regs args ids result changes y
+  tied_after (Reloaded u n done changes) y = reloaded_tied u n done changes y
   tied_after e y = still_tied e y refl refl refl
 
   -- a drawing that was made keeps its number
@@ -237,6 +274,8 @@ module _ (circle : ℕ) (i : Input) (room : thread_count i + i.options.workers <
       let is : p ≡ suc (posted_at h) = y.way_is.1 in ap (λ b. cond b (number_drawn circle numbers) (numbers.number_of q)) (ne_eqb q p (λ same. omega (arith, same, is, low)))
   number_kept q low (Used u seq call regs args ids result changes) y =
       number_stays circle (is_kept i st) q numbers changes (call_follows u seq call regs args ids result changes y) (let last = x.last in omega (arith, low, last))
+  number_kept q low (Reloaded u n done changes) y =
+      number_stays circle (is_kept i st) q numbers changes (reload_follows_on u n done changes y) (let last = x.last in omega (arith, low, last))
   number_kept q low _ y = refl
 
 -- ---- the numbers of all entries at once
@@ -275,6 +314,13 @@ module _ (f g : ℕ → ℕ) (most : ℕ) (same : (q : ℕ) → q ≤ most → f
           (changes_same (posted_at h) changes (used_follows i (looking_back i h) reached u seq call regs args ids result changes y)
           (old_by (λ old. is_live (looking_back i h) old ≡ true) (λ old. old ≤ most) live_same changes (used_old i (looking_back i h) reached u seq call regs args ids result changes y)) high k)
 
+    reloaded_same : (u n : ℕ) (done : Bool) (changes : List Change) (y : IsReloaded i (looking_back i h) u n done changes) → fold posted_after_change (posted_at h) changes ≤ most → numbered_entry f (Reloaded u n done changes) ≡ numbered_entry g (Reloaded u n done changes)
+    reloaded_same u n done changes y high = ap (Reloaded u n done)
+        (changes_same (posted_at h) changes (reloaded_follows i (looking_back i h) reached u n done changes y)
+        (old_by (λ old. is_live (looking_back i h) old ≡ true) (λ old. old ≤ most)
+        (λ q live. let low = live_low i (looking_back i h) reached.whole.calls q live in let more = posted_changes (posted_at h) changes in omega (arith, low, more, high)) changes
+        (reloaded_old i (looking_back i h) reached u n done changes y)) high)
+
     entry_same : (e : Entry) → IsLawful i (looking_back i h) e → posted_at (e ∷ h) ≤ most → numbered_entry f e ≡ numbered_entry g e
     entry_same (Entered u call regs Fast) y high = refl
     entry_same (Entered u call regs Untraced) y high = refl
@@ -286,6 +332,7 @@ module _ (f g : ℕ → ℕ) (most : ℕ) (same : (q : ℕ) → q ≤ most → f
     entry_same (Faulted q errno) y high = ap (λ n. Faulted n errno) (named_same q (Faulted q errno) y refl high)
     entry_same (Answered w s v applied) y high = ap (λ n. Answered w (record s { seq = n }) v applied) (named_same s.seq (Answered w s v applied) y refl high)
     entry_same (Used u seq call regs args ids result changes) y high = used_same u seq call regs args ids result changes y high
+    entry_same (Reloaded u n done changes) y high = reloaded_same u n done changes y high
     entry_same (Denied u None errno cause) y high = refl
     entry_same (Denied u (Some q) errno cause) y high = ap (λ n. Denied u (Some n) errno cause) (named_same q (Denied u (Some q) errno cause) y refl high)
     entry_same (Replied q reply n) y high = ap (λ p. Replied p reply n) (named_same q (Replied q reply n) y refl high)
@@ -370,6 +417,13 @@ module _ (i : Input) (startable : IsStartable i) where
   few_at_renewal circle h u seq call regs args ids result before old new later lawful = few_of (after circle (is_kept i (looking_back i h)) (numbers_now circle i h) before)
       (fits_at circle (is_kept i (looking_back i h)) (thread_count i + i.options.workers) (numbers_now circle i h) before old new later
       (used_fits i (looking_back i h) (reached_back i startable h lawful.1) u seq call regs args ids result (before ++ Renewed old new ∷ later) lawful.0 circle (numbers_at circle i h)))
+
+  pub few_at_reload : (circle : ℕ) (h : History) (u n : ℕ) (done : Bool) (before : List Change) (old new : ℕ) (later : List Change)
+      → IsLawfulBack i (Reloaded u n done (before ++ Renewed old new ∷ later) ∷ h)
+      → (drawings : List ℕ) × (length drawings ≤ 72) × ((q : ℕ) → (fold (numbers_after_change circle (is_kept i (looking_back i h))) (numbers_now circle i h) before).in_use q ≡ true → Contains drawings q)
+  few_at_reload circle h u n done before old new later lawful = few_of (after circle (is_kept i (looking_back i h)) (numbers_now circle i h) before)
+      (fits_at circle (is_kept i (looking_back i h)) (thread_count i + i.options.workers) (numbers_now circle i h) before old new later
+      (reloaded_fits i (looking_back i h) (reached_back i startable h lawful.1) u n done (before ++ Renewed old new ∷ later) lawful.0 circle (numbers_at circle i h)))
 
   -- the numbers of a run are lawful
   pub run_by_number : (choices : List Choice) → IsLawfulByNumber i (numbered i (run i choices))

@@ -4,6 +4,7 @@ use Rattle.std.proofs.Common.{◌≡◌, ℕ, zero, suc, ◌&&◌, Bool, true, f
 use Rattle.std.proofs.lemmas.Bool.{and_parts, true≢false}
 use Rattle.std.proofs.lemmas.Option.{same_Some}
 use Rattle.std.specs.List.{All, filter}
+use Rattle.std.specs.Prelude.{slice_get}
 use Rattle.std.specs.Str.{bytes_eq}
 use Rattle.st_base.specs.Numbered.{item_at_number}
 use Rattle.st_base.specs.declared.ids.Ids.{Ids}
@@ -20,7 +21,7 @@ use Rattle.st_calls.proofs.Rules.{same_rule-Decides}
 use Rattle.st_effects.specs.Progress.{Progress, Word, Look, Stuck, Ready}
 use Rattle.st_filter.specs.Formula.{FilterValue}
 use Rattle.st_filter.specs.Judging.{holds, verdict, verdict_by, verdict_from}
-use Rattle.st_filter.specs.Policies.{filters_of, is_for, names_set_id_call, policy_of, sets_ids_by}
+use Rattle.st_filter.specs.Policies.{PoliciesValue, filters_of, filters_of_block, in_force, is_for, names_set_id_call, policy_of, sets_ids_by}
 use Rattle.st_filter.specs.declared.filter.Action.{Action}
 use Rattle.st_filter.specs.declared.filter.Action.TheVariants as action
 use Rattle.st_filter.specs.declared.filter.FilterName.{FilterName}
@@ -46,7 +47,7 @@ use Rattle.st_law.proofs.Laws.{all_at, lawful_history}
 use Rattle.st_law.proofs.ShortArguments.{HasRule}
 use Rattle.st_law.proofs.ShortLinks.{short_of}
 use Rattle.st_law.proofs.Ties.{state-is}
-use Rattle.st_reached.specs.Grants.{IsUngrantedForSetting, RepliesUngranted, SetIdsUngranted}
+use Rattle.st_reached.specs.Grants.{AllUngranted, IsUngrantedForSetting, RepliesUngranted, SetIdsUngranted}
 use Rattle.st_reached.specs.Reached.{SetsOwnIds}
 
 -- ---- what filters without a grant permit
@@ -99,6 +100,17 @@ policy_ungranted [] binary all = λ k d low. absurd (omega (arith, low))
 policy_ungranted (p ∷ policies) binary all = either (bytes_eq p.binary binary) p.filters (policy_of policies binary)
     (first_of (λ (policy : BinaryPolicy). All IsUngrantedForSetting policy.filters) p policies all)
     (policy_ungranted policies binary (rest_of (λ (policy : BinaryPolicy). All IsUngrantedForSetting policy.filters) p policies all))
+
+-- the filters of a policy of the script
+block_ungranted : (blocks : List BinaryPolicy) (k : ℕ) (binary : List ℕ) → SetIdsUngranted blocks → (o : Option BinaryPolicy) → slice_get blocks k ≡ o → All IsUngrantedForSetting (filters_of_block o binary)
+block_ungranted blocks k binary all None e = λ j d low. absurd (omega (arith, low))
+block_ungranted blocks k binary all (Some block) e = either (bytes_eq block.binary binary) block.filters []
+    (all_at (λ (policy : BinaryPolicy). All IsUngrantedForSetting policy.filters) blocks k block all e) (λ j d low. absurd (omega (arith, low)))
+
+-- the filters in force for a binary
+in_force_ungranted : (policies : PoliciesValue) (binary : List ℕ) (version : ℕ) → AllUngranted policies → All IsUngrantedForSetting (in_force policies binary version)
+in_force_ungranted policies binary zero all = policy_ungranted policies.read binary all.0
+in_force_ungranted policies binary (suc before) all = block_ungranted policies.blocks before binary all.1 (slice_get policies.blocks before) refl
 
 -- ---- the rule of a call that sets ids
 
@@ -178,12 +190,12 @@ either_permits Unmatched w k ids own by_read by_session e = by_session e
 
 -- ---- a call is made
 
-module _ (i : Input) (ungranted : SetIdsUngranted i.policies) (st : State) (session : AreOwnFor st.session) where
+module _ (i : Input) (ungranted : AllUngranted i.policies) (st : State) (session : AreOwnFor st.session) where
   -- the decision on copies with a rule that sets ids permits under the ids of the copies
   copies_own : (s : Snapshot) (k : ℕ) (ids : Ids) → sets_ids_by s.rule ≡ true → decision_in i st s ≡ Permit k ids → ids ≡ s.ids
   copies_own s k ids sets e =
       either_permits (verdict (read_at i st s.policy s.rule) s) (verdict_from (suc (length (read_at i st s.policy s.rule))) (session_filters st.session s.policy s.rule) s) k ids s.ids
-      (λ is. filters_own s s.rule sets (policy_of i.policies s.policy) (policy_ungranted i.policies s.policy ungranted) 1 k ids is)
+      (λ is. filters_own s s.rule sets (in_force i.policies s.policy (st.versions s.policy)) (in_force_ungranted i.policies s.policy (st.versions s.policy) ungranted) 1 k ids is)
       (λ is. session_permits s s.policy s.rule sets st.session session (suc (length (read_at i st s.policy s.rule))) k ids is) e
 
   module _ (rules : (q : ℕ) → HasRule i (st.messages q).head) where
@@ -200,7 +212,7 @@ module _ (i : Input) (ungranted : SetIdsUngranted i.policies) (st : State) (sess
 -- ---- every run
 
 -- a call that sets ids is made under its process's own ids
-pub sets_own_ids : (i : Input) → IsStartable i → SetIdsUngranted i.policies → RepliesUngranted i.replies → (choices : List Choice) → SetsOwnIds i (state_of_run i choices)
+pub sets_own_ids : (i : Input) → IsStartable i → AllUngranted i.policies → RepliesUngranted i.replies → (choices : List Choice) → SetsOwnIds i (state_of_run i choices)
 sets_own_ids i startable ungranted replies choices =
     let h : History = history i (reverse choices) in
     let lawful : IsLawfulBack i h = lawful_history i startable (reverse choices) in

@@ -8,9 +8,8 @@ use Rattle.st_base.specs.declared.ids.Ids.{Ids}
 use Rattle.st_calls.specs.declared.argument.ArgText.{ArgText}
 use Rattle.st_calls.specs.declared.call.SysCall.{SysCall}
 use Rattle.st_effects.specs.Changes.{process_after, seq_after}
-use Rattle.st_effects.specs.Processes.{policy_changes, renewals}
+use Rattle.st_effects.specs.Processes.{is_other_of, policy_changes, renewals}
 use Rattle.st_effects.specs.System.{HeldCall}
-use Rattle.st_model.specs.Process.{Process}
 use Rattle.st_model.specs.Tree.{is_number}
 use Rattle.std.specs.List.{fold}
 use Rattle.st_trace.specs.declared.entry.CallResult.{CallResult}
@@ -18,21 +17,22 @@ use Rattle.st_trace.specs.declared.entry.Cause.{Cause}
 use Rattle.st_trace.specs.declared.entry.Change.{Change}
 use Rattle.st_trace.specs.declared.entry.Change.TheVariants.{Forked, Execed, Policy, SetIds}
 use Rattle.st_trace.specs.declared.entry.Entry.{Entry}
-use Rattle.st_trace.specs.declared.entry.Entry.TheVariants.{Stored, Entered, Claimed, Copied, Looked, Faulted, Answered, Used, Denied, Ended, Replied, Learned}
+use Rattle.st_trace.specs.declared.entry.Entry.TheVariants.{Stored, Entered, Claimed, Copied, Looked, Faulted, Answered, Used, Denied, Ended, Replied, Learned, Reloaded}
 use Rattle.st_trace.specs.declared.entry.Way.{Way}
 use Rattle.st_trace.specs.declared.entry.Way.TheVariants.{Fast, Barred, Held, Untraced}
 use Rattle.st_law.specs.declared.input.Input.{Input}
 use Rattle.st_law.specs.Lawful.{IsEntered, IsEnded, IsUsed, IsDenied, IsLawful}
 use Rattle.st_law.specs.Machine.{first_state, state_after}
 use Rattle.st_law.specs.Messages.{Head, head_after_change, is_renewed_by, new_head, renewed_head}
-use Rattle.st_law.specs.State.{State, is_live_by, is_live, held_from, process_in, request_of, system_of, thread_count}
+use Rattle.st_law.specs.State.{State, is_live_by, is_live, held_from, is_held_under, reload_changes, process_in, request_of, system_of, thread_count}
 use Rattle.st_law.specs.Threads.{PendingCall, child_of_next}
 use Rattle.st_law.proofs.HeldCalls.{IsItem, items}
 use Rattle.st_law.proofs.Invariant.{IsOpen, Invariant}
-use Rattle.st_law.proofs.Moves.{live_before, moves}
+use Rattle.st_law.proofs.Moves.{live_before, moves, open_if}
+use Rattle.st_law.proofs.ReloadKept.{done_stays, same_dying, same_owner}
 use Rattle.st_law.proofs.Preserved.{UsedKeeps, used_keeps}
 use Rattle.st_law.proofs.QuietChanges.{AreMute, head_mute, mute_of, mute_of_quiet}
-use Rattle.st_law.proofs.RenewalKept.{open_of}
+use Rattle.st_law.proofs.HeldRenewals.{open_of}
 use Rattle.st_law.proofs.Renewals.{EachHeld, each_held, IsLow}
 use Rattle.st_law.proofs.Shapes.{Shape, quiet, forked, execed, renewed}
 use Rattle.st_law.proofs.UsedShapes.{used_shape}
@@ -102,7 +102,7 @@ module _ (i : Input) (st : State) (inv : Invariant i st) (owned : LiveNumbersAre
     held_state = state_after i st (Entered u call regs (Held p))
 
     abbrev own_head : Head
-    own_head = new_head i u (st.threads u).owner (process_in st u) call regs
+    own_head = new_head i u (st.threads u).owner (process_in st u) (st.versions (process_in st u).policy) call regs
 
     own_holding : IsHolding held_state u p
     own_holding = record {
@@ -200,26 +200,26 @@ module _ (i : Input) (st : State) (inv : Invariant i st) (owned : LiveNumbersAre
     abbrev m : ℕ
     m = (st.threads u).owner
 
-    abbrev process : Process
-    process = process_after st.processes m m changes
+    abbrev renewing : Head → Head
+    renewing = renewed_head (λ p. process_after st.processes m p changes) st.versions
 
     -- if nothing is renewed, no number is new
     mute_high : (q : ℕ) (head : Head) → st.posted < q → (made.messages q).head ≡ Some head → AreMute changes → ⊥
-    mute_high q head high posted mute = none (sym (head_mute heads process q changes mute ∙ inv.heads q high) ∙ posted) where
+    mute_high q head high posted mute = none (sym (head_mute heads renewing q changes mute ∙ inv.heads q high) ∙ posted) where
       none : None ≡ Some head → ⊥
       none e = cc
 
     -- a new number belongs to the thread whose number it renews
-    renewed_high : (set : Ids) → changes ≡ SetIds set ∷ renewals m u (suc st.posted) helds → (q : ℕ) (head : Head) → st.posted < q → (made.messages q).head ≡ Some head → SameOrDrawn m u heads process q (IsItem st) (heads q) (renewals m u (suc st.posted) helds) → IsHolding made head.tid q
-    renewed_high set e q head high posted (inl same) = absurd (none (sym (ap (λ cs. fold (head_after_change heads process q) (heads q) cs) e ∙ same ∙ inv.heads q high) ∙ posted)) where
+    renewed_high : (set : Ids) → changes ≡ SetIds set ∷ renewals m u (suc st.posted) helds → (q : ℕ) (head : Head) → st.posted < q → (made.messages q).head ≡ Some head → SameOrDrawn (is_other_of m u) heads renewing q (IsItem st) (heads q) (renewals m u (suc st.posted) helds) → IsHolding made head.tid q
+    renewed_high set e q head high posted (inl same) = absurd (none (sym (ap (λ cs. fold (head_after_change heads renewing q) (heads q) cs) e ∙ same ∙ inv.heads q high) ∙ posted)) where
       none : None ≡ Some head → ⊥
       none e = cc
     renewed_high set e q head high posted (inr x) =
         let t : ℕ = x.held.tid in
         let is_open : IsOpen st t x.item.holder.entered.call x.item.holder.entered.regs = open_of i st inv t x.item.holder in
         let before : heads x.held.number ≡ Some is_open.head = ap (λ (c : HeldCall). heads c.number) x.item.is ∙ is_open.posted in
-        let is : Some head ≡ Some (renewed_head process is_open.head) = sym posted ∙ ap (λ cs. fold (head_after_change heads process q) (heads q) cs) e ∙ x.head ∙ ap (option_map (renewed_head process)) before in
-        let tid : head.tid ≡ t = ap (λ (h : Head). h.tid) (same_Some head (renewed_head process is_open.head) is) ∙ is_open.own.tid_is in
+        let is : Some head ≡ Some (renewing is_open.head) = sym posted ∙ ap (λ cs. fold (head_after_change heads renewing q) (heads q) cs) e ∙ x.head ∙ ap (option_map renewing) before in
+        let tid : head.tid ≡ t = ap (λ (h : Head). h.tid) (same_Some head (renewing is_open.head) is) ∙ is_open.own.tid_is in
         let own : IsHolding st t (st.threads t).number = subst (λ n. IsHolding st n (st.threads t).number) is_open.own.tid_is (owned.own (st.threads t).number is_open.head (held_lives i st inv t x.item.holder) is_open.posted) in
         subst (λ n. IsHolding made n q) (sym tid) (holding_kept st made t (st.threads t).number q
         (ap (λ b. cond b None (st.threads t).pending) (away_of m u x.held x.renewable))
@@ -231,7 +231,7 @@ module _ (i : Input) (st : State) (inv : Invariant i st) (owned : LiveNumbersAre
     used_high q head high posted (forked is e) = absurd (mute_high q head high posted (subst AreMute (sym e) (mute_of (Forked st.next_process st.next_space (request_of i st u regs args ids).child) tt, tt)))
     used_high q head high posted (execed binary e) = absurd (mute_high q head high posted (subst AreMute (sym e) (exec_mute binary st.next_space i.options.inherit)))
     used_high q head high posted (renewed set sets e) =
-        renewed_high set e q head high posted (drawn m u heads process q (IsItem st) (heads q) (suc st.posted) helds (items st 1 (thread_count i)) (apart i st inv 1 (thread_count i)) all_low)
+        renewed_high set e q head high posted (drawn (is_other_of m u) heads renewing q (IsItem st) (heads q) (suc st.posted) helds (items st 1 (thread_count i)) (apart i st inv 1 (thread_count i)) all_low)
 
     used_kept : LiveNumbersAreOwn made
     used_kept = record { own = λ q head live posted. by q head live posted (cases_lt st.posted q) } where
@@ -239,10 +239,56 @@ module _ (i : Input) (st : State) (inv : Invariant i st) (owned : LiveNumbersAre
       by q head live posted (inl high) = used_high q head high posted (used_shape i st u call regs args ids result changes seq y)
       by q head live posted (inr low) = used_low u seq call regs args ids result changes y q head low live posted
 
+  -- ---- a reload
+
+  module _ (u n : ℕ) where
+    abbrev is : HeldCall → Bool
+    is = is_held_under i st n
+
+    abbrev done : State
+    done = state_after i st (Reloaded u n true (reload_changes i st n true))
+
+    abbrev reloading : Head → Head
+    reloading = renewed_head done.processes done.versions
+
+    done_low : (q : ℕ) (head : Head) → q ≤ st.posted → is_live done q ≡ true → (done.messages q).head ≡ Some head → IsHolding done head.tid q
+    done_low q head low live posted =
+        let parts = live_parts done q head live posted in
+        let open_before = open_if q (st.messages q).closed (reload_changes i st n true) parts.0 in
+        let before : (st.messages q).head ≡ Some head = sym (done_stays i st inv u n q low) ∙ posted in
+        let undying = sym (same_dying i st inv u n head.tid) ∙ parts.1 in
+        let x : IsHolding st head.tid q = owned.own q head (lives_by st q head before open_before undying) before in
+        holding_kept st done head.tid q q refl (ap (λ p. seq_after p (reload_changes i st n true)) x.number ∙ seq_kept q (st.messages q).closed (reload_changes i st n true) parts.0) (same_owner i st inv u n head.tid) refl x
+
+    done_high : (q : ℕ) (head : Head) → st.posted < q → (done.messages q).head ≡ Some head → SameOrDrawn is heads reloading q (IsItem st) (heads q) (reload_changes i st n true) → IsHolding done head.tid q
+    done_high q head high posted (inl same) = absurd (none (sym (same ∙ inv.heads q high) ∙ posted)) where
+      none : None ≡ Some head → ⊥
+      none e = cc
+    done_high q head high posted (inr x) =
+        let t : ℕ = x.held.tid in
+        let is_open : IsOpen st t x.item.holder.entered.call x.item.holder.entered.regs = open_of i st inv t x.item.holder in
+        let before : heads x.held.number ≡ Some is_open.head = ap (λ (c : HeldCall). heads c.number) x.item.is ∙ is_open.posted in
+        let same : Some head ≡ Some (reloading is_open.head) = sym posted ∙ x.head ∙ ap (option_map reloading) before in
+        let tid : head.tid ≡ t = ap (λ (h : Head). h.tid) (same_Some head (reloading is_open.head) same) ∙ is_open.own.tid_is in
+        let own : IsHolding st t (st.threads t).number = subst (λ p. IsHolding st p (st.threads t).number) is_open.own.tid_is (owned.own (st.threads t).number is_open.head (held_lives i st inv t x.item.holder) is_open.posted) in
+        subst (λ p. IsHolding done p q) (sym tid) (holding_kept st done t (st.threads t).number q refl
+        (ap (λ (c : HeldCall). seq_after c.number (reload_changes i st n true)) (sym x.item.is) ∙ x.number) (same_owner i st inv u n t) refl own)
+
+    done_kept : LiveNumbersAreOwn done
+    done_kept = record { own = λ q head live posted. by q head live posted (cases_lt st.posted q) } where
+      by : (q : ℕ) (head : Head) → is_live done q ≡ true → (done.messages q).head ≡ Some head → (st.posted < q) ⊎ (q ≤ st.posted) → IsHolding done head.tid q
+      by q head live posted (inl high) = done_high q head high posted (drawn is heads reloading q (IsItem st) (heads q) (suc st.posted) helds (items st 1 (thread_count i)) (apart i st inv 1 (thread_count i)) all_low)
+      by q head live posted (inr low) = done_low q head low live posted
+
+    reloaded_by : (b : Bool) → LiveNumbersAreOwn (state_after i st (Reloaded u n b (reload_changes i st n b)))
+    reloaded_by true = done_kept
+    reloaded_by false = kept_by (Reloaded u n false []) (λ t. refl) (λ t. refl) (λ t. refl) (λ t. refl) (λ q. refl) (λ q live. live)
+
   -- after each lawful entry each live number is its thread's own
   pub owned_after : (e : Entry) → IsLawful i st e → LiveNumbersAreOwn (state_after i st e)
   owned_after (Entered u call regs way) y = entered_kept u call regs way y
   owned_after (Used u seq call regs args ids result changes) y = used_kept u seq call regs args ids result changes y
+  owned_after (Reloaded u n b changes) y = subst (λ cs. LiveNumbersAreOwn (state_after i st (Reloaded u n b cs))) (sym y.changes_are) (reloaded_by u n b)
   owned_after (Denied u seq errno cause) y = denied_kept u seq errno cause y
   owned_after (Ended u) y = ended_kept u y
   owned_after (Stored u place word) y = kept_by (Stored u place word) (λ t. refl) (λ t. refl) (λ t. refl) (λ t. refl) (λ q. refl) (λ q live. live)

@@ -15,11 +15,11 @@ use Rattle.st_trace.specs.declared.entry.Way.TheVariants.{Barred, Held}
 use Rattle.st_law.specs.declared.input.Input.{Input}
 use Rattle.st_law.specs.Lawful.{IsUnheld, IsPending, IsUsed, IsDenied}
 use Rattle.st_law.specs.Messages.{Head}
-use Rattle.st_law.specs.State.{State, is_live_by, is_live}
+use Rattle.st_law.specs.State.{State, is_live_by, is_live, process_in}
 use Rattle.st_law.specs.Threads.{PendingCall}
 use Rattle.st_law.proofs.HeldCalls.{IsHolder}
 use Rattle.st_law.proofs.Invariant.{IsOwn, IsOpen, Invariant}
-use Rattle.st_law.proofs.RenewalKept.{open_of}
+use Rattle.st_law.proofs.HeldRenewals.{open_of}
 use Rattle.st_reached.specs.Reached.{IsHolding, LiveNumbersAreOwn}
 
 pub not_so : (b : Bool) → not b ≡ true → b ≡ false
@@ -60,6 +60,14 @@ module _ (st : State) (owned : LiveNumbersAreOwn st) where
   -- the process of a live number's thread is that of its head
   pub own_process : (i : Input) → Invariant i st → (q : ℕ) (head : Head) → is_live st q ≡ true → (st.messages q).head ≡ Some head → head.pid ≡ (st.threads head.tid).owner
   own_process i inv q head live posted = let x : IsHolding st head.tid q = owned.own q head live posted in (own_head i inv q head live posted x.entered x.pending).pid_is
+
+  -- the policy of a live number is that of its thread's process
+  pub own_policy : (i : Input) → Invariant i st → (q : ℕ) (head : Head) → is_live st q ≡ true → (st.messages q).head ≡ Some head → head.policy ≡ (process_in st head.tid).policy
+  own_policy i inv q head live posted = let x : IsHolding st head.tid q = owned.own q head live posted in (own_head i inv q head live posted x.entered x.pending).policy_is
+
+  -- the version of a live number is that of its policy that is in force
+  pub own_version : (i : Input) → Invariant i st → (q : ℕ) (head : Head) → is_live st q ≡ true → (st.messages q).head ≡ Some head → head.version ≡ st.versions head.policy
+  own_version i inv q head live posted = let x : IsHolding st head.tid q = owned.own q head live posted in (own_head i inv q head live posted x.entered x.pending).version_is
 
   -- two live numbers of one thread are equal
   pub one_number : (p q : ℕ) (head other : Head) → is_live st p ≡ true → is_live st q ≡ true → (st.messages p).head ≡ Some head → (st.messages q).head ≡ Some other → head.tid ≡ other.tid → p ≡ q

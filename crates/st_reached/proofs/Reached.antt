@@ -13,7 +13,7 @@ use Rattle.st_law.specs.Threads.{History}
 use Rattle.st_law.proofs.HeldCalls.{IsHolder}
 use Rattle.st_law.proofs.Invariant.{IsOpen}
 use Rattle.st_law.proofs.Laws.{lawful_history}
-use Rattle.st_law.proofs.RenewalKept.{open_of}
+use Rattle.st_law.proofs.HeldRenewals.{open_of}
 use Rattle.st_law.proofs.Steps.{Says}
 use Rattle.st_law.proofs.ThreadSteps.{thread_step}
 use Rattle.st_law.proofs.Ties.{state-is}

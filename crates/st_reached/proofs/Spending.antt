@@ -17,15 +17,16 @@ use Rattle.st_trace.specs.declared.entry.Cause.{Cause}
 use Rattle.st_trace.specs.declared.entry.Change.{Change}
 use Rattle.st_trace.specs.declared.entry.Choice.{Choice}
 use Rattle.st_trace.specs.declared.entry.Entry.{Entry}
-use Rattle.st_trace.specs.declared.entry.Entry.TheVariants.{Stored, Entered, Claimed, Copied, Looked, Faulted, Answered, Used, Denied, Ended, Learned, Replied}
+use Rattle.st_trace.specs.declared.entry.Entry.TheVariants.{Stored, Entered, Claimed, Copied, Looked, Faulted, Answered, Used, Denied, Ended, Learned, Replied, Reloaded}
 use Rattle.st_trace.specs.declared.entry.Way.{Way}
 use Rattle.st_trace.specs.declared.entry.Way.TheVariants.{Held}
 use Rattle.st_trace.specs.declared.start.Instr.{Instr}
+use Rattle.st_trace.specs.declared.start.Instr.TheVariants.{Reload}
 use Rattle.st_trace.specs.declared.start.ThreadRow.{ThreadRow}
 use Rattle.st_law.specs.declared.input.Input.{Input}
 use Rattle.st_law.specs.History.{looking_back}
 use Rattle.st_law.specs.Inputs.{IsStartable, IsThread}
-use Rattle.st_law.specs.Lawful.{IsEntered, IsLawful, IsLawfulBack, IsPending, IsUsed}
+use Rattle.st_law.specs.Lawful.{IsEntered, IsLawful, IsLawfulBack, IsPending, IsReloaded, IsUsed}
 use Rattle.st_law.specs.Machine.{first_state, history, state_after, state_of_run}
 use Rattle.st_law.specs.State.{State, ThreadState, thread_count}
 use Rattle.st_law.specs.Threads.{History, PendingCall, body_of, body_of_row, changes_of, child_of_next}
@@ -59,7 +60,7 @@ module _ (worth : Instr → ℕ) (call_worth : PendingCall → ℕ) where
   all_of rows = sum_by (λ row. sum_by worth row.body) rows
 
   -- what the calls of a script spend: a call is worth no more than its instruction, less what entering it spends; the number is unchanged
-  -- by any other entry without changes; and a call that is made raises it by no more than the call is worth
+  -- by any other entry without changes; and a call that is made, and a reload, raise it by no more than they are worth
   pub record Spends (i : Input) (spent : State → ℕ) : Type 0 where
     pub entering : ℕ
     pub entered : (x : Instr) (later : List Instr) (call : SysCall) (regs : List ℕ) (way : Way) → IsCallOf x call regs → call_worth (record { call = call; regs = regs; way = way; child = child_of_next (x ∷ later) }) + entering ≤ worth x
@@ -67,6 +68,7 @@ module _ (worth : Instr → ℕ) (call_worth : PendingCall → ℕ) where
     pub still : (st : State) (e : Entry) → changes_of e ≡ [] → enters_call e ≡ false → spent (state_after i st e) ≡ spent st
     pub used : (st : State) (u : ℕ) (seq : Option ℕ) (call : SysCall) (regs : List ℕ) (args : List ArgText) (ids : Ids) (result : CallResult) (changes : List Change) (entered : PendingCall)
         → (st.threads u).pending ≡ Some entered → entered.call ≡ call → IsUsed i st u seq call regs args ids result changes → spent (state_after i st (Used u seq call regs args ids result changes)) ≤ spent st + call_worth entered
+    pub reloaded : (st : State) (u n : ℕ) (done : Bool) (changes : List Change) → IsReloaded i st u n done changes → spent (state_after i st (Reloaded u n done changes)) ≤ spent st + worth (Reload n)
 
   -- ---- at first
 
@@ -139,6 +141,19 @@ module _ (worth : Instr → ℕ) (call_worth : PendingCall → ℕ) where
       entered_bounded : Bounded (Entered u call regs way)
       entered_bounded = bounded (Entered u call regs way) u spends.entering y.running.started (spends.enters st u call regs way) (λ t. entered_less t (u == t) refl)
 
+    -- ---- a reload
+
+    module _ (u n : ℕ) (done : Bool) (changes : List Change) (y : IsReloaded i st u n done changes) where
+      reload_less : sum_by worth (drop 1 (st.threads u).left) + worth (Reload n) ≤ sum_by worth (st.threads u).left
+      reload_less = subst (λ left. sum_by worth (drop 1 left) + worth (Reload n) ≤ sum_by worth left) (sym y.next) (let more = sum_by-cons worth (Reload n) y.later in omega (arith, more))
+
+      reloaded_less : (t : ℕ) (b : Bool) → (u == t) ≡ b → sum_by worth (cond b (drop 1 (st.threads t).left) (st.threads t).left) + cond b (worth (Reload n)) 0 ≤ sum_by worth (st.threads t).left
+      reloaded_less t true same = subst (λ p. sum_by worth (drop 1 (st.threads p).left) + worth (Reload n) ≤ sum_by worth (st.threads p).left) (eqb-true u t same) reload_less
+      reloaded_less t false same = omega arith
+
+      reloaded_bounded : Bounded (Reloaded u n done changes)
+      reloaded_bounded = bounded (Reloaded u n done changes) u (worth (Reload n)) y.running.started (spends.reloaded st u n done changes y) (λ t. let less = reloaded_less t (u == t) refl in omega (arith, less))
+
     -- ---- a call is made
 
     used_less : (u : ℕ) (entered : PendingCall) → (st.threads u).pending ≡ Some entered → (t : ℕ) (b : Bool) → (u == t) ≡ b → of_pending (cond b None (st.threads t).pending) + cond b (call_worth entered) 0 ≤ of_pending (st.threads t).pending
@@ -160,6 +175,7 @@ module _ (worth : Instr → ℕ) (call_worth : PendingCall → ℕ) where
     bounded_after (Entered u call regs way) y = entered_bounded u call regs way y
     bounded_after (Used u None call regs args ids result changes) y = used_bounded u None call regs args ids result changes y.way y.running.started y.entered y
     bounded_after (Used u (Some q) call regs args ids result changes) y = used_bounded u (Some q) call regs args ids result changes (Held y.held.first) y.running.started y.held.entered y
+    bounded_after (Reloaded u n done changes) y = reloaded_bounded u n done changes y
     bounded_after (Denied u None errno cause) y = denied_bounded u None errno cause y.running.started
     bounded_after (Denied u (Some q) errno cause) y = denied_bounded u (Some q) errno cause y.running.started
     bounded_after (Claimed w q) y = let same = spends.still st (Claimed w q) refl refl in omega (arith, same)

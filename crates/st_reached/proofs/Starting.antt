@@ -1,6 +1,6 @@
 -- A thread starts once, if its script can start it in at most one way: so a fork starts a thread that hasn't started.
 use native.Mathlib.Omega.{arith}
-use Rattle.std.proofs.Common.{◌≡◌, ◌≢◌, ◌≤◌, ℕ, suc, ◌+◌, Bool, true, false, cond, ◌&&◌, ◌==◌, List, [], ◌∷◌, Option, Some, None, refl, sym, ap, subst}
+use Rattle.std.proofs.Common.{◌≡◌, ◌≢◌, ◌≤◌, ℕ, suc, ◌+◌, Bool, true, false, cond, ◌&&◌, ◌==◌, List, [], ◌∷◌, Option, Some, None, refl, sym, ap, subst, ◌∙◌}
 use Rattle.std.proofs.lemmas.Bool.{eq-eqb, eqb-true, ne_eqb}
 use Rattle.std.specs.Prelude.{is_some, unwrap_or}
 use Rattle.st_base.specs.Numbered.{item_at_number}
@@ -9,19 +9,19 @@ use Rattle.st_calls.specs.declared.argument.ArgText.{ArgText}
 use Rattle.st_calls.specs.declared.call.SysCall.{SysCall}
 use Rattle.st_calls.specs.declared.call.SysCall.TheVariants as calls
 use Rattle.st_effects.specs.Changes.{owner_after, owner_after_change}
-use Rattle.st_effects.specs.Processes.{policy_changes, renewals}
+use Rattle.st_effects.specs.Processes.{is_other_of, policy_changes, renewals}
 use Rattle.st_trace.specs.Instructions.{IsCallOf}
 use Rattle.st_trace.specs.declared.entry.Change.{Change}
 use Rattle.st_trace.specs.declared.entry.Change.TheVariants.{Forked, Execed, SetIds}
 use Rattle.st_trace.specs.declared.entry.Choice.{Choice}
 use Rattle.st_trace.specs.declared.entry.Way.{Way}
 use Rattle.st_trace.specs.declared.start.Instr.{Instr}
-use Rattle.st_trace.specs.declared.start.Instr.TheVariants.{Store, Call, Fork}
+use Rattle.st_trace.specs.declared.start.Instr.TheVariants.{Store, Call, Fork, Reload}
 use Rattle.st_trace.specs.declared.start.ThreadRow.{ThreadRow}
 use Rattle.st_law.specs.declared.input.Input.{Input}
 use Rattle.st_law.specs.Inputs.{IsStartable, IsThread}
 use Rattle.st_law.specs.Machine.{first_state, state_of_run}
-use Rattle.st_law.specs.State.{State, child_of_pending, held_from, request_of, system_of, thread_count}
+use Rattle.st_law.specs.State.{State, child_of_pending, held_from, is_held_under, reload_changes, request_of, system_of, thread_count}
 use Rattle.st_law.specs.Threads.{PendingCall, child_of_next, owner_of_row}
 use Rattle.st_law.proofs.Invariant.{Fine, HasChild, IfPending, Invariant}
 use Rattle.st_law.proofs.QuietChanges.{owner_quiet}
@@ -94,7 +94,7 @@ module _ (c : ℕ) where
     shape_starts changes (forked is e) = subst StartsOne (sym e) fork_starts
     shape_starts changes (execed binary e) = subst StartsOne (sym e) (exec_starts binary i.options.inherit)
     shape_starts changes (renewed set sets e) = subst StartsOne (sym e) (same_starts (SetIds set ∷ renewals (st.threads u).owner u (suc st.posted) (held_from st 1 (thread_count i)))
-        (renewals_same (st.threads u).owner u (owner_after_change c) (λ o old fresh. refl) owner (suc st.posted) (held_from st 1 (thread_count i))))
+        (renewals_same (is_other_of (st.threads u).owner u) (owner_after_change c) (λ o old fresh. refl) owner (suc st.posted) (held_from st 1 (thread_count i))))
 
   -- ---- an instruction is worth what its call is
 
@@ -106,6 +106,11 @@ module _ (c : ℕ) where
     entered_worth (Store place word) later call regs way makes = absurd makes
     entered_worth (Call own own_regs) later call regs way makes = none_worth
     entered_worth (Fork child) later call regs way makes = omega arith
+    entered_worth (Reload n) later call regs way makes = absurd makes
+
+    reload_starts : (i : Input) (st : State) (n : ℕ) (done : Bool) → owner_after c (st.threads c).owner (reload_changes i st n done) ≡ (st.threads c).owner
+    reload_starts i st n true = renewals_same (is_held_under i st n) (owner_after_change c) (λ o old fresh. refl) (st.threads c).owner (suc st.posted) (held_from st 1 (thread_count i))
+    reload_starts i st n false = refl
 
     starts_spent : (i : Input) → Spends worth call_worth i started
     starts_spent i = record {
@@ -114,6 +119,8 @@ module _ (c : ℕ) where
       enters = λ st u call regs way. omega arith;
       still = λ st e none unentered. ap (λ changes. started_by (owner_after c (st.threads c).owner changes)) none;
       used = λ st u seq call regs args ids result changes entered pending same y. shape_starts i st u regs args ids call entered pending changes (used_shape i st u call regs args ids result changes seq y);
+      reloaded = λ st u n done changes y.
+          let same : started_by (owner_after c (st.threads c).owner changes) ≡ started_by (st.threads c).owner = ap started_by (ap (owner_after c (st.threads c).owner) y.changes_are ∙ reload_starts i st n done) in omega (arith, same);
     }
 
   -- ---- at first
@@ -133,7 +140,7 @@ module _ (c : ℕ) where
   module _ (i : Input) (st : State) (inv : Invariant i st) (t : ℕ) (entered : PendingCall) (pending : (st.threads t).pending ≡ Some entered) where
     -- the thread of the fork is one of the script
     owner_there : IsThread i t
-    owner_there = let fine : Fine i st t entered = subst (IfPending (Fine i st t)) pending (inv.fine t) in inv.started t fine.started
+    owner_there = let fine : Fine st t entered = subst (IfPending (Fine st t)) pending (inv.fine t) in inv.started t fine.started
 
     here_left : entered.child ≡ c → 0 + 1 ≤ of_thread worth call_worth (st.threads t)
     here_left is =

@@ -16,7 +16,7 @@ use Rattle.st_trace.specs.declared.entry.Entry.TheVariants.{Denied, Ended}
 use Rattle.st_trace.specs.declared.entry.Way.{Way}
 use Rattle.st_trace.specs.declared.entry.Way.TheVariants.{Fast, Barred, Held, Untraced}
 use Rattle.st_trace.specs.declared.start.Instr.{Instr}
-use Rattle.st_trace.specs.declared.start.Instr.TheVariants.{Store, Call, Fork}
+use Rattle.st_trace.specs.declared.start.Instr.TheVariants.{Store, Call, Fork, Reload}
 use Rattle.st_law.specs.declared.input.Input.{Input}
 use Rattle.st_law.specs.Machine.{answered_entry, barred_entry, decided_entry, held_entry, next_instruction_entry, pending_entry, running_entry, thread_entry, unheld_entry}
 use Rattle.st_law.specs.State.{State, arguments_now, decision_in, is_live, is_open_question, is_question, process_in, snapshot_in}
@@ -94,6 +94,7 @@ module _ (i : Input) (st : State) (whole : Whole i st) (t : ℕ) where
   next_is (Store place word ∷ later) = (_, refl)
   next_is (Call call regs ∷ later) = (_, refl)
   next_is (Fork child ∷ later) = (_, refl)
+  next_is (Reload n ∷ later) = (_, refl)
 
   unheld_is : (call : SysCall) (regs : List ℕ) (pr : Progress) → Ends pr → Is (unheld_entry i st t call regs (process_in st t).ids pr)
   unheld_is call regs (Word part place) x = absurd x
@@ -136,7 +137,7 @@ module _ (i : Input) (st : State) (whole : Whole i st) (t : ℕ) where
     held_still first way (Some errno) is none = something (IsStill i st t) (held_entry i st t q (Some errno)) (_, refl) none
     held_still first way None is none = answered_still first way is (st.messages q).answered refl none
 
-    way_still : (way : Way) → entered.way ≡ way → IsFine i st t entered.call entered.regs way → pending_entry i st t entered.call entered.regs way ≡ None → IsStill i st t
+    way_still : (way : Way) → entered.way ≡ way → IsFine st t entered.call entered.regs way → pending_entry i st t entered.call entered.regs way ≡ None → IsStill i st t
     way_still Fast is fine none = something (IsStill i st t) (pending_entry i st t entered.call entered.regs Fast) (unheld_now entered.call entered.regs) none
     way_still Untraced is fine none = something (IsStill i st t) (pending_entry i st t entered.call entered.regs Untraced) (unheld_now entered.call entered.regs) none
     way_still (Barred n) is fine none = something (IsStill i st t) (pending_entry i st t entered.call entered.regs (Barred n)) (_, ap (barred_entry t n) fine.refused) none
@@ -145,7 +146,7 @@ module _ (i : Input) (st : State) (whole : Whole i st) (t : ℕ) where
   pending_still : (st.threads t).dying ≡ false → (o : Option PendingCall) → (st.threads t).pending ≡ o → running_entry i st t o ≡ None → IsStill i st t
   pending_still undying None is none = something (IsStill i st t) (next_instruction_entry i st t (st.threads t).left) (next_is (st.threads t).left) none
   pending_still undying (Some entered) is none =
-      let fine : Fine i st t entered = subst (IfPending (Fine i st t)) is (whole.calls.fine t) in
+      let fine : Fine st t entered = subst (IfPending (Fine st t)) is (whole.calls.fine t) in
       way_still undying entered is entered.way refl (fine.fine undying) none
 
   dying_still : (b : Bool) → (st.threads t).dying ≡ b → cond b (Some (Ended t)) (running_entry i st t (st.threads t).pending) ≡ None → IsStill i st t

@@ -10,15 +10,16 @@ use Rattle.st_calls.specs.declared.argument.ArgText.{ArgText}
 use Rattle.st_calls.specs.declared.call.SysCall.{SysCall}
 use Rattle.st_calls.specs.declared.judged.Snapshot.{Snapshot}
 use Rattle.st_effects.specs.Changes.{dying_after_change, owner_after_change, seq_after}
-use Rattle.st_effects.specs.Processes.{renewals}
+use Rattle.st_effects.specs.Processes.{is_other_of, renewals_by}
 use Rattle.st_effects.specs.System.{HeldCall}
+use Rattle.st_filter.specs.Policies.{filters_in_force, is_block_of}
 use Rattle.st_filter.specs.declared.set.Reply.{Reply}
 use Rattle.st_trace.specs.declared.entry.CallResult.{CallResult}
 use Rattle.st_trace.specs.declared.entry.Change.{Change}
 use Rattle.st_trace.specs.declared.entry.Change.TheVariants.{Dying, Execed, Forked}
 use Rattle.st_trace.specs.declared.entry.Choice.{Choice}
 use Rattle.st_trace.specs.declared.entry.Entry.{Entry}
-use Rattle.st_trace.specs.declared.entry.Entry.TheVariants.{Stored, Entered, Claimed, Copied, Looked, Faulted, Answered, Used, Denied, Ended, Learned, Replied}
+use Rattle.st_trace.specs.declared.entry.Entry.TheVariants.{Stored, Entered, Claimed, Copied, Looked, Faulted, Answered, Used, Denied, Ended, Learned, Replied, Reloaded}
 use Rattle.st_trace.specs.declared.entry.Way.{Way}
 use Rattle.st_trace.specs.declared.entry.Way.TheVariants.{Fast, Barred, Held, Untraced}
 use Rattle.st_law.specs.declared.input.Input.{Input}
@@ -27,13 +28,15 @@ use Rattle.st_law.specs.declared.input.Mode.TheVariants.{Enforce, Learn, AskText
 use Rattle.st_law.specs.Lawful.{IsLawful, IsLearned, IsReplied, IsUsed}
 use Rattle.st_law.specs.Machine.{entry_of, state_after, thread_entry}
 use Rattle.st_law.specs.Sessions.{decision, is_reply_for, learnt_by, learnt_filter, least_from, replied_by, session_filters}
-use Rattle.st_law.specs.State.{State, held_from, operator_decides, is_live, is_open_question, is_undecided, read_at, request_of, snapshot_in, system_of, thread_count}
+use Rattle.st_law.specs.State.{State, held_from, is_head_under, is_held_under, reload_changes, operator_decides, is_live, is_open_question, is_undecided, request_of, snapshot_in, system_of, thread_count}
 use Rattle.st_law.specs.Threads.{child_of_next, thread_of}
-use Rattle.st_law.proofs.HeldCalls.{IsHolder, own_of}
-use Rattle.st_law.proofs.Invariant.{IsOpen}
+use Rattle.st_law.proofs.HeldCalls.{IsHolder, held_of, own_of}
+use Rattle.st_law.proofs.Invariant.{IsOpen, IfPending, Fine}
 use Rattle.st_law.proofs.QuietChanges.{fold_same, mute_of_quiet, seq_mute}
-use Rattle.st_law.proofs.RenewalKept.{open_of}
+use Rattle.st_law.proofs.HeldRenewals.{open_of, renewal}
+use Rattle.st_law.proofs.ReloadKept.{same_dying, same_owner}
 use Rattle.st_law.proofs.Renewals.{one_more}
+use Rattle.st_law.proofs.ThreadSteps.{IsCopyOf, copies_of}
 use Rattle.st_law.proofs.Shapes.{Each, Shape, quiet, forked, execed, renewed}
 use Rattle.st_law.proofs.Turns.{IsFresh}
 use Rattle.st_law.proofs.UsedShapes.{used_shape}
@@ -67,22 +70,22 @@ dying_calm t p u m b _ calm = refl
 abbrev SameOrNew : ℕ → ℕ → List Change → Type 0
 SameOrNew n next changes = (seq_after n changes ≡ n) ⊎ (next ≤ seq_after n changes)
 
-module _ (m u : ℕ) where
-  renewals_new : (n next : ℕ) (helds : List HeldCall) → SameOrNew n next (renewals m u next helds)
+module _ (is : HeldCall → Bool) where
+  renewals_new : (n next : ℕ) (helds : List HeldCall) → SameOrNew n next (renewals_by is next helds)
   renewals_new n next [] = inl refl
-  renewals_new n next (held ∷ more) = one_more m u (SameOrNew n next) next held more
+  renewals_new n next (held ∷ more) = one_more is (SameOrNew n next) next held more
       (λ is_so. by (held.number == n) (renewals_new n (next + 1) more) (renewals_new next (next + 1) more))
       (λ not_so. renewals_new n next more) where
-        here : SameOrNew next (next + 1) (renewals m u (next + 1) more) → next ≤ seq_after next (renewals m u (next + 1) more)
+        here : SameOrNew next (next + 1) (renewals_by is (next + 1) more) → next ≤ seq_after next (renewals_by is (next + 1) more)
         here (inl same) = omega (arith, same)
         here (inr high) = omega (arith, high)
 
-        later : SameOrNew n (next + 1) (renewals m u (next + 1) more) → SameOrNew n next (renewals m u (next + 1) more)
+        later : SameOrNew n (next + 1) (renewals_by is (next + 1) more) → SameOrNew n next (renewals_by is (next + 1) more)
         later (inl same) = inl same
         later (inr high) = inr (omega (arith, high))
 
-        by : (b : Bool) → SameOrNew n (next + 1) (renewals m u (next + 1) more) → SameOrNew next (next + 1) (renewals m u (next + 1) more)
-            → (seq_after (cond b next n) (renewals m u (next + 1) more) ≡ n) ⊎ (next ≤ seq_after (cond b next n) (renewals m u (next + 1) more))
+        by : (b : Bool) → SameOrNew n (next + 1) (renewals_by is (next + 1) more) → SameOrNew next (next + 1) (renewals_by is (next + 1) more)
+            → (seq_after (cond b next n) (renewals_by is (next + 1) more) ≡ n) ⊎ (next ≤ seq_after (cond b next n) (renewals_by is (next + 1) more))
         by true x y = inr (here y)
         by false x y = later x
 
@@ -98,9 +101,9 @@ asked_by i st new replied s Enforce = refl
 asked_by i st new replied s Learn = refl
 asked_by i st new replied s AskText = λ k. is_some (least_from (λ n. is_reply_for s.policy s.rule (item_at_number i.replies n) && not (replied k n)) 1 (length i.replies))
 
-open_by : (i : Input) (st new : State) → new.session ≡ st.session → new.replied ≡ st.replied → (s : Snapshot) → is_open_question i new (Some s) ≡ is_open_question i st (Some s)
-open_by i st new session replied s =
-    λ k. is_undecided (decision (read_at i new s.policy s.rule) (session_filters (session k) s.policy s.rule) s) && asked_by i st new replied s i.options.mode k
+open_by : (i : Input) (st new : State) → new.session ≡ st.session → new.replied ≡ st.replied → (s : Snapshot) → new.versions s.policy ≡ st.versions s.policy → is_open_question i new (Some s) ≡ is_open_question i st (Some s)
+open_by i st new session replied s version =
+    λ k. is_undecided (decision (filters_in_force i.policies s.policy (version k) s.rule) (session_filters (session k) s.policy s.rule) s) && asked_by i st new replied s i.options.mode k
 
 module _ (i : Input) (st : State) (reached : Reached i st) (t : ℕ) where
   abbrev number : ℕ
@@ -125,7 +128,7 @@ module _ (i : Input) (st : State) (reached : Reached i st) (t : ℕ) where
     pub unfaulted : IsAwaiting st t → ((state_after i st e).messages ((state_after i st e).threads t).number).fault ≡ None
     pub unanswered : IsAwaiting st t → ((state_after i st e).messages ((state_after i st e).threads t).number).answered ≡ false
     pub renewed : (((state_after i st e).threads t).number ≡ number) ⊎ IsUnmetIn (state_after i st e) ((state_after i st e).threads t).number
-    pub question : (s : Snapshot) → snapshot_in st number ≡ Some s → WaitsForOperator i st t → is_open_question i (state_after i st e) (Some s) ≡ is_open_question i st (Some s)
+    pub question : (s : Snapshot) → snapshot_in st number ≡ Some s → WaitsForOperator i st t → ((state_after i st e).threads t).number ≡ number → is_open_question i (state_after i st e) (Some s) ≡ is_open_question i st (Some s)
 
   -- a question stays one if its number is the same, and the operator still has to answer for its copies
   asks_on : (e : Entry) → IsLawful i st e → (leaves : Leaves e) → WaitsForOperator i st t → ((state_after i st e).threads t).number ≡ number → WaitsForOperator i (state_after i st e) t
@@ -139,7 +142,7 @@ module _ (i : Input) (st : State) (reached : Reached i st) (t : ℕ) where
       let copies : snapshot_in new (new.threads t).number ≡ snapshot_in st number = ap (snapshot_in new) same ∙ copies_after i st reached.whole number was e lawful in
       let there : (s : Snapshot) × (snapshot_in st number ≡ Some s) = reached.whole.turns.ready number was in
       let is_open : is_open_question i new (snapshot_in new (new.threads t).number) ≡ true =
-      ap (is_open_question i new) (copies ∙ there.1) ∙ leaves.question there.0 there.1 x ∙ sym (ap (is_open_question i st) there.1)
+      ap (is_open_question i new) (copies ∙ there.1) ∙ leaves.question there.0 there.1 x same ∙ sym (ap (is_open_question i st) there.1)
       ∙ (and_parts (is_live st number && (st.messages number).answered) (is_open_question i st (snapshot_in st number)) x.question).1 in
       let live : is_live new (new.threads t).number ≡ true = ((held_live i new then).held t x.entered x.first pending x.way undying).live in record {
         undying = undying;
@@ -190,7 +193,7 @@ module _ (i : Input) (st : State) (reached : Reached i st) (t : ℕ) where
     unfaulted = λ x. ap (λ q. (st.messages q).fault) (number_same way) ∙ x.unfaulted;
     unanswered = λ x. ap (λ q. (st.messages q).answered) (number_same way) ∙ x.unanswered;
     renewed = inl (number_same way);
-    question = λ s there x. open_by i st (state_after i st (Entered u call regs way)) refl refl s;
+    question = λ s there x same. open_by i st (state_after i st (Entered u call regs way)) refl refl s refl;
   } where
     number_same : (each : Way) → ((state_after i st (Entered u call regs each)).threads t).number ≡ number
     number_same Fast = refl
@@ -224,7 +227,7 @@ module _ (i : Input) (st : State) (reached : Reached i st) (t : ℕ) where
     number_by (quiet x) calm = inl (seq_mute number changes (mute_of_quiet changes x))
     number_by (forked is e) calm = absurd (true≢false (subst (Each IsCalm) e calm).0)
     number_by (execed binary e) calm = absurd (true≢false (subst (Each IsCalm) e calm).0)
-    number_by (renewed set sets e) calm = subst (SameOrNew number (suc st.posted)) (sym e) (renewals_new (st.threads u).owner u number (suc st.posted) (held_from st 1 (thread_count i)))
+    number_by (renewed set sets e) calm = subst (SameOrNew number (suc st.posted)) (sym e) (renewals_new (is_other_of (st.threads u).owner u) number (suc st.posted) (held_from st 1 (thread_count i)))
 
     unmet_then : IsAwaiting st t → SameOrNew number (suc st.posted) changes → IsUnmet (seq_after number changes)
     unmet_then x (inl same) = subst IsUnmet (sym same) (x.unfaulted, x.unanswered)
@@ -244,14 +247,75 @@ module _ (i : Input) (st : State) (reached : Reached i st) (t : ℕ) where
           unfaulted = λ x. (unmet_then x drawn).0;
           unanswered = λ x. (unmet_then x drawn).1;
           renewed = same_or_unmet drawn;
-          question = λ s there x. open_by i st (state_after i st (Used u seq call regs args ids result changes)) refl refl s;
+          question = λ s there x same. open_by i st (state_after i st (Used u seq call regs args ids result changes)) refl refl s refl;
         }
-
-  -- ---- the operator answers a question of another policy or rule
 
   -- a thread that waits for the operator holds its call
   holder : WaitsForOperator i st t → IsHolder st t
   holder x = record { entered = x.entered; pending = x.pending; first = x.first; way = x.way; undying = x.undying }
+
+  -- ---- another thread reloads a policy
+
+  module _ (u n : ℕ) where
+    abbrev is : HeldCall → Bool
+    is = is_held_under i st n
+
+    abbrev done : State
+    done = state_after i st (Reloaded u n true (reload_changes i st n true))
+
+    done_drawn : SameOrNew number (suc st.posted) (reload_changes i st n true)
+    done_drawn = renewals_new is number (suc st.posted) (held_from st 1 (thread_count i))
+
+    done_unmet : IsAwaiting st t → SameOrNew number (suc st.posted) (reload_changes i st n true) → IsUnmet (seq_after number (reload_changes i st n true))
+    done_unmet x (inl same) = subst IsUnmet (sym same) (x.unfaulted, x.unanswered)
+    done_unmet x (inr high) = unmet_above (seq_after number (reload_changes i st n true)) (omega (arith, high))
+
+    done_or_unmet : SameOrNew number (suc st.posted) (reload_changes i st n true) → (seq_after number (reload_changes i st n true) ≡ number) ⊎ IsUnmet (seq_after number (reload_changes i st n true))
+    done_or_unmet (inl same) = inl same
+    done_or_unmet (inr high) = inr (unmet_above (seq_after number (reload_changes i st n true)) (omega (arith, high)))
+
+    -- a question whose number is the same is under another policy: those under this one are renewed
+    question_by : (x : WaitsForOperator i st t) (s : Snapshot) → snapshot_in st number ≡ Some s → (done.threads t).number ≡ number → (b : Bool) → is (held_of st t) ≡ b → done.versions s.policy ≡ st.versions s.policy
+    unfolding holder
+    question_by x s there same true is_so =
+        let is_open : IsOpen st t x.entered.call x.entered.regs = open_of i st reached.whole.calls t (holder x) in
+        let fine : Fine st t x.entered = subst (IfPending (Fine st t)) x.pending (reached.whole.calls.fine t) in
+        let drawn = renewal i st reached.whole.calls is (λ q. (st.messages q).head) (λ head. head) t fine.started (holder x) is_so x.entered.call x.entered.regs is_open in
+        let new = drawn.drawn in
+        let high = drawn.low in
+        let low = is_open.low in
+        absurd (omega (arith, same, new, high, low))
+    question_by x s there same false not_so =
+        let is_open : IsOpen st t x.entered.call x.entered.regs = open_of i st reached.whole.calls t (holder x) in
+        let copy : IsCopyOf is_open.head s = copies_of st number is_open.head is_open.posted s there in
+        ap (λ b. cond b n (st.versions s.policy)) (ap (is_block_of i.policies n) copy.policy ∙ sym (ap (is_head_under i n) is_open.posted) ∙ not_so)
+
+    done_leaves : Leaves (Reloaded u n true (reload_changes i st n true))
+    done_leaves = record {
+      owner = same_owner i st reached.whole.calls u n t;
+      over = refl;
+      dying = same_dying i st reached.whole.calls u n t;
+      pending = refl;
+      unfaulted = λ x. (done_unmet x done_drawn).0;
+      unanswered = λ x. (done_unmet x done_drawn).1;
+      renewed = done_or_unmet done_drawn;
+      question = λ s there x same. open_by i st done refl refl s (question_by x s there same (is (held_of st t)) refl);
+    }
+
+    reloaded_leaves : (b : Bool) → Leaves (Reloaded u n b (reload_changes i st n b))
+    reloaded_leaves true = done_leaves
+    reloaded_leaves false = record {
+      owner = refl;
+      over = refl;
+      dying = refl;
+      pending = refl;
+      unfaulted = λ x. x.unfaulted;
+      unanswered = λ x. x.unanswered;
+      renewed = inl refl;
+      question = λ s there x same. open_by i st (state_after i st (Reloaded u n false [])) refl refl s refl;
+    }
+
+  -- ---- the operator answers a question of another policy or rule
 
   apart : (q : ℕ) → holds_alike st q t ≡ false → WaitsForOperator i st t → (copies s : Snapshot) → snapshot_in st q ≡ Some copies → snapshot_in st number ≡ Some s → are_of_one copies s ≡ false
   apart q calm x copies s posted there =
@@ -263,7 +327,7 @@ module _ (i : Input) (st : State) (reached : Reached i st) (t : ℕ) where
   learned_leaves q n y calm x s there =
       let new : State = state_after i st (Learned q n) in
       open_on i st y.copies s (apart q calm x y.copies s y.asked.copies there) new (learnt_filter y.copies)
-      (ap (λ o. st.session ++ learnt_by o) y.asked.copies) (asked_by i st new refl s i.options.mode)
+      (ap (λ o. st.session ++ learnt_by o) y.asked.copies) refl (asked_by i st new refl s i.options.mode)
 
   replied_leaves : (q reply n : ℕ) → IsReplied i st q reply n → holds_alike st q t ≡ false → WaitsForOperator i st t → (s : Snapshot) → snapshot_in st number ≡ Some s → is_open_question i (state_after i st (Replied q reply n)) (Some s) ≡ is_open_question i st (Some s)
   replied_leaves q reply n y calm x s there =
@@ -272,13 +336,14 @@ module _ (i : Input) (st : State) (reached : Reached i st) (t : ℕ) where
       let is_for : is_reply_for y.copies.policy y.copies.rule (item_at_number i.replies reply) ≡ true = (and_parts (is_reply_for y.copies.policy y.copies.rule (item_at_number i.replies reply)) (not (st.replied reply)) y.there).0 in
       let given : (r : Reply) × (item_at_number i.replies reply ≡ Some r) = reply_there y.copies.policy y.copies.rule (item_at_number i.replies reply) is_for in
       open_on i st y.copies s differs new given.0.filter
-      (λ k. st.session ++ replied_by (given.1 k) (y.asked.copies k)) (asked_on i st y.copies s differs new reply refl is_for i.options.mode)
+      (λ k. st.session ++ replied_by (given.1 k) (y.asked.copies k)) refl (asked_on i st y.copies s differs new reply refl is_for i.options.mode)
 
   -- ---- every entry
 
   leaves : (e : Entry) → IsLawful i st e → thread_of e ≢ t → wakes st e t ≡ false → Leaves e
   leaves (Entered u call regs way) y other calm = entered_leaves u call regs way (ne_eqb u t other)
   leaves (Used u seq call regs args ids result changes) y other calm = used_leaves u seq call regs args ids result changes (ne_eqb u t other) (calm_each changes calm) y
+  leaves (Reloaded u n done changes) y other calm = subst (λ cs. Leaves (Reloaded u n done cs)) (sym y.changes_are) (reloaded_leaves u n done)
   leaves (Denied u seq errno cause) y other calm = record {
     owner = refl;
     over = refl;
@@ -287,7 +352,7 @@ module _ (i : Input) (st : State) (reached : Reached i st) (t : ℕ) where
     unfaulted = λ x. x.unfaulted;
     unanswered = λ x. x.unanswered;
     renewed = inl refl;
-    question = λ s there x. open_by i st (state_after i st (Denied u seq errno cause)) refl refl s;
+    question = λ s there x same. open_by i st (state_after i st (Denied u seq errno cause)) refl refl s refl;
   }
   leaves (Ended u) y other calm = record {
     owner = refl;
@@ -297,7 +362,7 @@ module _ (i : Input) (st : State) (reached : Reached i st) (t : ℕ) where
     unfaulted = λ x. x.unfaulted;
     unanswered = λ x. x.unanswered;
     renewed = inl refl;
-    question = λ s there x. open_by i st (state_after i st (Ended u)) refl refl s;
+    question = λ s there x same. open_by i st (state_after i st (Ended u)) refl refl s refl;
   }
   leaves (Faulted q errno) y other calm = record {
     owner = refl;
@@ -307,7 +372,7 @@ module _ (i : Input) (st : State) (reached : Reached i st) (t : ℕ) where
     unfaulted = λ x. ap (λ b. cond b (Some errno) (st.messages number).fault) (other_number x q calm) ∙ x.unfaulted;
     unanswered = λ x. x.unanswered;
     renewed = inl refl;
-    question = λ s there x. open_by i st (state_after i st (Faulted q errno)) refl refl s;
+    question = λ s there x same. open_by i st (state_after i st (Faulted q errno)) refl refl s refl;
   }
   leaves (Answered w s v applied) y other calm = record {
     owner = refl;
@@ -317,7 +382,7 @@ module _ (i : Input) (st : State) (reached : Reached i st) (t : ℕ) where
     unfaulted = λ x. x.unfaulted;
     unanswered = λ x. unanswered_by x s.seq applied calm;
     renewed = inl refl;
-    question = λ s there x. open_by i st (state_after i st (Answered w s v applied)) refl refl s;
+    question = λ s there x same. open_by i st (state_after i st (Answered w s v applied)) refl refl s refl;
   }
   leaves (Learned q n) y other calm = record {
     owner = refl;
@@ -327,7 +392,7 @@ module _ (i : Input) (st : State) (reached : Reached i st) (t : ℕ) where
     unfaulted = λ x. x.unfaulted;
     unanswered = λ x. x.unanswered;
     renewed = inl refl;
-    question = λ s there x. learned_leaves q n y calm x s there;
+    question = λ s there x same. learned_leaves q n y calm x s there;
   }
   leaves (Replied q reply n) y other calm = record {
     owner = refl;
@@ -337,7 +402,7 @@ module _ (i : Input) (st : State) (reached : Reached i st) (t : ℕ) where
     unfaulted = λ x. x.unfaulted;
     unanswered = λ x. x.unanswered;
     renewed = inl refl;
-    question = λ s there x. replied_leaves q reply n y calm x s there;
+    question = λ s there x same. replied_leaves q reply n y calm x s there;
   }
   leaves (Stored u place word) y other calm = record {
     owner = refl;
@@ -347,7 +412,7 @@ module _ (i : Input) (st : State) (reached : Reached i st) (t : ℕ) where
     unfaulted = λ x. x.unfaulted;
     unanswered = λ x. x.unanswered;
     renewed = inl refl;
-    question = λ s there x. open_by i st (state_after i st (Stored u place word)) refl refl s;
+    question = λ s there x same. open_by i st (state_after i st (Stored u place word)) refl refl s refl;
   }
   leaves (Claimed w q) y other calm = record {
     owner = refl;
@@ -357,7 +422,7 @@ module _ (i : Input) (st : State) (reached : Reached i st) (t : ℕ) where
     unfaulted = λ x. x.unfaulted;
     unanswered = λ x. x.unanswered;
     renewed = inl refl;
-    question = λ s there x. open_by i st (state_after i st (Claimed w q)) refl refl s;
+    question = λ s there x same. open_by i st (state_after i st (Claimed w q)) refl refl s refl;
   }
   leaves (Copied q part place word) y other calm = record {
     owner = refl;
@@ -367,7 +432,7 @@ module _ (i : Input) (st : State) (reached : Reached i st) (t : ℕ) where
     unfaulted = λ x. x.unfaulted;
     unanswered = λ x. x.unanswered;
     renewed = inl refl;
-    question = λ s there x. open_by i st (state_after i st (Copied q part place word)) refl refl s;
+    question = λ s there x same. open_by i st (state_after i st (Copied q part place word)) refl refl s refl;
   }
   leaves (Looked q part name seen) y other calm = record {
     owner = refl;
@@ -377,7 +442,7 @@ module _ (i : Input) (st : State) (reached : Reached i st) (t : ℕ) where
     unfaulted = λ x. x.unfaulted;
     unanswered = λ x. x.unanswered;
     renewed = inl refl;
-    question = λ s there x. open_by i st (state_after i st (Looked q part name seen)) refl refl s;
+    question = λ s there x same. open_by i st (state_after i st (Looked q part name seen)) refl refl s refl;
   }
 
   -- a still thread stays still after a lawful entry

@@ -14,14 +14,14 @@ use Rattle.st_effects.specs.Progress.{Progress, Word, Look, Stuck, Ready}
 use Rattle.st_filter.specs.Formula.{FilterValue}
 use Rattle.st_filter.specs.declared.filter.FilterName.{FilterName}
 use Rattle.st_filter.specs.declared.filter.FilterName.TheVariants as name
-use Rattle.st_filter.specs.Policies.{is_for}
+use Rattle.st_filter.specs.Policies.{filters_in_force, is_for}
 use Rattle.st_filter.specs.declared.set.Reply.{Reply}
 use Rattle.st_law.specs.declared.input.Input.{Input}
 use Rattle.st_law.specs.declared.input.Mode.{Mode}
 use Rattle.st_law.specs.declared.input.Mode.TheVariants.{Enforce, Learn, AskText}
 use Rattle.st_law.specs.Messages.{Head}
 use Rattle.st_law.specs.Sessions.{SessionFilter, decision, is_kept_for, is_reply_for, kept_for, least_from, session_filters}
-use Rattle.st_law.specs.State.{State, operator_decides, is_open_question, is_reply_left, is_undecided, progress_in, read_at, snapshot_in, snapshot_of_progress}
+use Rattle.st_law.specs.State.{State, operator_decides, is_open_question, is_reply_left, is_undecided, progress_in, snapshot_in, snapshot_of_progress}
 use Rattle.st_law.proofs.Growth.{session_append}
 use Rattle.st_reached.specs.Waiting.{are_alike}
 
@@ -116,11 +116,11 @@ module _ (i : Input) (st : State) (r : ℕ) (other : List ℕ) (its : Rule) (not
 
 module _ (i : Input) (st : State) (s other : Snapshot) (apart : are_of_one s other ≡ false) where
   -- a call of another policy or rule is a question by the same filters, if the same replies are left for it
-  pub open_on : (new : State) (given : FilterValue) → new.session ≡ st.session ++ kept_for given s ∷ [] → operator_decides i new other i.options.mode ≡ operator_decides i st other i.options.mode → is_open_question i new (Some other) ≡ is_open_question i st (Some other)
-  open_on new given session asked =
+  pub open_on : (new : State) (given : FilterValue) → new.session ≡ st.session ++ kept_for given s ∷ [] → new.versions other.policy ≡ st.versions other.policy → operator_decides i new other i.options.mode ≡ operator_decides i st other i.options.mode → is_open_question i new (Some other) ≡ is_open_question i st (Some other)
+  open_on new given session version asked =
       let filters : session_filters new.session other.policy other.rule ≡ session_filters st.session other.policy other.rule =
       ap (λ kept. session_filters kept other.policy other.rule) session ∙ others_kept st.session (kept_for given s) other.policy other.rule apart in
-      λ k. is_undecided (decision (read_at i new other.policy other.rule) (filters k) other) && asked k
+      λ k. is_undecided (decision (filters_in_force i.policies other.policy (version k) other.rule) (filters k) other) && asked k
 
   -- the replies left for it are the same as before the reply was given
   pub asked_on : (new : State) (r : ℕ) → new.replied ≡ (λ n. r == n || st.replied n) → is_reply_for s.policy s.rule (item_at_number i.replies r) ≡ true → (mode : Mode) → operator_decides i new other mode ≡ operator_decides i st other mode

@@ -6,7 +6,7 @@ use Rattle.std.proofs.lemmas.List.Folds.{fold_stays}
 use Rattle.st_base.specs.declared.ids.Ids.{Ids}
 use Rattle.st_calls.specs.declared.argument.ArgText.{ArgText}
 use Rattle.st_calls.specs.declared.call.SysCall.{SysCall}
-use Rattle.st_effects.specs.Processes.{renewals}
+use Rattle.st_effects.specs.Processes.{is_other_of, renewals, renewals_by}
 use Rattle.st_effects.specs.System.{HeldCall}
 use Rattle.st_model.specs.Tree.{is_number}
 use Rattle.st_trace.specs.declared.entry.CallResult.{CallResult}
@@ -64,7 +64,7 @@ old_by P Q f (_ ∷ changes) x = old_by P Q f changes x
 
 module _ (circle most : ℕ) (kept : ℕ → Bool) (workers : List ℕ) where
   -- each drawing in use is that of a thread or of a worker, and these are fewer than the circle has numbers
-  record Seated (numbers : Numbers) (threads : List ℕ) : Type 0 where
+  pub record Seated (numbers : Numbers) (threads : List ℕ) : Type 0 where
     pub seats : (q : ℕ) → numbers.in_use q ≡ true → Among q threads ⊎ Among q workers
     pub keepers : (q : ℕ) → kept q ≡ true → Among q workers
     pub few : length threads + length workers ≤ most
@@ -111,21 +111,21 @@ module _ (circle most : ℕ) (kept : ℕ → Bool) (workers : List ℕ) where
 
 -- ---- renewals
 
-module _ (m u : ℕ) where
-  renewals_follow : (last next : ℕ) (helds : List HeldCall) → next ≡ suc last → Follows last (renewals m u next helds)
+module _ (is : HeldCall → Bool) where
+  pub renewals_follow : (last next : ℕ) (helds : List HeldCall) → next ≡ suc last → Follows last (renewals_by is next helds)
   renewals_follow last next [] e = tt
-  renewals_follow last next (held ∷ more) e = one_more m u (Follows last) next held more
+  renewals_follow last next (held ∷ more) e = one_more is (Follows last) next held more
       (λ is_so. (e, renewals_follow next (next + 1) more (omega arith))) (λ not_so. renewals_follow last next more e)
 
-  renewals_old : (P : ℕ → Type 0) (next : ℕ) (helds : List HeldCall) → EachHeld (λ held. P held.number) helds → EachOld P (renewals m u next helds)
+  pub renewals_old : (P : ℕ → Type 0) (next : ℕ) (helds : List HeldCall) → EachHeld (λ held. P held.number) helds → EachOld P (renewals_by is next helds)
   renewals_old P next [] each = tt
-  renewals_old P next (held ∷ more) each = one_more m u (EachOld P) next held more
+  renewals_old P next (held ∷ more) each = one_more is (EachOld P) next held more
       (λ is_so. (each.0, renewals_old P (next + 1) more each.1)) (λ not_so. renewals_old P next more each.1)
 
   module _ (circle most : ℕ) (kept : ℕ → Bool) (workers : List ℕ) where
-    renewals_fit : (next : ℕ) (helds : List HeldCall) (numbers : Numbers) (threads : List ℕ) → Seated circle most kept workers numbers threads → EachHeld (λ held. Among held.number threads) helds → Apart helds → Fits circle kept most numbers (renewals m u next helds)
+    pub renewals_fit : (next : ℕ) (helds : List HeldCall) (numbers : Numbers) (threads : List ℕ) → Seated circle most kept workers numbers threads → EachHeld (λ held. Among held.number threads) helds → Apart helds → Fits circle kept most numbers (renewals_by is next helds)
     renewals_fit next [] numbers threads x there apart = tt
-    renewals_fit next (held ∷ more) numbers threads x there apart = one_more m u (Fits circle kept most numbers) next held more
+    renewals_fit next (held ∷ more) numbers threads x there apart = one_more is (Fits circle kept most numbers) next held more
         (λ is_so. (
           (threads ++ workers, seats_cover circle most kept workers numbers threads x),
           renewals_fit (next + 1) more (numbers_after_change circle kept numbers (Renewed held.number next)) (then circle most kept workers numbers threads x held.number next there.0)
@@ -139,7 +139,7 @@ module _ (m u : ℕ) where
 -- ---- the drawings that are in use in a state
 
 module _ (i : Input) (st : State) (reached : Reached i st) (circle : ℕ) (numbers : Numbers) where
-  seated_now : Seated circle (thread_count i + i.options.workers) (is_kept i st) (worker_drawings i st) (in_use_now i st numbers) (thread_drawings i st)
+  pub seated_now : Seated circle (thread_count i + i.options.workers) (is_kept i st) (worker_drawings i st) (in_use_now i st numbers) (thread_drawings i st)
   seated_now = record {
     seats = λ q used. used_listed i st reached q used;
     keepers = λ q kept. served_listed i st reached q (kept_served i st q kept);
@@ -149,6 +149,28 @@ module _ (i : Input) (st : State) (reached : Reached i st) (circle : ℕ) (numbe
   -- at most one drawing for each thread and worker is in use in a state
   pub now_covered : Covers (in_use_now i st numbers) (thread_count i + i.options.workers) (thread_drawings i st ++ worker_drawings i st)
   now_covered = seats_cover circle (thread_count i + i.options.workers) (is_kept i st) (worker_drawings i st) (in_use_now i st numbers) (thread_drawings i st) seated_now
+
+-- the number of a held call is live
+pub item_live : (i : Input) (st : State) → Reached i st → (held : HeldCall) → IsItem st held → is_live st held.number ≡ true
+item_live i st reached held x = subst (λ n. is_live st n ≡ true) (sym (ap (λ (each : HeldCall). each.number) x.is)) (held_lives i st reached.whole.calls held.tid x.holder)
+
+-- ---- what isn't renewed
+
+-- a drawing that isn't renewed by changes is none of those that they renew
+pub not_renewed : (q : ℕ) (before : Bool) (cs : List Change) → fold (is_renewed_by q) before cs ≡ false → EachOld (λ old. (q == old) ≡ false) cs
+not_renewed q before [] e = tt
+not_renewed q before (Renewed old new ∷ cs) e = (
+  ne_eqb q old (λ same. true≢false (sym (fold_stays (is_renewed_by q) true (renewed_stays q) cs)
+      ∙ ap (λ b. fold (is_renewed_by q) (b || before) cs) (sym (eq-eqb old q (sym same))) ∙ e)),
+  not_renewed q (old == q || before) cs e,
+)
+not_renewed q before (_ ∷ cs) e = not_renewed q before cs e
+
+-- a live drawing is open
+pub open_live : (o : Option Head) (closed : Bool) (dying : ℕ → Bool) → is_live_by o closed dying ≡ true → closed ≡ false
+open_live None closed dying e = cc
+open_live (Some head) true dying e = cc
+open_live (Some head) false dying e = refl
 
 -- ---- a lawful call
 
@@ -169,16 +191,13 @@ module _ (i : Input) (st : State) (reached : Reached i st) (u : ℕ) (seq : Opti
     by (renewed set sets e) = subst P (sym e) (renewing set)
 
   pub used_follows : Follows st.posted changes
-  used_follows = by_shape (Follows st.posted) (calm_follows st.posted) (λ set. renewals_follow m u st.posted (suc st.posted) helds refl)
-
-  item_live : (held : HeldCall) → IsItem st held → is_live st held.number ≡ true
-  item_live held x = subst (λ n. is_live st n ≡ true) (sym (ap (λ (each : HeldCall). each.number) x.is)) (held_lives i st reached.whole.calls held.tid x.holder)
+  used_follows = by_shape (Follows st.posted) (calm_follows st.posted) (λ set. renewals_follow (is_other_of m u) st.posted (suc st.posted) helds refl)
 
   -- what is renewed is live
   pub used_old : EachOld (λ old. is_live st old ≡ true) changes
   used_old = by_shape (EachOld (λ old. is_live st old ≡ true)) (calm_old (λ old. is_live st old ≡ true))
-      (λ set. renewals_old m u (λ old. is_live st old ≡ true) (suc st.posted) helds
-      (each_held (IsItem st) (λ held. is_live st held.number ≡ true) item_live helds (items st 1 (thread_count i))))
+      (λ set. renewals_old (is_other_of m u) (λ old. is_live st old ≡ true) (suc st.posted) helds
+      (each_held (IsItem st) (λ held. is_live st held.number ≡ true) (item_live i st reached) helds (items st 1 (thread_count i))))
 
   module _ (circle : ℕ) (numbers : Numbers) where
     abbrev most : ℕ
@@ -187,27 +206,11 @@ module _ (i : Input) (st : State) (reached : Reached i st) (u : ℕ) (seq : Opti
     -- at most one drawing for each thread and worker is in use at each renewal
     pub used_fits : Fits circle (is_kept i st) most (in_use_now i st numbers) changes
     used_fits = by_shape (Fits circle (is_kept i st) most (in_use_now i st numbers)) (calm_fits circle (is_kept i st) most (in_use_now i st numbers))
-        (λ set. renewals_fit m u circle most (is_kept i st) (worker_drawings i st) (suc st.posted) helds (in_use_now i st numbers) (thread_drawings i st) (seated_now i st reached circle numbers)
-        (each_held (IsItem st) (λ held. Among held.number (thread_drawings i st)) (λ held x. live_listed i st reached held.number (item_live held x)) helds (items st 1 (thread_count i)))
+        (λ set. renewals_fit (is_other_of m u) circle most (is_kept i st) (worker_drawings i st) (suc st.posted) helds (in_use_now i st numbers) (thread_drawings i st) (seated_now i st reached circle numbers)
+        (each_held (IsItem st) (λ held. Among held.number (thread_drawings i st)) (λ held x. live_listed i st reached held.number (item_live i st reached held x)) helds (items st 1 (thread_count i)))
         (apart i st reached.whole.calls 1 (thread_count i)))
 
   -- ---- what is in use after the call, and was renewed by it, is kept
-
-  -- a drawing that isn't renewed by changes is none of those that they renew
-  not_renewed : (q : ℕ) (before : Bool) (cs : List Change) → fold (is_renewed_by q) before cs ≡ false → EachOld (λ old. (q == old) ≡ false) cs
-  not_renewed q before [] e = tt
-  not_renewed q before (Renewed old new ∷ cs) e = (
-    ne_eqb q old (λ same. true≢false (sym (fold_stays (is_renewed_by q) true (renewed_stays q) cs)
-        ∙ ap (λ b. fold (is_renewed_by q) (b || before) cs) (sym (eq-eqb old q (sym same))) ∙ e)),
-    not_renewed q (old == q || before) cs e,
-  )
-  not_renewed q before (_ ∷ cs) e = not_renewed q before cs e
-
-  -- a live drawing is open
-  open_live : (o : Option Head) (closed : Bool) (dying : ℕ → Bool) → is_live_by o closed dying ≡ true → closed ≡ false
-  open_live None closed dying e = cc
-  open_live (Some head) true dying e = cc
-  open_live (Some head) false dying e = refl
 
   abbrev made : Entry
   made = Used u seq call regs args ids result changes

@@ -11,12 +11,12 @@ use Rattle.st_trace.specs.declared.entry.CallResult.{CallResult}
 use Rattle.st_trace.specs.declared.entry.Change.{Change}
 use Rattle.st_trace.specs.declared.entry.Change.TheVariants.{Execed, Dying, Renewed}
 use Rattle.st_trace.specs.declared.entry.Entry.{Entry}
-use Rattle.st_trace.specs.declared.entry.Entry.TheVariants.{Entered, Used, Denied}
+use Rattle.st_trace.specs.declared.entry.Entry.TheVariants.{Entered, Used, Denied, Reloaded}
 use Rattle.st_trace.specs.declared.entry.Way.TheVariants.{Held}
 use Rattle.st_law.specs.declared.input.Input.{Input}
 use Rattle.st_law.specs.Lawful.{IsUsed}
 use Rattle.st_law.specs.Messages.{Head}
-use Rattle.st_law.specs.Schedules.{instruction_count, set_id_count}
+use Rattle.st_law.specs.Schedules.{instruction_count, renewing_count}
 use Rattle.st_calls.specs.Call.{sets_ids}
 use Rattle.st_law.specs.State.{State, is_live, process_in}
 use Rattle.st_law.specs.Threads.{PendingCall}
@@ -65,10 +65,10 @@ pub record SetsOwnIds (i : Input) (st : State) : Type 0 where
 
 -- ---- how many numbers are drawn
 
--- the bound of numbers: no run draws more. An instruction's call draws one number if it is held. A call that sets ids renews the numbers of
--- held calls, and there are at most as many of these as threads, so at most 64.
+-- the bound of numbers: no run draws more. An instruction's call draws one number if it is held. A call that sets ids and a reload renew the
+-- numbers of held calls, and there are at most as many of these as threads, so at most 64.
 abbrev pub most_numbers : Input → ℕ
-most_numbers i = instruction_count i + 64 * set_id_count i
+most_numbers i = instruction_count i + 64 * renewing_count i
 
 -- ---- which numbers are live after an entry
 
@@ -107,4 +107,5 @@ life_after st (Entered t call regs (Held q)) other = if other == q then true els
 life_after st (Used t seq call regs args ids result changes) other =
     life_after_changes st (st.threads t).owner (life_without st seq) changes other
 life_after st (Denied t seq errno cause) other = life_without st seq other
+life_after st (Reloaded t n done changes) other = life_after_changes st (st.threads t).owner (is_live st) changes other
 life_after st _ other = is_live st other

@@ -5,7 +5,7 @@ use Rattle.std.specs.List.{All}
 use Rattle.st_base.specs.Numbered.{item_at_number}
 use Rattle.st_model.specs.declared.limits.TheConstants.{SPACE_WORDS}
 use Rattle.st_trace.specs.declared.start.Instr.{Instr}
-use Rattle.st_trace.specs.declared.start.Instr.TheVariants.{Store, Call, Fork}
+use Rattle.st_trace.specs.declared.start.Instr.TheVariants.{Store, Call, Fork, Reload}
 use Rattle.st_trace.specs.declared.start.Start.{Start}
 use Rattle.st_trace.specs.declared.start.ThreadRow.{ThreadRow}
 
@@ -16,6 +16,7 @@ abbrev pub IsInMemory : Instr → Type 0
 IsInMemory (Store place word) = place < SPACE_WORDS
 IsInMemory (Call call regs) = Unit {0}
 IsInMemory (Fork child) = Unit {0}
+IsInMemory (Reload n) = Unit {0}
 
 -- each store of a script is inside memory
 abbrev pub StoresInMemory : Start → Type 0
@@ -33,6 +34,7 @@ abbrev pub is_start_of : ℕ → Instr → Bool
 is_start_of t (Store place word) = false
 is_start_of t (Call call regs) = false
 is_start_of t (Fork child) = child == t
+is_start_of t (Reload n) = false
 
 -- in how many ways a thread can start: by its row, and by each instruction of any body that forks it
 abbrev pub starts_of : Start → ℕ → ℕ

@@ -3,25 +3,28 @@ ghost use Rattle.std.specs.Prelude.{◌≡◌, ◌≢◌, ◌≤◌, ◌<◌, �
 ghost use Rattle.st_base.specs.declared.ids.Ids.{Ids};
 ghost use Rattle.st_calls.specs.declared.argument.ArgText.{ArgText};
 ghost use Rattle.st_calls.specs.declared.call.SysCall.{SysCall};
+ghost use Rattle.st_filter.specs.Policies.{binary_of_block};
 ghost use Rattle.st_trace.specs.declared.entry.CallResult.{CallResult};
 ghost use Rattle.st_trace.specs.declared.entry.Change.{Change};
 ghost use Rattle.st_trace.specs.declared.entry.Change.TheVariants.{Renewed};
 ghost use Rattle.st_trace.specs.declared.entry.Choice.{Choice};
 ghost use Rattle.st_trace.specs.declared.entry.Entry.{Entry};
-ghost use Rattle.st_trace.specs.declared.entry.Entry.TheVariants.{Used};
+ghost use Rattle.st_trace.specs.declared.entry.Entry.TheVariants.{Reloaded, Used};
 ghost use Rattle.st_law.specs.declared.input.Input.{Input};
+ghost use Rattle.st_law.specs.declared.input.Mode.TheVariants.{Learn};
 ghost use Rattle.st_law.specs.History.{looking_back};
 ghost use Rattle.st_law.specs.Inputs.{IsStartable};
 ghost use Rattle.st_law.specs.Lawful.{IsLawfulBack, Lawful};
 ghost use Rattle.st_law.specs.Machine.{entry_of, run, state_after, state_of_run, thread_entry, worker_entry};
-ghost use Rattle.st_law.specs.Messages.{posted_at};
+ghost use Rattle.st_law.specs.Messages.{Head, posted_at};
 ghost use Rattle.st_law.specs.Numbers.{IsLawfulByNumber, NamesDrawing, Numbers, drawn, in_use_now, is_in_use, is_kept, next_number, number_drawn, numbered, numbered_entry, numbered_in, numbers_after_change, numbers_at};
 ghost use Rattle.st_law.specs.Processes.{process_count};
 ghost use Rattle.st_law.specs.Schedules.{instruction_count};
 ghost use Rattle.st_law.specs.State.{State, is_live, thread_count};
 ghost use Rattle.st_law.specs.Threads.{History, thread_of};
-ghost use Rattle.st_reached.specs.Grants.{RepliesUngranted, SetIdsUngranted};
+ghost use Rattle.st_reached.specs.Grants.{AllUngranted, RepliesUngranted};
 ghost use Rattle.st_reached.specs.Reached.{AllHeldLive, ForksStartNew, LiveNumbersAreOwn, SetsOwnIds, life_after, most_numbers};
+ghost use Rattle.st_reached.specs.Reloading.{AreRenewedUnder, IsLiveUnder};
 ghost use Rattle.st_reached.specs.Scripts.{StartOnce};
 ghost use Rattle.st_reached.specs.Waiting.{IsStill, IsStillWorker, wakes};
 
@@ -38,7 +41,26 @@ pub fn a_held_call_has_a_live_number()
     ensures { (input : Input) → IsStartable input → (choices : List Choice) → AllHeldLive (state_of_run input choices) }
 {}
 
-/// No run draws more than n + 64 x s numbers, for n instructions, s of them calls that set ids: so the script bounds the numbers.
+/// In every state that a run reaches, the message of a live number is that of its thread's process, and has the version of its policy that is
+/// in force.
+pub fn a_live_message_has_the_version_in_force()
+    ensures process { (input : Input) → IsStartable input → (choices : List Choice) (q : ℕ) (head : Head) → is_live (state_of_run input choices) q ≡ true → ((state_of_run input choices).messages q).head ≡ Some head → head.pid ≡ ((state_of_run input choices).threads head.tid).owner }
+    ensures version { (input : Input) → IsStartable input → (choices : List Choice) (q : ℕ) (head : Head) → is_live (state_of_run input choices) q ≡ true → ((state_of_run input choices).messages q).head ≡ Some head → head.version ≡ (state_of_run input choices).versions head.policy }
+{}
+
+/// A reload that is done renews exactly the live messages under the policy of its binary, those that were answered or faulted included, each
+/// once and in the order of the threads. The new messages have the version that it puts in force.
+pub fn a_reload_renews_the_messages_under_its_policy()
+    ensures renewed { (input : Input) → IsStartable input → (h : History) (t n : ℕ) (changes : List Change) (binary : List ℕ) → IsLawfulBack input (Reloaded t n true changes ∷ h) → binary_of_block input.policies n ≡ Some binary → AreRenewedUnder input h binary changes }
+    ensures version { (input : Input) → IsStartable input → (h : History) (t n : ℕ) (changes : List Change) (binary : List ℕ) → IsLawfulBack input (Reloaded t n true changes ∷ h) → binary_of_block input.policies n ≡ Some binary → (q : ℕ) (head : Head) → IsLiveUnder input (Reloaded t n true changes ∷ h) binary q head → head.version ≡ n }
+{}
+
+/// Where policies are learnt nothing is reloaded: each binary keeps the policy that was read.
+pub fn learning_reloads_nothing()
+    ensures { (input : Input) → IsStartable input → input.options.mode ≡ Learn → (h : History) → IsLawfulBack input h → (binary : List ℕ) → (looking_back input h).versions binary ≡ 0 }
+{}
+
+/// No run draws more than n + 64 x m numbers, for n instructions, m of them calls that set ids or reloads: so the script bounds the numbers.
 pub fn few_numbers_are_drawn()
     ensures { (input : Input) → IsStartable input → (choices : List Choice) → (state_of_run input choices).posted ≤ most_numbers input }
 {}
@@ -57,7 +79,7 @@ pub fn a_fork_starts_a_new_thread()
 
 /// A call that sets ids is made under its process's own ids, if no filter and no reply for it grants ids.
 pub fn own_ids_for_setting()
-    ensures { (input : Input) → IsStartable input → SetIdsUngranted input.policies → RepliesUngranted input.replies → (choices : List Choice) → SetsOwnIds input (state_of_run input choices) }
+    ensures { (input : Input) → IsStartable input → AllUngranted input.policies → RepliesUngranted input.replies → (choices : List Choice) → SetsOwnIds input (state_of_run input choices) }
 {}
 
 /// In every state that a run reaches, a thread adds no entry exactly when it is still: it hasn't started, or it has ended, or it isn't
@@ -78,13 +100,16 @@ pub fn workers_that_are_idle()
     ensures { (input : Input) → IsStartable input → (choices : List Choice) (w : ℕ) → (worker_entry input (state_of_run input choices) w ≡ None) ↔ IsStillWorker input (state_of_run input choices) w }
 {}
 
-/// At most 72 drawings are in use in a state, one for each thread and one for each worker; and no more are while a call renews one after the
-/// other, the one that is renewed among them. Each of them was made, and each drawing that an entry names is in use before it. A drawing that
+/// At most 72 drawings are in use in a state, one for each thread and one for each worker; and no more are while a call or a reload
+/// renews one after the other, the one that is renewed among them. Each of them was made, and each drawing that an entry names is in use before it. A drawing that
 /// isn't in use any more is never in use again. What is in use is live, or a worker is ready with it.
 pub fn few_drawings_are_in_use()
     ensures few { (input : Input) → IsStartable input → (h : History) → IsLawfulBack input h → (drawings : List ℕ) × (length drawings ≤ 72) × ((q : ℕ) → is_in_use input (looking_back input h) q ≡ true → Contains drawings q) }
     ensures renewals { (input : Input) → IsStartable input → (circle : ℕ) (h : History) (t : ℕ) (seq : Option ℕ) (call : SysCall) (regs : List ℕ) (args : List ArgText) (ids : Ids) (result : CallResult) (before : List Change) (old new : ℕ) (later : List Change)
         → IsLawfulBack input (Used t seq call regs args ids result (before ++ Renewed old new ∷ later) ∷ h)
+        → (drawings : List ℕ) × (length drawings ≤ 72) × ((q : ℕ) → (fold (numbers_after_change circle (is_kept input (looking_back input h))) (in_use_now input (looking_back input h) (numbers_at circle input h)) before).in_use q ≡ true → Contains drawings q) }
+    ensures reloads { (input : Input) → IsStartable input → (circle : ℕ) (h : History) (t n : ℕ) (done : Bool) (before : List Change) (old new : ℕ) (later : List Change)
+        → IsLawfulBack input (Reloaded t n done (before ++ Renewed old new ∷ later) ∷ h)
         → (drawings : List ℕ) × (length drawings ≤ 72) × ((q : ℕ) → (fold (numbers_after_change circle (is_kept input (looking_back input h))) (in_use_now input (looking_back input h) (numbers_at circle input h)) before).in_use q ≡ true → Contains drawings q) }
     ensures made { (input : Input) → IsStartable input → (h : History) → IsLawfulBack input h → (q : ℕ) → is_in_use input (looking_back input h) q ≡ true → (1 ≤ q) × (q ≤ posted_at h) }
     ensures named { (input : Input) → IsStartable input → (h : History) (e : Entry) → IsLawfulBack input (e ∷ h) → (q : ℕ) → NamesDrawing q e → is_in_use input (looking_back input h) q ≡ true }

@@ -6,3 +6,6 @@ returns-clause-session c = history.session
 
 pub returns-clause-replied : goal.returns-clause-replied
 returns-clause-replied c = history.replied
+
+pub returns-clause-changed : goal.returns-clause-changed
+returns-clause-changed c = history.changed

@@ -16,6 +16,9 @@ returns-clause-left c = history.left
 pub returns-clause-pending : goal.returns-clause-pending
 returns-clause-pending c = history.pending
 
+pub returns-clause-answer : goal.returns-clause-answer
+returns-clause-answer c = history.answer
+
 pub returns-clause-number : goal.returns-clause-number
 returns-clause-number c = history.number
 

@@ -4,11 +4,8 @@ use Rattle.st_law.proofs.meaning.a_bar_is_final.Goals as goal
 pub returns-clause-refused : goal.returns-clause-refused
 returns-clause-refused c = bars.barred_by
 
-pub returns-clause-stands : goal.returns-clause-stands
-returns-clause-stands c = bars.stands
-
 pub returns-clause-unmade : goal.returns-clause-unmade
-returns-clause-unmade c = bars.unmade
+returns-clause-unmade c = λ i startable t n call regs later earlier. bars.unmade i t n call regs later earlier
 
 pub returns-clause-denied : goal.returns-clause-denied
-returns-clause-denied c = bars.denied
+returns-clause-denied c = λ i startable t n call regs later earlier. bars.denied i t n call regs later earlier
