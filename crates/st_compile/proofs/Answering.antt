@@ -20,7 +20,7 @@ use Rattle.st_calls.specs.declared.rule.Rule.TheVariants.{Call, FsRead, FsWrite}
 use Rattle.st_filter.proofs.Entries.{is_key, same_key}
 use Rattle.st_filter.specs.Fast.{fast, fast_answer, first_answer}
 use Rattle.st_filter.specs.Formula.{FilterValue}
-use Rattle.st_compile.specs.Answers.{AreAnswersUnder, ChangesAnswer, InForce, KeepsAnswers, answer_at, answer_in, with_appended}
+use Rattle.st_compile.specs.Answers.{AllFilters, AreAnswersBy, AreAnswersUnder, ChangesAnswer, KeepsAnswers, answer_at, answer_in, with_appended, with_filter_for, with_policy_filters}
 use Rattle.st_compile.specs.Table.{AnswersEntry, AreTables, BinaryAnswers, answer_row, binary_answers, represented_table}
 use Rattle.st_compile.proofs.Keyed.{key_stands, lookup_set}
 use Rattle.st_compile.proofs.Tables.{answers_kept, chosen, gains, items_of, lookup_length, made_at}
@@ -86,6 +86,23 @@ module _ (es : List AnswersEntry) (binary : List ℕ) (i : ℕ) (at : answer_row
   pub row_inside : i < length es
   row_inside = (Found-position (is_key binary) es i row_is).within
 
+  -- the answers in the row are replaced, and no others
+  new_row : (w : Vec (Option FastAnswer) Global) (other : List ℕ) (b : Bool) → bytes_eq binary other ≡ b → binary_answers (represented_table (set_value_at es i w)) other ≡ cond b (Some w.items) (binary_answers (represented_table es) other)
+  new_row w other b same =
+      sym (answers_kept (set_value_at es i w) other)
+      ∙ ap items_of (lookup_set es binary i w row_is other)
+      ∙ chosen (bytes_eq binary other) w (lookup (is_key other) es) (binary_answers (represented_table es) other) (answers_kept es other)
+      ∙ ap (λ c. cond c (Some w.items) (binary_answers (represented_table es) other)) same
+
+  module _ (filters : AllFilters) (own : Rule → List FilterValue) (w : Vec (Option FastAnswer) Global) (of : AreAnswersBy own w.items) (are : AreAnswersUnder filters (represented_table es)) where
+    replaced_by : (other : List ℕ) (r : Rule) (b : Bool) → bytes_eq binary other ≡ b → answer_in (represented_table (set_value_at es i w)) other r ≡ first_answer (cond b (own r) (filters other r))
+    replaced_by other r true same = ap (λ (o : Option (List (Option FastAnswer))). answer_at (unwrap_or o []) r) (new_row w other true same) ∙ of r
+    replaced_by other r false same = ap (λ (o : Option (List (Option FastAnswer))). answer_at (unwrap_or o []) r) (new_row w other false same) ∙ are other r
+
+    -- they are then those by the filters of the new row
+    pub answers_replaced : AreAnswersUnder (with_policy_filters filters binary own) (represented_table (set_value_at es i w))
+    answers_replaced other r = replaced_by other r (bytes_eq binary other) refl
+
   module _ (v : Vec (Option FastAnswer) Global) (there : slice_get (values_of es) i ≡ Some v) where
     there_by_key : lookup (is_key binary) es ≡ Some v
     there_by_key = (Found-position (is_key binary) es i row_is).value ∙ there
@@ -97,20 +114,13 @@ module _ (es : List AnswersEntry) (binary : List ℕ) (i : ℕ) (at : answer_row
     row_length whole = lookup_length es binary v whole there_by_key
 
     module _ (rule : Rule) (answer : FastAnswer) (w : Vec (Option FastAnswer) Global) (inside : index_of_rule rule < length v.items) (is : w.items ≡ set v.items (index_of_rule rule) (Some answer)) where
-      new_row : (other : List ℕ) (b : Bool) → bytes_eq binary other ≡ b → binary_answers (represented_table (set_value_at es i w)) other ≡ cond b (Some w.items) (binary_answers (represented_table es) other)
-      new_row other b same =
-          sym (answers_kept (set_value_at es i w) other)
-          ∙ ap items_of (lookup_set es binary i w row_is other)
-          ∙ chosen (bytes_eq binary other) w (lookup (is_key other) es) (binary_answers (represented_table es) other) (answers_kept es other)
-          ∙ ap (λ c. cond c (Some w.items) (binary_answers (represented_table es) other)) same
-
       changed_by : (other : List ℕ) (r : Rule) (b : Bool) → bytes_eq binary other ≡ b → answer_in (represented_table (set_value_at es i w)) other r ≡ cond (b && same_rule rule r) (Some answer) (answer_in (represented_table es) other r)
       changed_by other r true same =
-          ap (λ (o : Option (List (Option FastAnswer))). answer_at (unwrap_or o []) r) (new_row other true same)
+          ap (λ (o : Option (List (Option FastAnswer))). answer_at (unwrap_or o []) r) (new_row w other true same)
           ∙ ap (λ (row : List (Option FastAnswer)). answer_at row r) is
           ∙ set_at v.items rule answer inside r (same_rule rule r) refl
           ∙ ap (λ (o : Option (List (Option FastAnswer))). cond (same_rule rule r) (Some answer) (answer_at (unwrap_or o []) r)) (sym row_there ∙ ap (binary_answers (represented_table es)) ((bytes_eq-Decides binary other).0 same))
-      changed_by other r false same = ap (λ (o : Option (List (Option FastAnswer))). answer_at (unwrap_or o []) r) (new_row other false same)
+      changed_by other r false same = ap (λ (o : Option (List (Option FastAnswer))). answer_at (unwrap_or o []) r) (new_row w other false same)
 
       pub answer_changed : ChangesAnswer (represented_table es) binary rule answer (represented_table (set_value_at es i w))
       answer_changed other r = changed_by other r (bytes_eq binary other) refl
@@ -125,7 +135,27 @@ only_first : (fs : List FilterValue) (f : FilterValue) → is_some (first_answer
 only_first [] f e = refl
 only_first (g ∷ fs) f e = cc
 
-module _ (filters : InForce) (rows : List BinaryAnswers) (binary : List ℕ) (rule : Rule) (f : FilterValue) (are : AreAnswersUnder filters rows) where
+-- the answers of one binary
+module _ (answers : List (Option FastAnswer)) (filters : Rule → List FilterValue) (rule : Rule) (f : FilterValue) (are : AreAnswersBy filters answers) where
+  some_first : (c : Bool) (r : Rule) → same_rule rule r ≡ true → is_some (answer_at answers rule) ≡ c → is_some (first_answer (filters r)) ≡ c
+  some_first c r same some = ap is_some (sym (are r)) ∙ ap (λ (each : Rule). is_some (answer_at answers each)) (sym ((same_rule-Decides rule r).0 same)) ∙ some
+
+  -- if there is an answer for the rule, it stays
+  pub answers_kept_by : is_some (answer_at answers rule) ≡ true → AreAnswersBy (with_filter_for filters rule f) answers
+  answers_kept_by some r = by (same_rule rule r) refl where
+    by : (c : Bool) → same_rule rule r ≡ c → answer_at answers r ≡ first_answer (cond c (filters r ++ f ∷ []) (filters r))
+    by true same = are r ∙ still_first (filters r) f (some_first true r same some)
+    by false same = are r
+
+  -- if there is none, it is that of the filter
+  pub answers_gained_by : index_of_rule rule < length answers → is_some (answer_at answers rule) ≡ false → AreAnswersBy (with_filter_for filters rule f) (set answers (index_of_rule rule) (Some (fast_answer f)))
+  answers_gained_by inside none r = by (same_rule rule r) refl where
+    by : (c : Bool) → same_rule rule r ≡ c → answer_at (set answers (index_of_rule rule) (Some (fast_answer f))) r ≡ first_answer (cond c (filters r ++ f ∷ []) (filters r))
+    by true same = set_at answers rule (fast_answer f) inside r true same ∙ only_first (filters r) f (some_first false r same none)
+    by false same = set_at answers rule (fast_answer f) inside r false same ∙ are r
+
+-- the answers of all
+module _ (filters : AllFilters) (rows : List BinaryAnswers) (binary : List ℕ) (rule : Rule) (f : FilterValue) (are : AreAnswersUnder filters rows) where
   has_first : (b : Bool) (other : List ℕ) (r : Rule) → bytes_eq binary other ≡ true → same_rule rule r ≡ true → is_some (answer_in rows binary rule) ≡ b → is_some (first_answer (filters other r)) ≡ b
   has_first b other r is same some =
       ap is_some (sym (are other r))

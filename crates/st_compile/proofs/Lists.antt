@@ -1,10 +1,11 @@
 -- The filters of a policy, in a list for each rule.
-use Rattle.std.proofs.Common.{Ok, Err, Result, OnOk, filter, ◌≡◌, ◌≢◌, ◌≤◌, ◌<◌, ◌+◌, ◌∙◌, ◌++◌, ℕ, suc, zero, Bool, true, false, cond, List, [], ◌∷◌, length, map, take, set, Some, option_map, refl, ap, sym, subst, arith, get_or}
+use Rattle.std.proofs.Common.{Ok, Err, Result, OnOk, filter, ◌≡◌, ◌≢◌, ◌≤◌, ◌<◌, ◌+◌, ◌-◌, ◌∙◌, ◌++◌, ℕ, suc, zero, Bool, true, false, cond, List, [], ◌∷◌, length, map, take, set, Some, option_map, refl, ap, sym, subst, arith, get_or}
 use Rattle.std.proofs.lemmas.List.{append-nil, get_or_default, get_or-set_other, get_or-set_same, length-set, length_push}
 use Rattle.std.proofs.lemmas.List.Elements.{All-weaker, filter-append, filter_passes}
 use Rattle.std.proofs.lemmas.Option.{same_Some, slice_get-map, slice_get_within}
 use Rattle.std.specs.List.{All}
 use Rattle.std.specs.Prelude.{slice_get}
+use Rattle.st_base.specs.Numbered.{item_at_number}
 use Rattle.st_calls.proofs.Rules.{same_rule-Decides}
 use Rattle.st_calls.specs.Rules.{same_rule}
 use Rattle.st_calls.specs.Call.{every_rule, index_of_rule}
@@ -191,3 +192,9 @@ rows_next (p ∷ policies) (suc i) filters e = ap (λ (rest : List (List FilterV
 pub row_there : (policies : List BinaryPolicy) (rows : List (List FilterValue)) (row : ℕ) (filters : List FilterValue) → rows ≡ map (λ (p : BinaryPolicy). p.filters) policies
     → option_map (λ (p : BinaryPolicy). p.filters) (slice_get policies row) ≡ Some filters → slice_get rows row ≡ Some filters
 row_there policies rows row filters is at = ap (λ rs. slice_get rs row) is ∙ slice_get-map (λ (p : BinaryPolicy). p.filters) policies row ∙ at
+
+-- the row of a policy of the script has its filters
+pub block_there : (blocks : List BinaryPolicy) (rows : List (List FilterValue)) (n : ℕ) (block : BinaryPolicy) → rows ≡ map (λ (p : BinaryPolicy). p.filters) blocks → item_at_number blocks n ≡ Some block → slice_get rows (n - 1) ≡ Some block.filters
+block_there blocks rows zero block is at = cc
+block_there blocks rows (suc last) block is at =
+    ap (slice_get rows) (let same : suc last - 1 ≡ last = omega arith in same) ∙ row_there blocks rows last block.filters is (ap (option_map (λ (p : BinaryPolicy). p.filters)) at)

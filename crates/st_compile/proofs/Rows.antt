@@ -1,8 +1,9 @@
 -- The rows of indices, as a map keeps them.
-use Rattle.std.proofs.Common.{◌≡◌, ◌≤◌, ◌<◌, ◌+◌, ◌∙◌, ◌++◌, ℕ, suc, zero, Bool, true, false, cond, not, List, [], ◌∷◌, length, map, Option, Some, None, Vec, Global, refl, ap, sym, subst, option_map, vec_capacity, vec_len, arith}
+use Rattle.std.proofs.Common.{◌≡◌, ◌≤◌, ◌<◌, ◌+◌, ◌∙◌, ◌++◌, ◌||◌, ℕ, suc, zero, Bool, true, false, cond, not, List, [], ◌∷◌, length, map, Option, Some, None, Vec, Global, refl, ap, sym, subst, option_map, vec_capacity, vec_len, arith}
 use Rattle.std.proofs.lemmas.Cmp.{nat_list_eq_equiv}
 use Rattle.std.proofs.lemmas.Slice.Eq.{bytes_eq-Decides}
-use Rattle.std.specs.List.{position, position_or_len, remove}
+use Rattle.std.proofs.lemmas.Option.{slice_get-map}
+use Rattle.std.specs.List.{list_any, position, position_or_len, remove}
 use Rattle.std.specs.Map.{keys_of, lookup, values_of}
 use Rattle.std.specs.Option.{option_or}
 use Rattle.std.specs.Prelude.{is_some, nat_lt, slice_get}
@@ -10,8 +11,9 @@ use Rattle.std.specs.Str.{bytes_eq}
 use Rattle.indexmap.proofs.MapLemmas.{Found-position}
 use Rattle.indexmap.specs.IndexMap.{insert_entry, set_value_at}
 use Rattle.st_filter.proofs.Entries.{is_key, same_key}
+use Rattle.st_filter.specs.Policies.{with_binary}
 use Rattle.st_compile.proofs.Keyed.{key_stands, lookup_set}
-use Rattle.st_compile.specs.Places.{GainsPlace, HasRoom, HasRoomAt, IsRoomLeft, KeepsPlaces, LosesPlace, PlacesEntry, PolicyPlaces, Listing, policy_places, places_with, listing_in, policy_row, shown_listing, shown_rows}
+use Rattle.st_compile.specs.Places.{GainsPlace, HasRoom, HasRoomAt, IsRoomLeft, KeepsPlaces, LosesPlace, PlacesEntry, PolicyPlaces, Listing, policy_places, places_with, listing_in, policy_row, shown_listing, shown_row, shown_rows}
 
 abbrev pub shown : Option (Vec ℕ Global) → Option Listing
 shown o = option_map shown_listing o
@@ -64,12 +66,47 @@ row_kept es policy = λ k. cond (nat_lt (first es k) (long es k)) (Some (first e
   long (e ∷ es) = ap suc (long es)
 
 -- changing what a row has doesn't move rows
+pub rows_stay : (es : List PlacesEntry) (i : ℕ) (w : Vec ℕ Global) → binaries (set_value_at es i w) ≡ binaries es
+rows_stay [] i w = refl
+rows_stay (e ∷ es) zero w = refl
+rows_stay (e ∷ es) (suc i) w = ap (λ bs. e.0.items ∷ bs) (rows_stay es i w)
+
+known_by : (b : Bool) (v : Vec ℕ Global) (o : Option (Vec ℕ Global)) → is_some (cond b (Some v) o) ≡ (b || is_some o)
+known_by true v o = refl
+known_by false v o = refl
+
+-- a policy has a row iff its binary is among those of the rows
+row_known : (es : List PlacesEntry) (policy : List ℕ) → is_some (lookup (is_key policy) es) ≡ list_any (bytes_eq policy) (binaries es)
+row_known [] policy = refl
+row_known (e ∷ es) policy = known_by (bytes_eq policy e.0.items) e.1 (lookup (is_key policy) es) ∙ ap (λ b. bytes_eq policy e.0.items || b) (row_known es policy)
+
+-- the binary of a policy with a row is among those of the rows
+pub binary_known : (es : List PlacesEntry) (policy : List ℕ) → is_some (lookup (is_key policy) es) ≡ true → binaries es ≡ with_binary (binaries es) policy
+binary_known es policy some = λ k. cond (sym (sym (row_known es policy) ∙ some) k) (binaries es) (binaries es ++ policy ∷ [])
+
+begun_last : (b t : Bool) (first : List ℕ) (rest : List (List ℕ)) (key : List ℕ) → cond b (first ∷ rest) (first ∷ cond t rest (rest ++ key ∷ [])) ≡ cond (b || t) (first ∷ rest) (first ∷ (rest ++ key ∷ []))
+begun_last true t first rest key = refl
+begun_last false true first rest key = refl
+begun_last false false first rest key = refl
+
+inserted_by : (b : Bool) (e : PlacesEntry) (es : List PlacesEntry) (key v : Vec ℕ Global) → binaries (cond b ((e.0, v) ∷ es) (e ∷ insert_entry same_key es key v)) ≡ cond b (e.0.items ∷ binaries es) (e.0.items ∷ binaries (insert_entry same_key es key v))
+inserted_by true e es key v = refl
+inserted_by false e es key v = refl
+
+-- a key that is inserted has a row after the others, unless it had one
+pub binaries_more : (es : List PlacesEntry) (key v : Vec ℕ Global) → binaries (insert_entry same_key es key v) ≡ with_binary (binaries es) key.items
+binaries_more [] key v = refl
+binaries_more (e ∷ es) key v =
+    inserted_by (bytes_eq key.items e.0.items) e es key v
+    ∙ ap (λ bs. cond (bytes_eq key.items e.0.items) (e.0.items ∷ binaries es) (e.0.items ∷ bs)) (binaries_more es key v)
+    ∙ begun_last (bytes_eq key.items e.0.items) (list_any (bytes_eq key.items) (binaries es)) e.0.items (binaries es) key.items
+
+-- the binary of an entry
+pub binary_at : (es : List PlacesEntry) (i : ℕ) (e : PlacesEntry) → slice_get es i ≡ Some e → slice_get (binaries es) i ≡ Some e.0.items
+binary_at es i e at = slice_get-map (λ (row : PolicyPlaces). row.binary) (shown_rows es) i ∙ ap (option_map (λ (row : PolicyPlaces). row.binary)) (slice_get-map shown_row es i ∙ ap (option_map shown_row) at)
+
 row_stays : (es : List PlacesEntry) (policy : List ℕ) (i : ℕ) (w : Vec ℕ Global) → policy_row (shown_rows (set_value_at es i w)) policy ≡ policy_row (shown_rows es) policy
-row_stays es policy i w = ap (position (bytes_eq policy)) (same es i) where
-  same : (es : List PlacesEntry) (i : ℕ) → binaries (set_value_at es i w) ≡ binaries es
-  same [] i = refl
-  same (e ∷ es) zero = refl
-  same (e ∷ es) (suc i) = ap (λ bs. e.0.items ∷ bs) (same es i)
+row_stays es policy i w = ap (position (bytes_eq policy)) (rows_stay es i w)
 
 module _ (es : List PlacesEntry) (policy : List ℕ) (i : ℕ) (at : policy_row (shown_rows es) policy ≡ Some i) where
   pub row_is : Some i ≡ position (is_key policy) (keys_of es)

@@ -19,7 +19,7 @@ use Rattle.st_filter.specs.Formula.{FilterValue}
 use Rattle.st_filter.specs.Policies.{filters_of, policy_of, read_filters}
 use Rattle.st_filter.specs.declared.set.BinaryPolicy.{BinaryPolicy}
 use Rattle.st_filter.proofs.Entries.{is_key, same_key}
-use Rattle.st_compile.specs.Answers.{AreAnswersUnder, answer_at}
+use Rattle.st_compile.specs.Answers.{AreAnswersBy, AreAnswersUnder, answer_at}
 use Rattle.st_compile.specs.Table.{AnswersEntry, AreTables, BinaryAnswers, Gains, IsTableOf, binary_answers, answers_of, first_answers, answers_of_entry, represented_table}
 
 -- ---- lookups
@@ -181,3 +181,7 @@ module _ (policies : List BinaryPolicy) (binary : List ℕ) (rule : Rule) where
 pub answers_read : (policies : List BinaryPolicy) (rows : List BinaryAnswers) → IsTableOf policies rows → AreAnswersUnder (read_filters policies) rows
 answers_read policies rows table binary rule =
     ap (λ (o : Option (List (Option FastAnswer))). answer_at (unwrap_or o []) rule) (table binary) ∙ answer_by policies binary rule (answers_of policies binary) refl
+
+-- answers that are made for each rule are those by the first filters
+pub answers_first : (filters : List FilterValue) (answers : List (Option FastAnswer)) → answers ≡ first_answers filters → AreAnswersBy (λ rule. filters_of rule filters) answers
+answers_first filters answers are rule = ap (λ (row : List (Option FastAnswer)). answer_at row rule) are ∙ made_at (λ each. first_answer (filters_of each filters)) rule

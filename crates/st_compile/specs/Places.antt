@@ -46,6 +46,10 @@ HasRoom rows policy = IsRoomLeft (listing_in rows policy)
 abbrev pub policy_row : List PolicyPlaces → List ℕ → Option ℕ
 policy_row rows policy = position (bytes_eq policy) (map (λ (row : PolicyPlaces). row.binary) rows)
 
+-- the binaries of the rows, in order
+abbrev pub binaries_of : List PolicyPlaces → List (List ℕ)
+binaries_of rows = map (λ (row : PolicyPlaces). row.binary) rows
+
 -- this is the row of a policy, and it has room for one more index
 pub record HasRoomAt (row : ℕ) (rows : List PolicyPlaces) (policy : List ℕ) : Type 0 where
   pub is : policy_row rows policy ≡ Some row

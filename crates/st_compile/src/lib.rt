@@ -7,6 +7,7 @@ pub mod compiled;
 mod expr;
 mod filter;
 mod index;
+mod own_answers;
 mod passing;
 pub mod places;
 mod policy;
@@ -15,5 +16,6 @@ pub mod table;
 
 pub use asked::asked_text;
 pub use compiled::Compiled;
+pub use own_answers::OwnAnswers;
 pub use places::Places;
 pub use table::FastTable;

@@ -1,5 +1,6 @@
-ghost use Rattle.std.specs.Prelude.{◌≡◌, ◌<◌, ℕ, List, [], length, None, Some, IfOk, OnOk, OnErr};
-ghost use Rattle.st_compile.specs.Places.{policy_places, policy_row, GainsPlace, HasRoomAt, KeepsPlaces, LosesPlace};
+ghost use Rattle.std.specs.Prelude.{◌≡◌, ◌<◌, ℕ, List, [], length, slice_get, None, Some, IfOk, OnOk, OnErr};
+ghost use Rattle.st_filter.specs.Policies.{with_binary};
+ghost use Rattle.st_compile.specs.Places.{binaries_of, policy_places, policy_row, GainsPlace, HasRoomAt, KeepsPlaces, LosesPlace};
 
 use indexmap::IndexMap;
 use st_base::Text;
@@ -43,6 +44,24 @@ impl Places {
         }
     }
 
+    /// How many policies have a row.
+    pub fn len(&self) -> usize
+        ensures { result ≡ length (binaries_of self.now) }
+    {
+        self.rows.len()
+    }
+
+    /// The binary of the policy of a row. Rows are in the order in which they were made.
+    pub fn binary(&self, row: usize) -> &[u8]
+        requires { row < length (binaries_of self.now) }
+        ensures { slice_get (binaries_of self.now) row ≡ Some result.now }
+    {
+        match self.rows.get_index(row) {
+            Some((binary, _)) => binary.as_slice(),
+            None => unreachable!(),
+        }
+    }
+
     /// The row of a policy, if it has one.
     pub fn row_of(&self, policy: &[u8]) -> Option<usize>
         ensures is { result ≡ policy_row self.now policy.now }
@@ -59,9 +78,12 @@ impl Places {
         self.rows[row].as_slice()
     }
 
-    /// Makes room for one more index of a policy, and returns its row. If memory runs out, the abstract state is unchanged.
+    /// Makes room for one more index of a policy, and returns its row, which is made after the others if it has none. If memory runs out,
+    /// the abstract state is unchanged.
     pub fn reserve(&mut self, alloc: Global, policy: &[u8]) -> Result<usize, AllocError>
         ensures room { IfOk result (λ row. HasRoomAt row self.new policy.now) }
+        ensures row { OnOk result (binaries_of self.new ≡ with_binary (binaries_of self.old) policy.now) }
+        ensures same { OnErr result (binaries_of self.new ≡ binaries_of self.old) }
         ensures kept { KeepsPlaces self.old self.new }
     {
         match row_in(&self.rows, policy) {
@@ -82,7 +104,8 @@ impl Places {
     /// Appends an index to those of the policy of a row. The room was made before, so this takes no memory.
     pub fn push_at(&mut self, row: usize, place: usize)
         requires { (policy : List ℕ) × HasRoomAt row self.old policy }
-        ensures { (policy : List ℕ) → HasRoomAt row self.old policy → GainsPlace self.old policy place self.new }
+        ensures gains { (policy : List ℕ) → HasRoomAt row self.old policy → GainsPlace self.old policy place self.new }
+        ensures rows { binaries_of self.new ≡ binaries_of self.old }
     {
         let places = &mut self.rows[row];
         places.push_reserved(place);

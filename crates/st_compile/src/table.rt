@@ -1,15 +1,17 @@
 ghost use Rattle.std.specs.Prelude.{◌≡◌, ℕ, List, None, Some, IfOk, OnOk, map};
 ghost use Rattle.st_calls.specs.Call.{every_rule};
+ghost use Rattle.st_calls.specs.declared.rule.Rule.{Rule};
 ghost use Rattle.st_filter.specs.Fast.{fast, fast_answer};
 ghost use Rattle.st_filter.specs.Formula.{FilterValue};
 ghost use Rattle.st_filter.specs.Policies.{read_filters};
-ghost use Rattle.st_compile.specs.Answers.{answer_at, answer_in, answers_in, with_appended, AreAnswersUnder, ChangesAnswer, InForce, KeepsAnswers};
+ghost use Rattle.st_compile.specs.Answers.{answer_in, answers_in, with_appended, with_policy_filters, AllFilters, AreAnswersBy, AreAnswersUnder, ChangesAnswer, KeepsAnswers};
 ghost use Rattle.st_compile.specs.Table.{answer_row, first_answers, Gains, IsTableOf};
 
+use crate::own_answers::{OwnAnswers, answer_at, answers_under};
 use indexmap::IndexMap;
 use st_base::Text;
 use st_calls::{FastAnswer, Rule};
-use st_filter::{Policy, PolicySet, first_answer, row_in};
+use st_filter::{Policy, PolicySet, row_in};
 use std::alloc::{AllocError, Global};
 use std::marker::Model;
 
@@ -43,26 +45,6 @@ fn table_of(alloc: Global, policies: &PolicySet) -> Result<FastTable, AllocError
         table.add(alloc, policies.binary(i), policies.policy(i))?;
     }
     Ok(table)
-}
-
-// The answers under the filters of one binary.
-fn answers_under(alloc: Global, policy: &Policy) -> Result<Vec<Option<FastAnswer>>, AllocError>
-    ensures { IfOk result (λ answers. answers.items ≡ first_answers policy.now) }
-{
-    Rule::ALL
-        .iter()
-        .map(|&rule| first_answer(policy, rule))
-        .collect(alloc)
-}
-
-// The answer for a rule by the answers of its binary.
-fn answer_at(answers: &[Option<FastAnswer>], rule: Rule) -> Option<FastAnswer>
-    ensures { result ≡ answer_at answers.now rule }
-{
-    match answers.get(rule.index()) {
-        Some(answer) => *answer,
-        None => None,
-    }
 }
 
 // No answer for any rule.
@@ -106,7 +88,7 @@ impl FastTable {
 
     /// The kernel's own answer for a binary and a rule, by the first filter in force.
     pub fn get(&self, binary: &[u8], rule: Rule) -> FastAnswer
-        ensures { (filters : InForce) → AreAnswersUnder filters self.now → result ≡ fast (filters binary.now rule) }
+        ensures { (filters : AllFilters) → AreAnswersUnder filters self.now → result ≡ fast (filters binary.now rule) }
     {
         answer_at(self.answers(binary), rule).unwrap_or(FastAnswer::Ask)
     }
@@ -148,10 +130,18 @@ impl FastTable {
     /// makes a difference. It takes no memory.
     pub fn appended(&mut self, row: usize, rule: Rule, answer: FastAnswer)
         requires { (binary : List ℕ) × (answer_row self.old binary ≡ Some row) }
-        ensures { (filters : InForce) (binary : List ℕ) (f : FilterValue) → answer_row self.old binary ≡ Some row → fast_answer f ≡ answer → AreAnswersUnder filters self.old → AreAnswersUnder (with_appended filters binary rule f) self.new }
+        ensures { (filters : AllFilters) (binary : List ℕ) (f : FilterValue) → answer_row self.old binary ≡ Some row → fast_answer f ≡ answer → AreAnswersUnder filters self.old → AreAnswersUnder (with_appended filters binary rule f) self.new }
     {
         if self.answer_in(row, rule).is_none() {
             self.set_answer(row, rule, answer);
         }
+    }
+
+    /// Gives the binary of a row these answers, such as those under a policy that a reload puts in force. It takes no memory.
+    pub fn reload(&mut self, row: usize, answers: OwnAnswers)
+        requires { (binary : List ℕ) × (answer_row self.old binary ≡ Some row) }
+        ensures { (filters : AllFilters) (binary : List ℕ) (own : Rule → List FilterValue) → answer_row self.old binary ≡ Some row → AreAnswersBy own answers → AreAnswersUnder filters self.old → AreAnswersUnder (with_policy_filters filters binary own) self.new }
+    {
+        self.tables[row] = answers.into_vec();
     }
 }

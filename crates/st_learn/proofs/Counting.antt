@@ -84,7 +84,8 @@ next_by is session (Some kept) fs gs = one (is kept) where
   one true = refl
   one false = refl
 
-filters_next : (session : List SessionFilter) (is : SessionFilter → Bool) (items : List ℕ) (i : ℕ) → i < length items → filters_at session is (take (suc i) items) ≡ filters_at session is (take i items) ++ with_kind is (slice_get session (get_or items i 0)) []
+-- one more index adds its filter, if it is of the kind
+pub filters_next : (session : List SessionFilter) (is : SessionFilter → Bool) (items : List ℕ) (i : ℕ) → i < length items → filters_at session is (take (suc i) items) ≡ filters_at session is (take i items) ++ with_kind is (slice_get session (get_or items i 0)) []
 filters_next session is [] i inside = absurd (omega (arith, inside))
 filters_next session is (p ∷ ps) zero inside = refl
 filters_next session is (p ∷ ps) (suc i) inside =

@@ -1,5 +1,6 @@
--- The policies with the session's filters decide as the filters that were read do, followed by the session's.
+-- The policies with the session's filters decide as the filters in force do, followed by the session's.
 use Rattle.std.proofs.Common.{◌≡◌, ◌≢◌, ◌+◌, ◌∙◌, ◌++◌, ◌||◌, ◌&&◌, ℕ, suc, Bool, true, false, cond, List, [], ◌∷◌, length, map, filter, refl, ap, sym, arith}
+use Rattle.std.proofs.lemmas.Cmp.{nat_list_eq_equiv}
 use Rattle.std.proofs.lemmas.List.Elements.{All-head, All-tail}
 use Rattle.std.proofs.lemmas.Slice.Eq.{bytes_eq-Decides}
 use Rattle.std.specs.List.{All, list_any}
@@ -9,15 +10,14 @@ use Rattle.st_calls.specs.declared.judged.Snapshot.{Snapshot}
 use Rattle.st_calls.specs.declared.rule.Rule.{Rule}
 use Rattle.st_filter.specs.Formula.{FilterValue}
 use Rattle.st_filter.specs.Judging.{holds, verdict, verdict_by, verdict_from}
-use Rattle.st_filter.specs.Policies.{filters_of, has_policy, is_for, policy_of, read_filters}
+use Rattle.st_filter.specs.Policies.{PoliciesValue, filters_in_force, filters_of, has_policy, in_force, is_for, policy_of, read_filters}
 use Rattle.st_filter.specs.declared.filter.Action.{Action}
 use Rattle.st_filter.specs.declared.filter.Action.TheVariants as action
 use Rattle.st_filter.specs.declared.set.BinaryPolicy.{BinaryPolicy}
 use Rattle.st_law.specs.Sessions.{SessionFilter, decision, is_kept_for, session_filters, verdict_or}
-use Rattle.st_learn.specs.Learnt.{all_policies, empty_policy, filters_added, learnt_policies, with_policy, with_session}
-use Rattle.st_learn.specs.Learnt.{IsForItsRule}
+use Rattle.st_learn.specs.Learnt.{AreChanged, IsForItsRule, NoneAsksInForce, filters_added, learnt_binaries, learnt_policies, learnt_policy}
 use Rattle.st_learn.specs.Sessions.{is_filter_for}
-use Rattle.st_learn.proofs.Printing.{has_all}
+use Rattle.st_learn.proofs.Binaries.{has_same, known_all}
 
 -- no filter asks, and each is for its own rule, one after the other
 abbrev NoneAsks : List FilterValue → Type 0
@@ -34,23 +34,6 @@ each_plain (f ∷ fs) plain = (All-head (λ g. g.action ≢ action.Ask) f fs pla
 
 -- ---- the filters of a policy
 
-nothing : (t : Bool) → cond {A = List FilterValue} t [] [] ≡ []
-nothing true = refl
-nothing false = refl
-
--- one more empty policy adds no filters
-none_begun : (ps : List BinaryPolicy) (c b : List ℕ) → policy_of (ps ++ empty_policy c ∷ []) b ≡ policy_of ps b
-none_begun [] c b = nothing (bytes_eq c b)
-none_begun (p ∷ ps) c b = ap (λ fs. cond (bytes_eq p.binary b) p.filters fs) (none_begun ps c b)
-
-with_by : (t : Bool) (ps : List BinaryPolicy) (c b : List ℕ) → policy_of (cond t ps (ps ++ empty_policy c ∷ [])) b ≡ policy_of ps b
-with_by true ps c b = refl
-with_by false ps c b = none_begun ps c b
-
-all_same : (session : List SessionFilter) (ps : List BinaryPolicy) (b : List ℕ) → policy_of (all_policies ps session) b ≡ policy_of ps b
-all_same [] ps b = refl
-all_same (kept ∷ session) ps b = all_same session (with_policy ps kept.policy) b ∙ with_by (has_policy ps kept.policy) ps kept.policy b
-
 -- a policy that doesn't exist has no filters
 no_policy : (ps : List BinaryPolicy) (b : List ℕ) → has_policy ps b ≡ false → policy_of ps b ≡ []
 no_policy [] b none = refl
@@ -59,33 +42,32 @@ no_policy (p ∷ ps) b none = by (bytes_eq p.binary b) none (no_policy ps b) whe
   by true none later = cc
   by false none later = later none
 
-none_added : (session : List SessionFilter) (b : List ℕ) → list_any (is_filter_for b) session ≡ false → filters_added session b ≡ []
-none_added [] b none = refl
-none_added (kept ∷ session) b none = by (is_filter_for b kept) none (none_added session b) where
-  by : (t : Bool) → (t || list_any (is_filter_for b) session) ≡ false → (list_any (is_filter_for b) session ≡ false → filters_added session b ≡ []) → map (λ each. each.filter) (cond t (kept ∷ filter (is_filter_for b) session) (filter (is_filter_for b) session)) ≡ []
-  by true none later = cc
-  by false none later = later none
+-- if a policy's filters are in force at version 0, and it wasn't read, there are none
+none_in_force : (policies : PoliciesValue) (versions : List ℕ → ℕ) (b : List ℕ) → versions b ≡ 0 → list_any (bytes_eq b) (map (λ p. p.binary) policies.read) ≡ false → in_force policies b (versions b) ≡ []
+none_in_force policies versions b first unread = ap (in_force policies b) first ∙ no_policy policies.read b (has_same policies.read b ∙ unread)
 
-with_added : (session : List SessionFilter) (ps : List BinaryPolicy) (b : List ℕ) → policy_of (map (with_session session) ps) b ≡ cond (has_policy ps b) (policy_of ps b ++ filters_added session b) []
-with_added session [] b = refl
-with_added session (p ∷ ps) b = by (bytes_eq p.binary b) refl (with_added session ps b) where
-  by : (t : Bool) → bytes_eq p.binary b ≡ t → policy_of (map (with_session session) ps) b ≡ cond (has_policy ps b) (policy_of ps b ++ filters_added session b) [] → cond t (p.filters ++ filters_added session p.binary) (policy_of (map (with_session session) ps) b) ≡ cond (t || has_policy ps b) (cond t p.filters (policy_of ps b) ++ filters_added session b) []
-  by true same later = ap (λ binary. p.filters ++ filters_added session binary) ((bytes_eq-Decides p.binary b).0 same)
-  by false same later = later
+with_learnt : (policies : PoliciesValue) (versions : List ℕ → ℕ) (session : List SessionFilter) (bs : List (List ℕ)) (b : List ℕ)
+    → policy_of (map (learnt_policy policies versions session) bs) b ≡ cond (list_any (bytes_eq b) bs) (in_force policies b (versions b) ++ filters_added session b) []
+with_learnt policies versions session [] b = refl
+with_learnt policies versions session (c ∷ bs) b = by (bytes_eq c b) refl (with_learnt policies versions session bs b) where
+  by : (t : Bool) → bytes_eq c b ≡ t → policy_of (map (learnt_policy policies versions session) bs) b ≡ cond (list_any (bytes_eq b) bs) (in_force policies b (versions b) ++ filters_added session b) []
+      → cond t (in_force policies c (versions c) ++ filters_added session c) (policy_of (map (learnt_policy policies versions session) bs) b) ≡ cond (bytes_eq b c || list_any (bytes_eq b) bs) (in_force policies b (versions b) ++ filters_added session b) []
+  by true same later =
+      ap (λ binary. in_force policies binary (versions binary) ++ filters_added session binary) ((bytes_eq-Decides c b).0 same)
+      ∙ (λ k. cond ((sym (nat_list_eq_equiv.symm b c ∙ same)) k || list_any (bytes_eq b) bs) (in_force policies b (versions b) ++ filters_added session b) [])
+  by false same later = later ∙ (λ k. cond ((sym (nat_list_eq_equiv.symm b c ∙ same)) k || list_any (bytes_eq b) bs) (in_force policies b (versions b) ++ filters_added session b) [])
 
--- each policy has the filters that were read and then the session's
-pub policy_learnt : (ps : List BinaryPolicy) (session : List SessionFilter) (b : List ℕ) → policy_of (learnt_policies ps session) b ≡ policy_of ps b ++ filters_added session b
-policy_learnt ps session b = with_added session (all_policies ps session) b ∙ by (has_policy ps b) (list_any (is_filter_for b) session) refl refl (has_all session ps b) where
-  here : policy_of (all_policies ps session) b ++ filters_added session b ≡ policy_of ps b ++ filters_added session b
-  here = ap (λ fs. fs ++ filters_added session b) (all_same session ps b)
-
-  by : (read added : Bool) → has_policy ps b ≡ read → list_any (is_filter_for b) session ≡ added → has_policy (all_policies ps session) b ≡ (has_policy ps b || list_any (is_filter_for b) session)
-      → cond (has_policy (all_policies ps session) b) (policy_of (all_policies ps session) b ++ filters_added session b) [] ≡ policy_of ps b ++ filters_added session b
-  by true added is more both = (λ k. cond ((both ∙ ap (λ t. t || list_any (is_filter_for b) session) is) k) (policy_of (all_policies ps session) b ++ filters_added session b) []) ∙ here
-  by false true is more both = (λ k. cond ((both ∙ ap (λ t. t || list_any (is_filter_for b) session) is ∙ more) k) (policy_of (all_policies ps session) b ++ filters_added session b) []) ∙ here
-  by false false is more both =
-      (λ k. cond ((both ∙ ap (λ t. t || list_any (is_filter_for b) session) is ∙ more) k) (policy_of (all_policies ps session) b ++ filters_added session b) [])
-      ∙ (λ k. sym (no_policy ps b is) k ++ sym (none_added session b more) k)
+-- each policy has the filters in force and then the session's
+pub policy_learnt : (policies : PoliciesValue) (versions : List ℕ → ℕ) (changed : List (List ℕ)) (session : List SessionFilter) (b : List ℕ) → AreChanged changed versions session
+    → policy_of (learnt_policies policies versions changed session) b ≡ in_force policies b (versions b) ++ filters_added session b
+policy_learnt policies versions changed session b are =
+    with_learnt policies versions session (learnt_binaries policies.read changed) b
+    ∙ ap (λ t. cond t (in_force policies b (versions b) ++ filters_added session b) []) (known_all changed (map (λ p. p.binary) policies.read) b)
+    ∙ by (list_any (bytes_eq b) (map (λ p. p.binary) policies.read)) (list_any (bytes_eq b) changed) refl refl where
+      by : (read some : Bool) → list_any (bytes_eq b) (map (λ p. p.binary) policies.read) ≡ read → list_any (bytes_eq b) changed ≡ some → cond (read || some) (in_force policies b (versions b) ++ filters_added session b) [] ≡ in_force policies b (versions b) ++ filters_added session b
+      by true some is more = refl
+      by false true is more = refl
+      by false false is more = λ k. sym (none_in_force policies versions b (are.versions_stay b more) is) k ++ sym (are.filters_stay b more) k
 
 -- ---- the filters of a rule
 
@@ -130,27 +112,23 @@ none_of_rule rule (f ∷ fs) plain = by (is_for rule f.name) (none_of_rule rule 
   by true rest = (plain.0, rest)
   by false rest = rest
 
-none_asked : (ps : List BinaryPolicy) (b : List ℕ) → All (λ p. All (λ f. f.action ≢ action.Ask) p.filters) ps → NoneAsks (policy_of ps b)
-none_asked [] b plain = tt
-none_asked (p ∷ ps) b plain = by (bytes_eq p.binary b) (none_asked ps b (All-tail (λ q. All (λ f. f.action ≢ action.Ask) q.filters) p ps plain)) where
-  by : (t : Bool) → NoneAsks (policy_of ps b) → NoneAsks (cond t p.filters (policy_of ps b))
-  by true rest = each_plain p.filters (All-head (λ q. All (λ f. f.action ≢ action.Ask) q.filters) p ps plain)
-  by false rest = rest
-
 own_rules : (session : List SessionFilter) → All IsForItsRule session → AreOwn session
 own_rules [] own = tt
 own_rules (kept ∷ session) own = (All-head IsForItsRule kept session own, own_rules session (All-tail IsForItsRule kept session own))
 
--- therefore the policies decide as the session did
-pub decides_by : (ps : List BinaryPolicy) (session : List SessionFilter) (s : Snapshot) → All (λ p. All (λ f. f.action ≢ action.Ask) p.filters) ps → AreOwn session
-    → verdict (read_filters (learnt_policies ps session) s.policy s.rule) s ≡ decision (read_filters ps s.policy s.rule) (session_filters session s.policy s.rule) s
-decides_by ps session s plain own =
-    let read : List FilterValue = filters_of s.rule (policy_of ps s.policy) in
-    ap (λ fs. verdict (filters_of s.rule fs) s) (policy_learnt ps session s.policy)
-    ∙ ap (λ fs. verdict fs s) (rule_append s.rule (policy_of ps s.policy) (filters_added session s.policy) ∙ ap (λ fs. read ++ fs) (rule_added session s.policy s.rule own))
-    ∙ both_decide 1 read (session_filters session s.policy s.rule) s (none_of_rule s.rule (policy_of ps s.policy) (none_asked ps s.policy plain))
-    ∙ ap (λ n. verdict_or (verdict read s) (verdict_from n (session_filters session s.policy s.rule) s)) (let same : 1 + length read ≡ suc (length read) = omega arith in same)
+-- therefore the policies decide as the filters in force and the session did
+module _ (policies : PoliciesValue) (versions : List ℕ → ℕ) (changed : List (List ℕ)) (session : List SessionFilter) (s : Snapshot) (plain : NoneAsksInForce policies versions) (are : AreChanged changed versions session) where
+  abbrev Decides : Type 0
+  Decides = verdict (read_filters (learnt_policies policies versions changed session) s.policy s.rule) s ≡ decision (filters_in_force policies s.policy (versions s.policy) s.rule) (session_filters session s.policy s.rule) s
 
-pub decides_alike : (ps : List BinaryPolicy) (session : List SessionFilter) (s : Snapshot) → All (λ p. All (λ f. f.action ≢ action.Ask) p.filters) ps → All IsForItsRule session
-    → verdict (read_filters (learnt_policies ps session) s.policy s.rule) s ≡ decision (read_filters ps s.policy s.rule) (session_filters session s.policy s.rule) s
-decides_alike ps session s plain own = decides_by ps session s plain (own_rules session own)
+  pub decides_by : AreOwn session → Decides
+  decides_by own =
+      let filters : List FilterValue = in_force policies s.policy (versions s.policy) in
+      let force : List FilterValue = filters_of s.rule filters in
+      ap (λ fs. verdict (filters_of s.rule fs) s) (policy_learnt policies versions changed session s.policy are)
+      ∙ ap (λ fs. verdict fs s) (rule_append s.rule filters (filters_added session s.policy) ∙ ap (λ fs. force ++ fs) (rule_added session s.policy s.rule own))
+      ∙ both_decide 1 force (session_filters session s.policy s.rule) s (none_of_rule s.rule filters (each_plain filters (plain s.policy)))
+      ∙ ap (λ n. verdict_or (verdict force s) (verdict_from n (session_filters session s.policy s.rule) s)) (let same : 1 + length force ≡ suc (length force) = omega arith in same)
+
+  pub decides_alike : All IsForItsRule session → Decides
+  decides_alike own = decides_by (own_rules session own)

@@ -1,4 +1,5 @@
 mod Asking
+mod Binaries
 mod Counting
 mod Deciding
 pub mod Filters
@@ -7,6 +8,9 @@ mod FirstDeciding
 pub mod InForce
 mod Numbers
 pub mod OperatorPlaces
+mod PassedOver
 mod Permitting
 mod Printing
 pub mod Replies
+mod Rooms
+pub mod Unasked

@@ -12,20 +12,25 @@ use Rattle.std.specs.Prelude.{is_some, slice_get}
 use Rattle.std.specs.Str.{bytes_eq}
 use Rattle.st_calls.specs.declared.judged.Snapshot.{Snapshot}
 use Rattle.st_calls.specs.declared.rule.Rule.{Rule}
-use Rattle.st_filter.specs.Policies.{read_filters}
+use Rattle.st_base.specs.Numbered.{item_at_number}
+use Rattle.st_filter.specs.Policies.{filters_in_force, with_binary}
+use Rattle.st_filter.specs.declared.set.BinaryPolicy.{BinaryPolicy}
 use Rattle.st_filter.specs.declared.set.Reply.{Reply}
-use Rattle.st_trace.specs.declared.entry.Entry.TheVariants.{Learned, Replied}
+use Rattle.st_trace.specs.declared.entry.Change.{Change}
+use Rattle.st_trace.specs.declared.entry.Entry.TheVariants.{Learned, Replied, Reloaded}
 use Rattle.st_law.specs.declared.input.Input.{Input}
 use Rattle.st_law.specs.declared.input.Mode.{Mode}
 use Rattle.st_law.specs.declared.input.Mode.TheVariants.{Enforce, Learn, AskText}
 use Rattle.st_law.specs.Machine.{question_entry, reply_entry, state_after}
-use Rattle.st_law.specs.Sessions.{SessionFilter, is_reply_for, kept_for, learnt_by, learnt_filter, replied_by, session_filters}
+use Rattle.st_law.specs.Sessions.{SessionFilter, is_reply_for, kept_for, learnt_by, learnt_filter, replied_by, session_filters, with_binaries}
+use Rattle.st_law.specs.Versions.{with_binary_of}
 use Rattle.st_law.specs.State.{State, filter_count, operator_decides, is_reply_left, next_reply, read_at, snapshot_in}
-use Rattle.st_compile.specs.Answers.{AreAnswersUnder, InForce, with_appended}
+use Rattle.st_compile.specs.Answers.{AllFilters, AreAnswersUnder, with_appended}
 use Rattle.st_compile.specs.Places.{GainsPlace, LosesPlace, PolicyPlaces, policy_places}
 use Rattle.st_learn.specs.Answers.{Answers, AreAnswersIn}
-use Rattle.st_learn.specs.Operator.{Added, AreRepliesLeft, IsAdded, operator_answers, is_for_rule, is_left, is_reply_of, next_reply_left, places_among}
-use Rattle.st_learn.proofs.InForce.{answers_gain}
+use Rattle.st_learn.specs.Operator.{Added, AreRepliesLeft, IsAdded, KeepsAdded, operator_answers, is_for_rule, is_left, is_reply_of, next_reply_left, places_among}
+use Rattle.st_learn.specs.Sessions.{version_of}
+use Rattle.st_learn.proofs.InForce.{answers_gain, version_now}
 use Rattle.st_learn.proofs.OperatorPlaces.{among_is, among_more, among_without, found_at, item_at, least_found, there_at}
 
 -- ---- the next reply
@@ -139,12 +144,19 @@ module _ (i : Input) (st : State) (added : Added) (is : IsAdded i st added) wher
   pub filters_same : (policy : List ℕ) (rule : Rule) → session_filters st.session policy rule ≡ session_filters added.filters policy rule
   filters_same policy rule = ap (λ session. session_filters session policy rule) is.session
 
-  module _ (s : Snapshot) (there : snapshot_in st s.seq ≡ Some s) (before after : Answers) (are : AreAnswersIn i st before) (read : after.read ≡ before.read) (new : Added) (number : ℕ) (numbered : number ≡ suc (length (read_filters before.read s.policy s.rule ++ session_filters added.filters s.policy s.rule))) where
+  -- the filters in force are those at the versions of the session
+  force_same : (policy : List ℕ) (rule : Rule) → read_at i st policy rule ≡ filters_in_force i.policies policy (version_of added.reloads policy) rule
+  force_same policy rule = ap (λ version. filters_in_force i.policies policy version rule) (is.versions policy)
+
+  module _ (s : Snapshot) (there : snapshot_in st s.seq ≡ Some s) (before after : Answers) (are : AreAnswersIn i st before) (policies : after.policies ≡ before.policies) (new : Added) (number : ℕ)
+      (numbered : number ≡ suc (length (filters_in_force before.policies s.policy (version_of added.reloads s.policy) s.rule ++ session_filters added.filters s.policy s.rule))) (changed : new.changed ≡ with_binary added.changed s.policy) (reloads : new.reloads ≡ added.reloads) where
     abbrev Gains : SessionFilter → Type 0
-    Gains kept = (filters : InForce) → AreAnswersUnder filters before.own → AreAnswersUnder (with_appended filters kept.policy kept.rule kept.filter) after.own
+    Gains kept = (filters : AllFilters) → AreAnswersUnder filters before.own → AreAnswersUnder (with_appended filters kept.policy kept.rule kept.filter) after.own
 
     number_same : suc (filter_count i st s) ≡ number
-    number_same = ap (λ fs. suc (length (read_at i st s.policy s.rule ++ fs))) (filters_same s.policy s.rule) ∙ ap (λ ps. suc (length (read_filters ps s.policy s.rule ++ session_filters added.filters s.policy s.rule))) (sym are.read) ∙ sym numbered
+    number_same =
+        (λ k. suc (length (force_same s.policy s.rule k ++ filters_same s.policy s.rule k)))
+        ∙ ap (λ ps. suc (length (filters_in_force ps s.policy (version_of added.reloads s.policy) s.rule ++ session_filters added.filters s.policy s.rule))) (sym are.policies) ∙ sym numbered
 
     -- a filter is learnt
     pub is_learnt : new.filters ≡ added.filters ++ kept_for (learnt_filter s) s ∷ [] → new.replies ≡ added.replies → new.left ≡ added.left → Gains (kept_for (learnt_filter s) s)
@@ -153,10 +165,12 @@ module _ (i : Input) (st : State) (added : Added) (is : IsAdded i st added) wher
       ap (λ k. Some (Learned s.seq k)) number_same,
       record {
         session = (λ k. is.session k ++ learnt_by (there k)) ∙ sym filters;
+        changed = (λ k. with_binaries (is.changed k) (learnt_by (there k))) ∙ sym changed;
+        versions = λ binary. is.versions binary ∙ ap (λ rows. version_of rows binary) (sym reloads);
         replies = replies ∙ is.replies;
         left = λ policy. ap (λ rows. policy_places rows policy) left ∙ is.left policy;
       },
-      answers_gain i st (state_after i st (Learned s.seq number)) (kept_for (learnt_filter s) s) (λ k. st.session ++ learnt_by (there k)) before after read own are,
+      answers_gain i st (state_after i st (Learned s.seq number)) (kept_for (learnt_filter s) s) (λ k. st.session ++ learnt_by (there k)) (λ binary. refl) before after policies own are,
     )
 
     -- the next reply is given
@@ -168,10 +182,12 @@ module _ (i : Input) (st : State) (added : Added) (is : IsAdded i st added) wher
           ∙ ap (λ k. Some (Replied s.seq (suc place) k)) number_same,
       record {
         session = (λ k. is.session k ++ replied_by (given k) (there k)) ∙ sym filters;
+        changed = (λ k. with_binaries (is.changed k) (replied_by (given k) (there k))) ∙ sym changed;
+        versions = λ binary. is.versions binary ∙ ap (λ rows. version_of rows binary) (sym reloads);
         replies = replies ∙ is.replies;
         left = left_after i.replies st.replied place (length i.replies) index s.policy added.left new.left is.left at loses;
       },
-      answers_gain i st (state_after i st (Replied s.seq (suc place) number)) (kept_for reply.filter s) (λ k. st.session ++ replied_by (given k) (there k)) before after read own are,
+      answers_gain i st (state_after i st (Replied s.seq (suc place) number)) (kept_for reply.filter s) (λ k. st.session ++ replied_by (given k) (there k)) (λ binary. refl) before after policies own are,
     ) where
       Step : ℕ → Type 0
       Step n = (question_entry i st s.seq s AskText ≡ Some (Replied s.seq n number)) × IsAdded i (state_after i st (Replied s.seq n number)) new × AreAnswersIn i (state_after i st (Replied s.seq n number)) after
@@ -182,10 +198,34 @@ module _ (i : Input) (st : State) (added : Added) (is : IsAdded i st added) wher
       given : slice_get i.replies place ≡ Some reply
       given = ap (λ all. slice_get all place) (sym is.replies) ∙ is_reply
 
--- what was added represents each state that has the same session and the same replies given
-pub added_stands : (i : Input) (st new : State) (added : Added) → new.session ≡ st.session → new.replied ≡ st.replied → IsAdded i st added → IsAdded i new added
-added_stands i st new added session replied is = record {
+  -- a policy of the script is put in force
+  pub is_reloaded : (t n : ℕ) (changes : List Change) (block : BinaryPolicy) (new : Added) → item_at_number i.policies.blocks n ≡ Some block → new.filters ≡ added.filters → new.changed ≡ with_binary added.changed block.binary
+      → ((binary : List ℕ) → version_of new.reloads binary ≡ cond (bytes_eq block.binary binary) n (version_of added.reloads binary)) → new.replies ≡ added.replies → new.left ≡ added.left
+      → IsAdded i (state_after i st (Reloaded t n true changes)) new
+  is_reloaded t n changes block new there filters changed versions replies left = record {
+    session = is.session ∙ sym filters;
+    changed = (λ k. with_binary_of (is.changed k) (there k)) ∙ sym changed;
+    versions = λ binary. sym (version_now i st t n changes block there binary) ∙ (λ k. cond (bytes_eq block.binary binary) n (is.versions binary k)) ∙ sym (versions binary);
+    replies = replies ∙ is.replies;
+    left = λ policy. ap (λ rows. policy_places rows policy) left ∙ is.left policy;
+  }
+
+-- what was added represents each state that has the same session, the same versions in force and the same replies given
+pub added_stands : (i : Input) (st new : State) (added : Added) → new.session ≡ st.session → new.changed ≡ st.changed → ((binary : List ℕ) → new.versions binary ≡ st.versions binary) → new.replied ≡ st.replied → IsAdded i st added → IsAdded i new added
+added_stands i st new added session changed versions replied is = record {
   session = session ∙ is.session;
+  changed = changed ∙ is.changed;
+  versions = λ binary. versions binary ∙ is.versions binary;
   replies = is.replies;
   left = λ policy. is.left policy ∙ (λ k. places_among (is_left i.replies (sym replied k) policy) 0 (length i.replies));
+}
+
+-- what is kept but for room represents the same state
+pub added_keep : (i : Input) (st : State) (old new : Added) → KeepsAdded old new → IsAdded i st old → IsAdded i st new
+added_keep i st old new kept is = record {
+  session = is.session ∙ sym kept.filters;
+  changed = is.changed ∙ sym kept.changed;
+  versions = λ binary. is.versions binary ∙ sym (kept.versions binary);
+  replies = kept.replies ∙ is.replies;
+  left = λ policy. ap (λ rows. policy_places rows policy) kept.left ∙ is.left policy;
 }

@@ -4,4 +4,5 @@ pub mod Kept
 pub mod Learnt
 pub mod Operator
 pub mod Permitted
+pub mod SessionIn
 pub mod Sessions

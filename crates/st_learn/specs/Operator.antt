@@ -13,12 +13,18 @@ use Rattle.st_law.specs.declared.input.Input.{Input}
 use Rattle.st_law.specs.declared.input.Mode.{Mode}
 use Rattle.st_law.specs.declared.input.Mode.TheVariants.{Enforce, Learn, AskText}
 use Rattle.st_compile.specs.Places.{PolicyPlaces, policy_places}
+use Rattle.st_trace.specs.declared.entry.Change.{Change}
 use Rattle.st_trace.specs.declared.entry.Entry.{Entry}
+use Rattle.st_trace.specs.declared.entry.Entry.TheVariants.{Reloaded}
 use Rattle.st_learn.specs.Answers.{Answers, AreAnswersIn}
+use Rattle.st_learn.specs.Sessions.{KeepsVersions, version_of}
 
--- the filters of the session, the script's replies, and for each policy the indices of its replies that were not given yet
+-- the filters of the session, the binaries whose policies were changed, the reloads of each policy, the script's replies, and for each policy
+-- the indices of its replies that were not given yet
 pub record Added : Type 0 where
   pub filters : List SessionFilter
+  pub changed : List (List ℕ)
+  pub reloads : List PolicyPlaces
   pub replies : List Reply
   pub left : List PolicyPlaces
 
@@ -63,9 +69,11 @@ is_left replies given policy place = is_reply_of policy (slice_get replies place
 abbrev pub AreRepliesLeft : List Reply → (ℕ → Bool) → ℕ → List PolicyPlaces → Type 0
 AreRepliesLeft replies given count left = (policy : List ℕ) → policy_places left policy ≡ places_among (is_left replies given policy) 0 count
 
--- what was added represents the session of the state, and which replies it has given
+-- what was added represents the session of the state, the versions in force, and which replies it has given
 pub record IsAdded (i : Input) (st : State) (added : Added) : Type 0 where
   pub session : st.session ≡ added.filters
+  pub changed : st.changed ≡ added.changed
+  pub versions : (binary : List ℕ) → st.versions binary ≡ version_of added.reloads binary
   pub replies : added.replies ≡ i.replies
   pub left : AreRepliesLeft i.replies st.replied (length i.replies) added.left
 
@@ -73,3 +81,18 @@ pub record IsAdded (i : Input) (st : State) (added : Added) : Type 0 where
 abbrev pub IsAnsweredBy : Input → Mode → Snapshot → Added → Answers → Entry → Added → Answers → Type 0
 IsAnsweredBy i mode s old before e new after =
     (st : State) → IsAdded i st old → AreAnswersIn i st before → snapshot_in st s.seq ≡ Some s → (question_entry i st s.seq s mode ≡ Some e) × IsAdded i (state_after i st e) new × AreAnswersIn i (state_after i st e) after
+
+-- ---- reloads
+
+-- what was added is as it was, but for room
+pub record KeepsAdded (old new : Added) : Type 0 where
+  pub filters : new.filters ≡ old.filters
+  pub changed : new.changed ≡ old.changed
+  pub versions : KeepsVersions old.reloads new.reloads
+  pub replies : new.replies ≡ old.replies
+  pub left : new.left ≡ old.left
+
+-- what was added, and the answers, represent the state after the script's policy with this number was put in force
+abbrev pub IsPutInForce : ℕ → Added → Answers → Added → Answers → Type 0
+IsPutInForce version old before new after =
+    (i : Input) (st : State) (t : ℕ) (changes : List Change) → IsAdded i st old → AreAnswersIn i st before → IsAdded i (state_after i st (Reloaded t version true changes)) new × AreAnswersIn i (state_after i st (Reloaded t version true changes)) after

@@ -2,9 +2,10 @@
 ghost use Rattle.std.specs.Prelude.{◌≡◌, ◌≤◌, ◌^◌, ℕ, suc, length, None, IfSome};
 ghost use Rattle.st_calls.specs.declared.judged.Verdict.TheVariants.{Unmatched};
 ghost use Rattle.st_filter.specs.Judging.{verdict_from};
-ghost use Rattle.st_filter.specs.Policies.{read_filters};
+ghost use Rattle.st_filter.specs.Policies.{filters_in_force};
 ghost use Rattle.st_law.specs.Sessions.{session_filters};
 ghost use Rattle.st_learn.specs.Deciding.{IsDeciding, NoneHolds};
+ghost use Rattle.st_learn.specs.Sessions.{version_of};
 
 use crate::session::Session;
 use st_calls::{Snapshot, Verdict};
@@ -24,15 +25,16 @@ impl Session<'_> {
         Some((self.number_before(place) + 1, self.kept(place).filter()))
     }
 
-    /// The verdict of the session's filters on a held call that the filters that were read don't decide, by the copies of its arguments.
-    /// The first filter for its policy and rule that holds decides; filters are numbered on after those that were read.
+    /// The verdict of the session's filters on a held call that the filters in force don't decide, by the copies of its arguments. The
+    /// first filter for its policy and rule that holds decides; filters are numbered on after those in force.
     pub fn verdict(&self, compiled: &Compiled<'_>, copies: &Snapshot) -> Verdict
-        ensures { result ≡ verdict_from (suc (length (read_filters compiled.now copies.now.policy copies.now.rule))) (session_filters self.now.filters copies.now.policy copies.now.rule) copies.now }
+        ensures { result ≡ verdict_from (suc (length (filters_in_force compiled.now copies.now.policy (version_of self.now.reloads copies.now.policy) copies.now.rule))) (session_filters self.now.filters copies.now.policy copies.now.rule) copies.now }
     {
         match self.deciding(copies) {
             Some((number, filter)) => {
-                let read = compiled.filter_count(copies.policy.get().bytes(), copies.rule);
-                verdict_of(filter, read + number, copies.ids)
+                let policy = copies.policy.get().bytes();
+                let before = compiled.filter_count(policy, self.version(policy), copies.rule);
+                verdict_of(filter, before + number, copies.ids)
             }
             None => Verdict::Unmatched,
         }

@@ -1,16 +1,19 @@
-ghost use Rattle.std.specs.Prelude.{◌≡◌, ◌++◌, ◌∷◌, [], suc, true, false, length, slice_get, None, Some, IfSome, IfOk, OnOk, OnErr};
+ghost use Rattle.std.specs.Prelude.{◌≡◌, ◌++◌, ◌∷◌, [], suc, true, false, is_some, length, slice_get, None, Some, IfSome, IfOk, OnOk, OnErr};
 ghost use Rattle.std.specs.List.{position};
 ghost use Rattle.st_filter.specs.Judging.{verdict_from};
-ghost use Rattle.st_filter.specs.Policies.{read_filters};
+ghost use Rattle.st_base.specs.Numbered.{item_at_number};
+ghost use Rattle.st_filter.specs.Policies.{filters_in_force, with_binary};
 ghost use Rattle.st_law.specs.Machine.{first_state};
 ghost use Rattle.st_law.specs.Sessions.{kept_for, session_filters};
+ghost use Rattle.st_law.specs.State.{State};
 ghost use Rattle.st_law.specs.declared.input.Input.{Input};
 ghost use Rattle.st_law.specs.declared.input.Mode.TheVariants.{AskText, Learn};
-ghost use Rattle.st_compile.specs.Answers.{with_appended, AreAnswersUnder, InForce};
+ghost use Rattle.st_compile.specs.Answers.{with_appended, AllFilters, AreAnswersUnder};
 ghost use Rattle.st_compile.specs.Places.{policy_row};
 ghost use Rattle.st_learn.specs.Answers.{KeepsAll};
 ghost use Rattle.st_learn.specs.Kept.{filter_of};
-ghost use Rattle.st_learn.specs.Operator.{answers, is_for_rule, next_reply_left, AreRepliesLeft, IsAdded, IsAnsweredBy};
+ghost use Rattle.st_learn.specs.Operator.{answers, is_for_rule, next_reply_left, AreRepliesLeft, IsAdded, IsAnsweredBy, IsPutInForce, KeepsAdded};
+ghost use Rattle.st_learn.specs.Sessions.{version_of};
 
 use crate::answers::Answers;
 use crate::kept_filter::KeptFilter;
@@ -48,7 +51,7 @@ impl<'a> Model for Operator<'a> {
 
     ghost coded = { Prim.hlevel (codes, formula_code) };
 
-    ghost view = { λ o. record { filters = o.session.filters; replies = o.replies.now; left = o.left } };
+    ghost view = { λ o. record { filters = o.session.filters; changed = o.session.changed; reloads = o.session.reloads; replies = o.replies.now; left = o.left } };
 
     ghost invariant = { λ o. length o.replies.now < 2 ^ 32 - 1 };
 }
@@ -82,15 +85,24 @@ impl<'a> Operator<'a> {
 
     /// The session: the filters that were learnt or replied.
     pub fn session(&self) -> &Session<'a>
-        ensures { result.now.filters ≡ self.now.filters }
+        ensures filters { result.now.filters ≡ self.now.filters }
+        ensures changed { result.now.changed ≡ self.now.changed }
+        ensures reloads { result.now.reloads ≡ self.now.reloads }
     {
         &self.session
     }
 
-    /// The verdict of the session's filters on a held call on which the filters that were read don't decide, by the copies of its
-    /// arguments.
+    /// The version in force of the policy of a binary.
+    pub fn version(&self, policy: &[u8]) -> u32
+        ensures is { result ≡ version_of self.now.reloads policy.now }
+        ensures law { (input : Input) (st : State) → IsAdded input st self.now → result ≡ st.versions policy.now }
+    {
+        self.session.version(policy)
+    }
+
+    /// The verdict of the session's filters on a held call on which the filters in force don't decide, by the copies of its arguments.
     pub fn verdict(&self, compiled: &Compiled<'_>, copies: &Snapshot) -> Verdict
-        ensures { result ≡ verdict_from (suc (length (read_filters compiled.now copies.now.policy copies.now.rule))) (session_filters self.now.filters copies.now.policy copies.now.rule) copies.now }
+        ensures { result ≡ verdict_from (suc (length (filters_in_force compiled.now copies.now.policy (version_of self.now.reloads copies.now.policy) copies.now.rule))) (session_filters self.now.filters copies.now.policy copies.now.rule) copies.now }
     {
         self.session.verdict(compiled, copies)
     }
@@ -146,13 +158,15 @@ impl<'a> Operator<'a> {
         copies: &Snapshot,
         filter: KeptFilter<'a>,
     ) -> Result<u32, AllocError>
-        ensures number { IfOk result (λ number. number ≡ suc (length (read_filters answering.old.read copies.now.policy copies.now.rule ++ session_filters self.old.filters copies.now.policy copies.now.rule))) }
+        ensures number { IfOk result (λ number. number ≡ suc (length (filters_in_force answering.old.policies copies.now.policy (version_of self.old.reloads copies.now.policy) copies.now.rule ++ session_filters self.old.filters copies.now.policy copies.now.rule))) }
         ensures filters { OnOk result (self.new.filters ≡ self.old.filters ++ kept_for (filter_of filter.entry) copies.now ∷ []) }
+        ensures changed { OnOk result (self.new.changed ≡ with_binary self.old.changed copies.now.policy) }
+        ensures reloads { self.new.reloads ≡ self.old.reloads }
         ensures replies { self.new.replies ≡ self.old.replies }
         ensures left { self.new.left ≡ self.old.left }
         ensures err { OnErr result (self.new ≡ self.old) }
-        ensures read { answering.new.read ≡ answering.old.read }
-        ensures own { OnOk result ((filters : InForce) → AreAnswersUnder filters answering.old.own → AreAnswersUnder (with_appended filters copies.now.policy copies.now.rule (filter_of filter.entry)) answering.new.own) }
+        ensures policies { answering.new.policies ≡ answering.old.policies }
+        ensures own { OnOk result ((filters : AllFilters) → AreAnswersUnder filters answering.old.own → AreAnswersUnder (with_appended filters copies.now.policy copies.now.rule (filter_of filter.entry)) answering.new.own) }
         ensures kept { OnErr result (KeepsAll answering.old answering.new) }
     {
         let policy = copies.policy.get().bytes();
@@ -161,7 +175,8 @@ impl<'a> Operator<'a> {
         let answer = fast_answer(filter.get());
         let before = self.session.add(alloc, &copies.policy, rule, filter)?;
         answering.own.appended(row, rule, answer);
-        Ok(answering.compiled.filter_count(policy, rule) + before + 1)
+        let version = self.session.version(policy);
+        Ok(answering.compiled.filter_count(policy, version, rule) + before + 1)
     }
 
     // Keeps the filter that is learnt from these copies.
@@ -236,5 +251,30 @@ impl<'a> Operator<'a> {
                 self.reply(alloc, answering, copies, row, index)
             }
         }
+    }
+
+    /// Puts the script's policy with this number in force for its binary. The session's filters of the binary stay, and follow it: from then on
+    /// calls are answered by them, too. If memory runs out, nothing changes, and calls are answered as before.
+    pub fn reload(
+        &mut self,
+        alloc: Global,
+        answering: &mut Answers<'_>,
+        version: u32,
+    ) -> Result<(), AllocError>
+        requires { is_some (item_at_number answering.old.policies.blocks version) ≡ true }
+        ensures law { OnOk result (IsPutInForce version self.old answering.old self.new answering.new) }
+        ensures err { OnErr result (KeepsAdded self.old self.new) }
+        ensures kept { OnErr result (KeepsAll answering.old answering.new) }
+    {
+        let Some(block) = answering.compiled.policies().block(version) else {
+            unreachable!()
+        };
+        let binary = block.binary.bytes();
+        let answers = self.session.answers_under(alloc, block)?;
+        let row = answering.own.make_row(alloc, binary)?;
+        let place = self.session.reserve_reload(alloc, binary)?;
+        answering.own.reload(row, answers);
+        self.session.put_in_force(place, version);
+        Ok(())
     }
 }

@@ -1,11 +1,12 @@
 // Prints the policies with the session's filters as text.
 ghost use Rattle.std.specs.Prelude.{◌≡◌, ◌+◌, ◌<◌, ◌++◌, ◌∷◌, [], length, map, IfOk, OnOk};
-ghost use Rattle.st_learn.specs.Learnt.{empty_policy, filters_added, learnt_policies, learnt_so_far, rows_text, with_session};
+ghost use Rattle.st_learn.specs.Learnt.{empty_policy, filters_added, learnt_policies, learnt_policy, learnt_so_far, rows_text};
+ghost use Rattle.st_learn.specs.Sessions.{version_of};
 ghost use Rattle.st_printing.specs.Canon.{canon};
 
 use crate::session::Session;
 use st_base::Text;
-use st_filter::{Filter, Policy, PolicySet};
+use st_filter::{Filter, Policies, Policy, PolicySet};
 use st_printing::{print_filter, print_policies};
 use std::alloc::{AllocError, Global};
 
@@ -27,8 +28,8 @@ fn append_row(alloc: Global, filter: &Filter, out: &mut Text) -> Result<(), Allo
     out.push(b'\n')
 }
 
-// Appends the rows of filters that were read.
-fn append_read(alloc: Global, filters: &Policy, out: &mut Text) -> Result<(), AllocError>
+// Appends the rows of the filters of a policy.
+fn append_filters(alloc: Global, filters: &Policy, out: &mut Text) -> Result<(), AllocError>
     ensures { OnOk result (out.new ≡ out.old ++ rows_text filters.now) }
 {
     for filter in filters.as_slice() {
@@ -52,59 +53,72 @@ fn append_added(
     Ok(())
 }
 
-// Appends the policies that were read, each with the session's filters after its own.
+// Appends the policy of a binary: its filters in force, and then the session's.
+fn append_policy(
+    alloc: Global,
+    policies: &Policies,
+    session: &Session<'_>,
+    binary: &[u8],
+    out: &mut Text,
+) -> Result<(), AllocError>
+    ensures { OnOk result (out.new ≡ out.old ++ canon (learnt_policy policies.now (version_of session.now.reloads) session.now.filters binary.now ∷ [])) }
+{
+    append_header(alloc, binary, out)?;
+    append_filters(
+        alloc,
+        policies.in_force(binary, session.version(binary)),
+        out,
+    )?;
+    append_added(alloc, session, binary, out)
+}
+
+// Appends the policies that were read, each as it is now.
 fn append_policies(
     alloc: Global,
-    policies: &PolicySet,
+    policies: &Policies,
     session: &Session<'_>,
     out: &mut Text,
 ) -> Result<(), AllocError>
-    ensures { OnOk result (out.new ≡ out.old ++ canon (map (with_session session.now.filters) policies.now)) }
+    ensures { OnOk result (out.new ≡ out.old ++ canon (map (learnt_policy policies.now (version_of session.now.reloads) session.now.filters) (map (λ p. p.binary) policies.now.read))) }
 {
-    for i in 0..policies.len() {
-        let binary = policies.binary(i);
-        append_header(alloc, binary, out)?;
-        append_read(alloc, policies.policy(i), out)?;
-        append_added(alloc, session, binary, out)?;
+    let read = policies.read();
+    for i in 0..read.len() {
+        append_policy(alloc, policies, session, read.binary(i), out)?;
     }
     Ok(())
 }
 
-// Appends the policy of the session's filter at an index, if the policy wasn't read and the filter is its first.
+// Appends one of the policies that were changed, unless it was read.
 fn append_other(
     alloc: Global,
-    policies: &PolicySet,
+    policies: &Policies,
     session: &Session<'_>,
-    place: usize,
+    row: usize,
     out: &mut Text,
 ) -> Result<(), AllocError>
-    requires { place < length session.now.filters }
-    ensures { OnOk result (out.old ≡ learnt_so_far policies.now session.now.filters place → out.new ≡ learnt_so_far policies.now session.now.filters (place + 1)) }
+    requires { row < length session.now.changed }
+    ensures { OnOk result (out.old ≡ learnt_so_far policies.now (version_of session.now.reloads) session.now.changed session.now.filters row → out.new ≡ learnt_so_far policies.now (version_of session.now.reloads) session.now.changed session.now.filters (row + 1)) }
 {
-    let policy = session.kept(place).policy();
-    if policies.has(policy) {
+    let binary = session.changed(row);
+    if policies.read().has(binary) {
         return Ok(());
     }
-    if !session.is_first(place) {
-        return Ok(());
-    }
-    append_header(alloc, policy, out)?;
-    append_added(alloc, session, policy, out)
+    append_policy(alloc, policies, session, binary, out)
 }
 
-/// The canonical text of all policies, with the filters that were read and then the session's. The policies that were read come first, in
-/// order. The other policies of the session's filters follow, in the order of their first filters.
+/// The canonical text of all policies, with the filters in force and then the session's. The policies that were read come first, in order.
+/// The other policies that were changed follow, in the order in which they got their first filter of the session or their first reload.
 pub fn print_learnt(
     alloc: Global,
-    policies: &PolicySet,
+    policies: &Policies,
     session: &Session<'_>,
 ) -> Result<Text, AllocError>
-    ensures { IfOk result (λ text. text ≡ canon (learnt_policies policies.now session.now.filters)) }
+    ensures { IfOk result (λ text. text ≡ canon (learnt_policies policies.now (version_of session.now.reloads) session.now.changed session.now.filters)) }
 {
     let mut out = Text::new(alloc);
     append_policies(alloc, policies, session, &mut out)?;
-    for place in 0..session.filters().len() {
-        append_other(alloc, policies, session, place, &mut out)?;
+    for row in 0..session.changed_count() {
+        append_other(alloc, policies, session, row, &mut out)?;
     }
     Ok(out)
 }

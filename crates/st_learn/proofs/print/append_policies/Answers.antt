@@ -1,8 +1,10 @@
-use Rattle.st_learn.proofs.Printing.{one_learnt, read_next}
+use Rattle.std.proofs.Common.{◌∙◌, List, ap, sym, option_map, slice_get}
+use Rattle.st_filter.specs.declared.set.BinaryPolicy.{BinaryPolicy}
+use Rattle.st_learn.specs.Sessions.{version_of}
+use Rattle.st_learn.proofs.Printing.{read_next}
 use Rattle.st_learn.proofs.print.append_policies.Goals as goal
 
 pub loop-i-preserved : goal.loop-i-preserved
 loop-i-preserved c =
-    let written = one_learnt c.args.session.now.filters c.binary-binary.result.now c.policy.result.now c.loop-i.out c.append_header.new.out c.append_read.new.out c.append_added.new.out
-    c.in_ok-append_header.ensures c.in_ok-append_read.ensures c.in_ok-append_added.ensures in
-    read_next c.args.session.now.filters c.args.policies.now c.loop-i.i c.binary-binary.result.now c.policy.result.now c.args.out.now c.loop-i.out c.append_added.new.out c.binary-binary.ensures c.policy.ensures.is c.loop-i.invariant written
+    read_next c.args.policies.now (version_of c.args.session.now.reloads) c.args.session.now.filters c.args.policies.now.read c.loop-i.i c.binary.result.now c.args.out.now c.loop-i.out c.append_policy.new.out
+    (ap (λ (ps : List BinaryPolicy). option_map (λ (p : BinaryPolicy). p.binary) (slice_get ps c.loop-i.i)) (sym c.read-read.ensures) ∙ c.binary.ensures) c.loop-i.invariant c.in_ok-append_policy.ensures
