@@ -16,6 +16,7 @@ use Rattle.st_lookaside.specs.Need.{IsShort}
 use Rattle.st_lookaside.specs.Slot.{Slot, after_look, after_word, new_slot, next_need, slot_progress, renewed, sealed_slot, snapshot_with}
 use Rattle.st_lookaside.specs.Slots.{slot_at, ChangesSlot, RenewsSlot}
 use Rattle.st_lookaside.specs.declared.head.Head.{Head}
+use Rattle.st_lookaside.specs.declared.head.Renewal.{Renewal}
 use Rattle.st_lookaside.specs.declared.slot.Next.TheVariants as next
 
 -- a rename of the name at byte 0 to the name at byte 8, from the directory /w
@@ -30,6 +31,7 @@ head = record {
   ids = ids;
   cwd = components_of (codes "/w");
   policy = codes "/bin/mv";
+  version = 0;
   rule = Call call.Rename;
   call = call.Rename;
   regs = 0 ∷ 8 ∷ 0 ∷ 0 ∷ 0 ∷ 0 ∷ [];
@@ -69,9 +71,12 @@ texts = refl
 outside : slot_progress (new_slot (record head { regs = 65536 ∷ 8 ∷ 0 ∷ 0 ∷ 0 ∷ 0 ∷ [] })) ≡ Stuck EFAULT
 outside = refl
 
--- the drawing, number, ids and directory of a renewal are new, everything else in the message stays, and nothing is copied or seen
-begun_anew : renewed done 9 19 (identity 7 8) (components_of (codes "/v")) ≡ record {
-  head = record head { drawing = 9; seq = 19; ids = identity 7 8; cwd = components_of (codes "/v") };
+-- the drawing, number, ids, directory and version of a renewal are new, everything else in the message stays, and nothing is copied or seen
+abbrev renewal : Renewal
+renewal = record { ids = identity 7 8; cwd = components_of (codes "/v"); version = 3 }
+
+begun_anew : renewed done 9 19 renewal ≡ record {
+  head = record head { drawing = 9; seq = 19; ids = identity 7 8; cwd = components_of (codes "/v"); version = 3 };
   parts = record { words = []; lookups = [] } ∷ record { words = []; lookups = [] } ∷ [];
   is_sealed = false;
 }
@@ -84,7 +89,7 @@ seal_only = refl
 same_parts : (sealed_slot done).parts ≡ done.parts
 same_parts = refl
 
-unsealed_anew : renewed (sealed_slot done) 9 19 (identity 7 8) (components_of (codes "/v")) ≡ renewed done 9 19 (identity 7 8) (components_of (codes "/v"))
+unsealed_anew : renewed (sealed_slot done) 9 19 renewal ≡ renewed done 9 19 renewal
 unsealed_anew = refl
 
 abbrev sealed : Snapshot
@@ -93,6 +98,7 @@ sealed = record {
   pid = 2;
   ids = ids;
   policy = codes "/bin/mv";
+  version = 0;
   rule = Call call.Rename;
   call = call.Rename;
   regs = 0 ∷ 8 ∷ 0 ∷ 0 ∷ 0 ∷ 0 ∷ [];
@@ -101,6 +107,10 @@ sealed = record {
 
 sealed_is : snapshot_with head (name 0 (codes "/w/a") ∷ []) ≡ sealed
 sealed_is = refl
+
+-- it is judged by the version of the renewal from then on
+judged_anew : snapshot_with (renewed done 9 19 renewal).head (name 0 (codes "/w/a") ∷ []) ≡ record sealed { seq = 19; ids = identity 7 8; version = 3 }
+judged_anew = refl
 
 -- ---- numbers
 

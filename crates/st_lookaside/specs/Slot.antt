@@ -1,6 +1,5 @@
 -- A message under way: what was copied and seen for each of its arguments.
 use Rattle.std.specs.Prelude.{◌≡◌, ◌<◌, ◌≤◌, ◌+◌, ℕ, Bool, true, false, List, [], All, map, get_or, Option, IfSome, is_some, slice_index_or, slice_set, length}
-use Rattle.st_base.specs.declared.ids.Ids.{Ids}
 use Rattle.st_calls.specs.Argument.{args_of}
 use Rattle.st_calls.specs.declared.argument.ArgText.{ArgText}
 use Rattle.st_calls.specs.declared.judged.Snapshot.{Snapshot}
@@ -9,12 +8,12 @@ use Rattle.st_lookaside.specs.Head.{arg_request}
 use Rattle.st_lookaside.specs.Need.{IsShort}
 use Rattle.st_lookaside.specs.Part.{Filled, filled_of, is_begun, nothing_filled, with_lookup, with_word, IsPart}
 use Rattle.st_lookaside.specs.declared.head.Head.{Head}
+use Rattle.st_lookaside.specs.declared.head.Renewal.{Renewal}
 use Rattle.st_lookaside.specs.declared.need.Need.TheVariants as need
 use Rattle.st_lookaside.specs.declared.part.Part.{Part}
 use Rattle.st_lookaside.specs.declared.slot.Next.{Next}
 use Rattle.st_lookaside.specs.declared.slot.Next.TheVariants as next
 use Rattle.st_model.specs.declared.limits.TheConstants.{SPACE_WORDS}
-use Rattle.st_names.specs.Name.{Components}
 use Rattle.st_names.specs.declared.seen.SeenText.{SeenText}
 
 -- a message, what was copied and seen for each argument of its rule, in their order, and whether the message is sealed
@@ -107,9 +106,10 @@ after_look slot seen = let j = part_next (slot_progress slot) in with_part slot 
 abbrev pub sealed_slot : Slot → Slot
 sealed_slot slot = record slot { is_sealed = true }
 
--- the message begins anew under this drawing and its number, with these ids and this directory
-abbrev pub renewed : Slot → ℕ → ℕ → Ids → Components → Slot
-renewed slot drawing seq ids cwd = new_slot (record slot.head { drawing = drawing; seq = seq; ids = ids; cwd = cwd })
+-- the message begins anew under this drawing and its number, with the ids, the directory and the version of this renewal
+abbrev pub renewed : Slot → ℕ → ℕ → Renewal → Slot
+renewed slot drawing seq renewal =
+    new_slot (record slot.head { drawing = drawing; seq = seq; ids = renewal.ids; cwd = renewal.cwd; version = renewal.version })
 
 -- the message with the texts of its arguments
 abbrev pub snapshot_with : Head → List ArgText → Snapshot
@@ -118,6 +118,7 @@ snapshot_with head args = record {
   pid = head.pid;
   ids = head.ids;
   policy = head.policy;
+  version = head.version;
   rule = head.rule;
   call = head.call;
   regs = head.regs;

@@ -14,10 +14,21 @@ pub struct Head {
     pub cwd: Shared<AbsName>,
     /// The binary whose policy judges it.
     pub policy: Shared<Text>,
+    /// The version of that policy: 0 as it was read, or the number of the script's policy that a reload has put in its place.
+    pub version: u32,
     /// The rule by which it is judged, which determines its arguments.
     pub rule: Rule,
     pub call: SysCall,
     pub regs: [u64; 6],
+}
+
+/// What a renewed message is judged by from now on: the ids and the directory of its process, and the version of its policy.
+#[derive(Debug, Drop)]
+pub struct Renewal {
+    pub ids: Ids,
+    /// Its name has at most 1,024 bytes.
+    pub cwd: Shared<AbsName>,
+    pub version: u32,
 }
 
 /// A drawing that a message gets, with its number.

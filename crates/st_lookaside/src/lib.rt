@@ -8,6 +8,6 @@ mod part;
 pub mod slot;
 pub mod slots;
 
-pub use head::{Head, NewNumber};
+pub use head::{Head, NewNumber, Renewal};
 pub use slot::{Next, Slot};
 pub use slots::Slots;

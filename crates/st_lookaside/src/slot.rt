@@ -11,10 +11,10 @@ ghost use Rattle.st_names.specs.Seen.{seen_text};
 ghost use Rattle.st_names.specs.declared.seen.SeenText.{SeenText};
 ghost use Rattle.st_effects.specs.Progress.{Look, Ready};
 
-use crate::head::{Head, NewNumber};
+use crate::head::{Head, NewNumber, Renewal};
 use crate::need::Need;
 use crate::part::Part;
-use st_base::{Errno, Ids, Sequence, Shared};
+use st_base::{Errno, Sequence, Shared};
 use st_calls::{ArgText, Snapshot, args_of};
 use st_names::{AbsName, Seen};
 use std::alloc::{AllocError, Global};
@@ -215,6 +215,7 @@ impl Slot {
             pid: head.pid,
             ids: head.ids,
             policy: head.policy.share()?,
+            version: head.version,
             rule: head.rule,
             call: head.call,
             regs: head.regs,
@@ -252,15 +253,16 @@ impl Slot {
         Ok(copies)
     }
 
-    /// Begins anew under this drawing and its number, with these ids and this directory, in the existing room.
-    pub fn renew(&mut self, new: NewNumber, ids: Ids, cwd: Shared<AbsName>)
-        requires { IsShort cwd }
-        ensures { self.new ≡ renewed self.old new.drawing new.seq ids cwd }
+    /// Begins anew under this drawing and its number, with the ids, the directory and the version of this renewal, in the existing room.
+    pub fn renew(&mut self, new: NewNumber, renewal: Renewal)
+        requires { IsShort renewal.cwd }
+        ensures { self.new ≡ renewed self.old new.drawing new.seq renewal }
     {
         self.head.drawing = new.drawing;
         self.head.seq = new.seq;
-        self.head.ids = ids;
-        self.head.cwd = cwd;
+        self.head.ids = renewal.ids;
+        self.head.cwd = renewal.cwd;
+        self.head.version = renewal.version;
         self.sealed = None;
         restart(&mut self.parts, &self.head);
     }

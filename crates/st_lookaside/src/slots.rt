@@ -8,10 +8,10 @@ ghost use Rattle.st_lookaside.specs.Slots.{key_at, slot_at, AreAscending, Change
 ghost use Rattle.st_names.specs.Seen.{seen_text};
 ghost use Rattle.st_names.specs.declared.seen.SeenText.{SeenText};
 
-use crate::head::{Head, NewNumber};
+use crate::head::{Head, NewNumber, Renewal};
 use crate::slot::{Next, Slot};
 use slab::Slab;
-use st_base::{Drawing, Ids, Shared};
+use st_base::{Drawing, Shared};
 use st_calls::Snapshot;
 use st_names::{AbsName, Seen};
 use std::alloc::{AllocError, Global};
@@ -327,20 +327,20 @@ impl Slots {
         slot.take_back();
     }
 
-    /// Begins a message anew under a drawing that has no slot and its number, with these ids and this directory, in the existing room. Its old drawing
-    /// then has no slot.
-    pub fn renew(&mut self, old: Drawing, new: NewNumber, ids: Ids, cwd: Shared<AbsName>)
+    /// Begins a message anew under a drawing that has no slot and its number, with the ids, the directory and the version of this renewal,
+    /// in the existing room. Its old drawing then has no slot.
+    pub fn renew(&mut self, old: Drawing, new: NewNumber, renewal: Renewal)
         requires slot { IsSome (slot_at self.old old) }
         requires free { slot_at self.old new.drawing ≡ None }
-        requires short { IsShort cwd }
-        ensures { IfSome (slot_at self.old old) (λ slot. RenewsSlot self.old old new.drawing (renewed slot new.drawing new.seq ids cwd) self.new) }
+        requires short { IsShort renewal.cwd }
+        ensures { IfSome (slot_at self.old old) (λ slot. RenewsSlot self.old old new.drawing (renewed slot new.drawing new.seq renewal) self.new) }
     {
         let Ok(place) = place_of(&self.keys, old) else {
             unreachable!()
         };
         let key = take_out(&mut self.keys, place);
         let slot = &mut self.slab[key];
-        slot.renew(new, ids, cwd);
+        slot.renew(new, renewal);
         let place = gap_of(&self.keys, new.drawing);
         put_in(&mut self.keys, place, new.drawing, key);
     }

@@ -15,6 +15,7 @@ mod Memory
 mod OnFiles
 mod OnProcesses
 mod Plain
+pub mod Reloading
 mod Renewing
 mod Same
 mod Short

@@ -1,5 +1,5 @@
 -- The renewals after the changes of a call that sets ids: they change nothing in the system.
-use Rattle.std.proofs.Common.{◌≡◌, ◌∙◌, ℕ, suc, ◌+◌, Bool, true, false, cond, not, ◌&&◌, ◌==◌, List, [], ◌∷◌, ◌++◌, Option, Some, None, refl, ap, sym}
+use Rattle.std.proofs.Common.{◌≡◌, ◌∙◌, ℕ, suc, ◌+◌, Bool, true, false, cond, List, [], ◌∷◌, ◌++◌, Option, Some, None, refl, ap, sym}
 use Rattle.std.proofs.lemmas.List.Sums.{fold-append}
 use Rattle.std.specs.List.{fold}
 use Rattle.st_base.specs.Errno.{first_error}
@@ -9,7 +9,7 @@ use Rattle.st_calls.specs.declared.call.SysCall.{SysCall}
 use Rattle.st_calls.specs.declared.call.SysCall.TheVariants.{SetUid, SetEuid, SetGid, SetEgid}
 use Rattle.st_model.specs.Identity.{ids_after_set, set_refused}
 use Rattle.st_effects.specs.Effect.{effect}
-use Rattle.st_effects.specs.Processes.{renewals}
+use Rattle.st_effects.specs.Processes.{is_other_of, renewals, renewals_by}
 use Rattle.st_effects.specs.System.{HeldCall, Request, register, success, unless_error}
 use Rattle.st_trace.specs.declared.entry.CallResult.{CallResult}
 use Rattle.st_trace.specs.declared.entry.CallResult.TheVariants.{Value, Failed}
@@ -29,21 +29,22 @@ AreRenewals [] = Unit {0}
 AreRenewals (Renewed old new ∷ changes) = AreRenewals changes
 AreRenewals (change ∷ changes) = ⊥
 
-renewed_by : (pid tid next : ℕ) (number : ℕ) (b : Bool) (later now : List Change) → AreRenewals later → AreRenewals now → AreRenewals (cond b (Renewed number next ∷ later) now)
-renewed_by pid tid next number true later now x y = x
-renewed_by pid tid next number false later now x y = y
+renewed_by : (next number : ℕ) (b : Bool) (later now : List Change) → AreRenewals later → AreRenewals now → AreRenewals (cond b (Renewed number next ∷ later) now)
+renewed_by next number true later now x y = x
+renewed_by next number false later now x y = y
 
-are_renewals : (pid tid next : ℕ) (held : List HeldCall) → AreRenewals (renewals pid tid next held)
-are_renewals pid tid next [] = tt
-are_renewals pid tid next (held ∷ more) =
-    renewed_by pid tid next held.number (held.pid == pid && not (held.tid == tid)) (renewals pid tid (next + 1) more) (renewals pid tid next more) (are_renewals pid tid (next + 1) more) (are_renewals pid tid next more)
+-- the renewals of held calls of any kind
+pub are_renewals : (is : HeldCall → Bool) (next : ℕ) (held : List HeldCall) → AreRenewals (renewals_by is next held)
+are_renewals is next [] = tt
+are_renewals is next (held ∷ more) =
+    renewed_by next held.number (is held) (renewals_by is (next + 1) more) (renewals_by is next more) (are_renewals is (next + 1) more) (are_renewals is next more)
 
 of_result : (i : Input) (st : State) (request : Request) (result : CallResult) → AreRenewals (renewals_of i st request result)
-of_result i st request (Value n) = are_renewals request.pid request.tid (suc st.posted) (held_from st 1 (thread_count i))
+of_result i st request (Value n) = are_renewals (is_other_of request.pid request.tid) (suc st.posted) (held_from st 1 (thread_count i))
 of_result i st request (Failed errno) = tt
 
 -- what one renewal leaves unchanged, a list of renewals leaves unchanged
-fold_same : {A : Type 0} (f : A → Change → A) → ((a : A) (old new : ℕ) → f a (Renewed old new) ≡ a) → (a : A) (changes : List Change) → AreRenewals changes → fold f a changes ≡ a
+pub fold_same : {A : Type 0} (f : A → Change → A) → ((a : A) (old new : ℕ) → f a (Renewed old new) ≡ a) → (a : A) (changes : List Change) → AreRenewals changes → fold f a changes ≡ a
 fold_same f same a [] x = refl
 fold_same f same a (Renewed old new ∷ changes) x = ap (λ b. fold f b changes) (same a old new) ∙ fold_same f same a changes x
 fold_same f same a (change ∷ changes) x = absurd x

@@ -1,56 +1,46 @@
--- The copies of a directory that renewals need are made thread by thread.
+-- The copies of directories that renewals need are made thread by thread, those of the last thread first.
 use native.Mathlib.Omega.{arith}
-use Rattle.std.proofs.Common.{◌≡◌, ◌≤◌, ◌+◌, ◌∙◌, ℕ, suc, drop, replicate, List, [], ◌∷◌, ◌++◌, length, Option, Some, None, refl, ap, sym}
-use Rattle.std.proofs.lemmas.List.{append_assoc, append-nil}
-use Rattle.std.proofs.Math.ListN.{drop_of_length-le}
-use Rattle.st_model.specs.Processes.{Processes}
+use Rattle.std.proofs.Common.{◌≡◌, ◌≤◌, ◌+◌, ◌∙◌, ℕ, suc, drop, List, [], ◌∷◌, ◌++◌, length, Option, Some, None, refl, ap, sym, length-append}
+use Rattle.st_model.specs.Processes.{Processes, process_at}
 use Rattle.st_names.specs.Name.{Components}
-use Rattle.st_threads.specs.Renewing.{drawing_renewed, drawings_from, with_drawing}
+use Rattle.st_threads.specs.Renewing.{call_renewed, calls_from, cwds_of, with_call, TakesCwd}
 use Rattle.st_threads.specs.Thread.{ThreadRow}
+use Rattle.st_threads.specs.declared.renewing.RenewedCall.{RenewedCall}
 
-one_copy : (cwd : Components) (drawing : Option ℕ) (numbers : List ℕ) → replicate (length (with_drawing drawing [])) cwd ++ replicate (length numbers) cwd ≡ replicate (length (with_drawing drawing numbers)) cwd
-one_copy cwd None numbers = refl
-one_copy cwd (Some q) numbers = refl
-
-count_if : (drawing : Option ℕ) (numbers : List ℕ) → length (with_drawing drawing numbers) ≤ suc (length numbers)
-count_if None numbers = omega arith
-count_if (Some q) numbers = omega arith
+count_if : (call : Option RenewedCall) (calls : List RenewedCall) → length (with_call call calls) ≤ suc (length calls)
+count_if None calls = omega arith
+count_if (Some call) calls = omega arith
 
 -- at most as many calls are renewed as there are threads
-pub count_numbers : (processes : Processes) (pid caller t : ℕ) (rows : List ThreadRow) → length (drawings_from processes pid caller t rows) ≤ length rows
-count_numbers processes pid caller t [] = omega arith
-count_numbers processes pid caller t (row ∷ rows) =
-    let more = count_if (drawing_renewed processes pid caller t row) (drawings_from processes pid caller (suc t) rows) in
-    let rest = count_numbers processes pid caller (suc t) rows in
+count_calls : (pids : ℕ → Option ℕ) (t : ℕ) (rows : List ThreadRow) → length (calls_from pids t rows) ≤ length rows
+count_calls pids t [] = omega arith
+count_calls pids t (row ∷ rows) =
+    let more = count_if (call_renewed pids t row) (calls_from pids (suc t) rows) in
+    let rest = count_calls pids (suc t) rows in
     omega (arith, more, rest)
 
-module _ (processes : Processes) (pid caller : ℕ) (rows : List ThreadRow) (cwd : Components) where
-  abbrev numbers : ℕ → List ThreadRow → List ℕ
-  numbers t some = drawings_from processes pid caller t some
+module _ (processes : Processes) where
+  count_cwds : (calls : List RenewedCall) → length (cwds_of processes calls) ≡ length calls
+  count_cwds [] = refl
+  count_cwds (call ∷ calls) =
+      let one = length-append (cwds_of processes calls) ((process_at processes call.pid).cwd ∷ []) in
+      let rest = count_cwds calls in
+      omega (arith, one, rest)
 
-  -- the copies for the first n threads are made
-  pub record CopiedSoFar (n : ℕ) (cwds : List Components) : Type 0 where
-    pub copies : cwds ++ replicate (length (numbers (suc n) (drop n rows))) cwd ≡ replicate (length (numbers 1 rows)) cwd
+  -- at most as many directories are copied
+  pub few_cwds : (pids : ℕ → Option ℕ) (t : ℕ) (rows : List ThreadRow) → length (cwds_of processes (calls_from pids t rows)) ≤ length rows
+  few_cwds pids t rows = let count = count_cwds (calls_from pids t rows) in let most = count_calls pids t rows in omega (arith, count, most)
 
-  pub none_copied : (cwds : List Components) → cwds ≡ [] → CopiedSoFar 0 cwds
-  none_copied cwds cwds_are = record { copies = ap (λ (l : List Components). l ++ replicate (length (numbers 1 rows)) cwd) cwds_are }
+  one_more : (call : Option RenewedCall) (calls : List RenewedCall) (cwds new : List Components) → cwds ≡ cwds_of processes calls → TakesCwd processes call new cwds → new ≡ cwds_of processes (with_call call calls)
+  one_more None calls cwds new is takes = takes ∙ is
+  one_more (Some call) calls cwds new is takes = takes ∙ ap (λ (l : List Components). l ++ (process_at processes call.pid).cwd ∷ []) is
 
-  module _ (n : ℕ) (cwds : List Components) (so_far : CopiedSoFar n cwds) where
-    pub all_copied : length rows ≤ n → cwds ≡ replicate (length (numbers 1 rows)) cwd
-    all_copied end = sym (append-nil cwds) ∙ ap (λ (l : List ThreadRow). cwds ++ replicate (length (numbers (suc n) l)) cwd) (sym (drop_of_length-le rows {i = n} end)) ∙ so_far.copies
-
-    module _ (row : ThreadRow) (here : drop n rows ≡ row ∷ drop (n + 1) rows) (drawing : Option ℕ) (drawing_is : drawing ≡ drawing_renewed processes pid caller (n + 1) row) where
-      after : n + 1 ≡ suc n
-      after = omega arith
-
-      abbrev rest : List ℕ
-      rest = numbers (suc (suc n)) (drop (n + 1) rows)
-
-      numbers_are : with_drawing drawing rest ≡ numbers (suc n) (drop n rows)
-      numbers_are = ap (λ (s : Option ℕ). with_drawing s rest) (drawing_is ∙ ap (λ (k : ℕ). drawing_renewed processes pid caller k row) after) ∙ ap (numbers (suc n)) (sym here)
-
-      pub next_copied : (copied : List Components) → copied ≡ cwds ++ replicate (length (with_drawing drawing [])) cwd → CopiedSoFar (n + 1) copied
-      next_copied copied copied_is = record {
-        copies = (λ k. copied_is k ++ replicate (length (numbers (suc (after k)) (drop (n + 1) rows))) cwd) ∙ append_assoc cwds (replicate (length (with_drawing drawing [])) cwd) (replicate (length rest) cwd)
-            ∙ ap (λ (l : List Components). cwds ++ l) (one_copy cwd drawing rest) ∙ ap (λ (l : List ℕ). cwds ++ replicate (length l) cwd) numbers_are ∙ so_far.copies;
-      }
+  -- the copy for the thread before these is made
+  pub next_copied : (pids : ℕ → Option ℕ) (rows : List ThreadRow) (n after : ℕ) → after ≡ n + 1 → (row : ThreadRow) → drop n rows ≡ row ∷ drop (n + 1) rows → (call : Option RenewedCall) → call ≡ call_renewed pids (n + 1) row
+      → (cwds new : List Components) → TakesCwd processes call new cwds → cwds ≡ cwds_of processes (calls_from pids (suc after) (drop after rows)) → new ≡ cwds_of processes (calls_from pids (suc n) (drop n rows))
+  next_copied pids rows n after after_is row here call call_is cwds new takes copied =
+      let one : n + 1 ≡ suc n = omega arith in
+      let is : call ≡ call_renewed pids (suc n) row = call_is ∙ ap (λ (t : ℕ). call_renewed pids t row) one in
+      one_more call (calls_from pids (suc (n + 1)) (drop (n + 1) rows)) cwds new (copied ∙ ap (λ (k : ℕ). cwds_of processes (calls_from pids (suc k) (drop k rows))) after_is) takes
+      ∙ (λ k. cwds_of processes (with_call (is k) (calls_from pids (suc (one k)) (drop (n + 1) rows))))
+      ∙ ap (λ (l : List ThreadRow). cwds_of processes (calls_from pids (suc n) l)) (sym here)

@@ -4,6 +4,7 @@ use Rattle.std.proofs.lemmas.Option.{none-some, same_Some}
 use Rattle.st_trace.specs.declared.entry.Way.{Way}
 use Rattle.st_trace.specs.declared.entry.Way.TheVariants.{Fast, Barred, Held, Untraced}
 use Rattle.st_law.specs.Threads.{PendingCall}
+use Rattle.st_threads.specs.Renewing.{call_of}
 use Rattle.st_threads.specs.Thread.{ThreadRow, drawing_by_way, drawing_held, drawing_pending}
 
 -- a thread holds a call under this number, and isn't dying
@@ -44,3 +45,8 @@ either_none false = refl
 
 pub none_closed : (row : ThreadRow) → drawing_held (record row { pending = None }) ≡ None
 none_closed row = either_none row.dying
+
+-- a thread that holds no call has none that is renewed
+pub no_call : (pid : Option ℕ) → call_of pid None ≡ None
+no_call None = refl
+no_call (Some pid) = refl

@@ -3,6 +3,8 @@ use Rattle.std.specs.Prelude.{◌≡◌, ℕ, Bool, false, if◌then◌else◌, 
 use Rattle.st_trace.specs.declared.entry.Way.{Way}
 use Rattle.st_trace.specs.declared.entry.Way.TheVariants.{Fast, Barred, Held, Untraced}
 use Rattle.st_calls.specs.declared.call.SysCall.{SysCall}
+use Rattle.st_calls.specs.declared.rule.FastAnswer.{FastAnswer}
+use Rattle.st_calls.specs.declared.rule.FastAnswer.TheVariants as answers
 use Rattle.st_trace.specs.declared.start.Instr.{Instr}
 use Rattle.st_law.specs.State.{ThreadState}
 use Rattle.st_law.specs.Threads.{PendingCall, child_of_next}
@@ -12,6 +14,8 @@ pub record ThreadRow : Type 0 where
   -- the instructions left
   pub left : List Instr
   pub pending : Option PendingCall
+  -- the kernel's own answer to its barred call, as it was when the call was entered
+  pub answer : FastAnswer
   -- the drawing of its held call
   pub number : ℕ
   pub dying : Bool
@@ -19,7 +23,7 @@ pub record ThreadRow : Type 0 where
 
 -- a thread before its first step
 abbrev pub first_row : List Instr → ThreadRow
-first_row body = record { left = body; pending = None; number = 0; dying = false; ended = false }
+first_row body = record { left = body; pending = None; answer = answers.Permit; number = 0; dying = false; ended = false }
 
 -- the drawing of a thread after it entered a call this way
 abbrev pub drawing_of_way : Way → ℕ → ℕ
@@ -28,11 +32,12 @@ drawing_of_way Fast before = before
 drawing_of_way (Barred n) before = before
 drawing_of_way Untraced before = before
 
--- a thread after it entered its next instruction's call this way
-abbrev pub row_entered : ThreadRow → SysCall → List ℕ → Way → ThreadRow
-row_entered row call regs way = record {
+-- a thread after it entered its next instruction's call this way, with this answer of the kernel
+abbrev pub row_entered : ThreadRow → SysCall → List ℕ → Way → FastAnswer → ThreadRow
+row_entered row call regs way answer = record {
   left = drop 1 row.left;
   pending = Some (record { call = call; regs = regs; way = way; child = child_of_next row.left });
+  answer = answer;
   number = drawing_of_way way row.number;
   dying = row.dying;
   ended = row.ended;
@@ -54,10 +59,12 @@ drawing_pending number (Some entered) = drawing_by_way number entered.way
 abbrev pub drawing_held : ThreadRow → Option ℕ
 drawing_held row = if row.dying then None else drawing_pending row.number row.pending
 
--- a row represents a thread's state in the law's machine; its drawing means something only while it holds a call
+-- a row represents a thread's state in the law's machine; its drawing means something only while it holds a call, and its answer only while
+-- its call is barred
 pub record IsRow (row : ThreadRow) (thread : ThreadState) : Type 0 where
   pub left : thread.left ≡ row.left
   pub pending : thread.pending ≡ row.pending
+  pub answer : (entered : PendingCall) (n : ℕ) → row.pending ≡ Some entered → entered.way ≡ Barred n → thread.answer ≡ row.answer
   pub number : (q : ℕ) → drawing_held row ≡ Some q → thread.number ≡ q
   pub dying : thread.dying ≡ row.dying
   pub ended : thread.ended ≡ row.ended

@@ -6,9 +6,11 @@ mod ending;
 mod renewing;
 mod thread;
 mod way;
+mod which;
 
-pub use caller::{CallingThread, NewIds};
+pub use caller::CallingThread;
 pub use ending::{end_by_all, end_call};
-pub use renewing::{RenewalPlan, plan_renewals, renew_all};
+pub use renewing::{RenewalPlan, RenewedCall, plan_renewals, renew_all};
 pub use thread::{PendingCall, Thread};
 pub use way::CallWay;
+pub use which::{RenewedCalls, WhichCalls};

@@ -1,168 +1,202 @@
-// Gives held calls new drawings after a call that sets ids of their process.
-ghost use Rattle.std.specs.Prelude.{◌≡◌, ◌≢◌, ◌↔◌, ◌<◌, ◌≤◌, ◌+◌, ◌-◌, ◌^◌, ℕ, Bool, true, List, [], ◌∷◌, ◌++◌, All, length, replicate, vec_capacity, IfSome, IfOk, OnOk};
+// Gives held calls new drawings: after a call that sets the ids of their process, and after a reload of their policy.
+ghost use Rattle.std.specs.Prelude.{◌≡◌, ◌↔◌, ◌<◌, ◌≤◌, ◌+◌, ◌-◌, ◌^◌, ℕ, Bool, true, List, [], ◌++◌, All, length, vec_capacity, IfSome, IfOk, OnOk};
+ghost use Rattle.std.specs.Option.{option_to_list};
 ghost use Rattle.st_lookaside.specs.Need.{IsShort};
-ghost use Rattle.st_threads.specs.Renewing.{drawing_renewed, numbers_after_renewals, drawings_from, renewals_from, row_renewed, with_drawing, AreNumberedFrom, CanRenew, HaveRenewed, RenewsIf};
+ghost use Rattle.st_threads.specs.Renewing.{call_renewed, calls_from, cwds_of, numbers_after_renewals, pids_of, renewals_from, row_renewed, with_call, AreNumberedFrom, CanRenew, HaveRenewed, RenewsIf, TakesCwd};
 ghost use Rattle.st_messages.specs.Messages.{is_live_drawing};
-ghost use Rattle.st_model.specs.Process.{Process};
 ghost use Rattle.st_model.specs.Processes.{process_at, IsPid};
 ghost use Rattle.st_names.specs.Name.{Components};
 ghost use Rattle.st_trace.specs.declared.entry.Change.{Change};
-ghost use Rattle.st_trace.specs.declared.entry.Change.TheVariants.{SetIds};
 ghost use Rattle.st_workers.specs.Numbers.{AreFew, AreReady, CarriesNumbers, IsReadyWith};
 
-use crate::caller::{CallingThread, NewIds};
 use crate::thread::Thread;
-use st_base::{Drawing, Ids, Shared, Tid};
+use crate::which::{RenewedCalls, WhichCalls};
+use st_base::{Drawing, Pid, Shared, Tid, is_same_text};
+use st_lookaside::Renewal;
 use st_names::AbsName;
 use st_system::System;
 use st_trace::Change;
 use st_workers::Workers;
 use std::alloc::{AllocError, Global};
 
-// The drawing of a thread's held call, if it is renewed: the thread is one of the caller's process, and isn't the caller.
-fn drawing_renewed(
+/// A held call that is renewed: the process of its thread, and the drawing of its message.
+#[derive(Clone, Copy, Debug)]
+pub struct RenewedCall {
+    pub pid: Pid,
+    pub drawing: Drawing,
+}
+
+// The process of a thread, if it is one whose held call is renewed.
+fn pid_if(system: &System, which: WhichCalls<'_>, tid: Tid) -> Option<Pid>
+    ensures pid { result ≡ pids_of system.now.processes which.entry tid }
+    ensures there { IfSome result (IsPid system.now.processes) }
+{
+    let pid = system.pid_of(tid)?;
+    let is_renewed = match which {
+        WhichCalls::OthersOf(caller) => pid == caller.pid && tid != caller.tid,
+        WhichCalls::Under(binary) => is_same_text(system.policy(pid).get().bytes(), binary),
+    };
+    if is_renewed { Some(pid) } else { None }
+}
+
+// The call that a thread holds, if it is renewed.
+fn call_renewed(
     thread: &Thread<'_>,
     system: &System,
-    caller: CallingThread,
+    which: WhichCalls<'_>,
     tid: Tid,
-) -> Option<Drawing>
-    ensures { result ≡ drawing_renewed system.now.processes caller.pid caller.tid tid thread.now }
+) -> Option<RenewedCall>
+    ensures call { result ≡ call_renewed (pids_of system.now.processes which.entry) tid thread.now }
+    ensures there { IfSome result (λ call. IsPid system.now.processes call.pid) }
 {
-    let owner = system.pid_of(tid).unwrap_or(0);
-    if owner == caller.pid && tid != caller.tid {
-        thread.drawing_held()
-    } else {
-        None
-    }
+    let drawing = thread.drawing_held()?;
+    let pid = pid_if(system, which, tid)?;
+    Some(RenewedCall { pid, drawing })
 }
 
 // ---- what takes memory, before anything changes
 
-/// What renewals need: the changes of the entry so far, with room for the renewals, and the directory of the process for each renewal.
+/// What renewals need: the changes of the entry so far, with room for the renewals; the directory of the process of each call, that of the
+/// last call first; and the version of their policy.
 #[derive(Debug, Drop)]
 pub struct RenewalPlan {
     pub changes: Vec<Change>,
     pub cwds: Vec<Shared<AbsName>>,
+    pub version: u32,
 }
 
-// Adds a copy of a directory for one more renewal, if the drawing exists.
+// Adds a copy of the directory of a call's process, if the call exists.
 fn add_copy(
     cwds: &mut Vec<Shared<AbsName>>,
-    drawing: Option<Drawing>,
-    cwd: &Shared<AbsName>,
+    system: &System,
+    call: Option<RenewedCall>,
 ) -> Result<(), AllocError>
-    ensures { OnOk result (cwds.new.items ≡ cwds.old.items ++ replicate (length (with_drawing drawing [])) cwd.now) }
+    requires there { IfSome call (λ its. IsPid system.now.processes its.pid) }
+    ensures cwds { OnOk result (TakesCwd system.now.processes call cwds.new.items cwds.old.items) }
+    ensures short { OnOk result (All IsShort cwds.old.items → All IsShort cwds.new.items) }
 {
-    if let Some(_) = drawing {
-        cwds.push(cwd.share()?)?;
+    if let Some(call) = call {
+        cwds.push(system.cwd(call.pid).share()?)?;
     }
     Ok(())
 }
 
-// A copy of the directory of the caller's process for each renewal.
+// A copy of the directory of its process for each call that is renewed; that of the last call comes first.
 fn copies_for(
     alloc: Global,
     threads: &[Thread<'_>],
     system: &System,
-    caller: CallingThread,
+    which: WhichCalls<'_>,
 ) -> Result<Vec<Shared<AbsName>>, AllocError>
-    requires there { IsPid system.now.processes caller.pid }
     requires few { length threads.now < 2 ^ 31 }
-    ensures cwds { IfOk result (λ cwds. cwds.items ≡ replicate (length (drawings_from system.now.processes caller.pid caller.tid 1 threads.now)) (process_at system.now.processes caller.pid).cwd) }
+    ensures cwds { IfOk result (λ cwds. cwds.items ≡ cwds_of system.now.processes (calls_from (pids_of system.now.processes which.entry) 1 threads.now)) }
     ensures few { IfOk result (λ cwds. length cwds.items ≤ length threads.now) }
-    ensures short { IfOk result (λ cwds. IsShort (process_at system.now.processes caller.pid).cwd) }
+    ensures short { IfOk result (λ cwds. All IsShort cwds.items) }
 {
-    let cwd = system.cwd(caller.pid);
     let mut cwds = Vec::new(alloc);
-    for i in 0..threads.len() {
-        let drawing = drawing_renewed(&threads[i], system, caller, i as Tid + 1);
-        add_copy(&mut cwds, drawing, cwd)?;
+    let mut i = threads.len();
+    while i > 0 {
+        i -= 1;
+        let call = call_renewed(&threads[i], system, which, i as Tid + 1);
+        add_copy(&mut cwds, system, call)?;
     }
     Ok(cwds)
 }
 
-/// Plans new drawings for the held calls of the caller's process except its own, after its call sets these ids. All memory is taken here.
+/// Plans new drawings for these held calls, after this change of the entry, if it has one before. All memory is taken here.
 pub fn plan_renewals(
     alloc: Global,
     threads: &[Thread<'_>],
     system: &System,
-    set: NewIds,
+    calls: RenewedCalls<'_>,
+    first: Option<Change>,
 ) -> Result<RenewalPlan, AllocError>
-    requires there { IsPid system.now.processes set.caller.pid }
     requires few { length threads.now < 2 ^ 31 }
-    ensures changes { IfOk result (λ plan. plan.changes.items ≡ SetIds set.ids ∷ []) }
-    ensures cwds { IfOk result (λ plan. plan.cwds.items ≡ replicate (length (drawings_from system.now.processes set.caller.pid set.caller.tid 1 threads.now)) (process_at system.now.processes set.caller.pid).cwd) }
+    ensures changes { IfOk result (λ plan. plan.changes.items ≡ option_to_list first) }
+    ensures cwds { IfOk result (λ plan. plan.cwds.items ≡ cwds_of system.now.processes (calls_from (pids_of system.now.processes calls.entry.which) 1 threads.now)) }
+    ensures version { IfOk result (λ plan. plan.version ≡ calls.entry.version) }
     ensures space { IfOk result (λ plan. length plan.changes.items + length plan.cwds.items ≤ vec_capacity plan.changes) }
-    ensures short { IfOk result (λ plan. IsShort (process_at system.now.processes set.caller.pid).cwd) }
+    ensures short { IfOk result (λ plan. All IsShort plan.cwds.items) }
 {
-    let cwds = copies_for(alloc, threads, system, set.caller)?;
+    let cwds = copies_for(alloc, threads, system, calls.which)?;
     let mut changes = Vec::with_capacity(alloc, 1 + cwds.len())?;
-    changes.push_reserved(Change::SetIds(set.ids));
-    Ok(RenewalPlan { changes, cwds })
+    if let Some(first) = first {
+        changes.push_reserved(first);
+    }
+    Ok(RenewalPlan {
+        changes,
+        cwds,
+        version: calls.version,
+    })
 }
 
-// ---- what takes no memory, after the ids are set
+// ---- what takes no memory, after the ids are set or the policy is replaced
 
-// Gives the call that a thread holds the next drawing, if it is renewed, with these ids and one of the plan's copies of a directory. Adds
+// Gives a call the next drawing, if it is renewed, with the ids of its process, the plan's last copy of a directory and its version. Adds
 // the change to those of the plan, with the numbers that the old drawing has and that the new one gets.
 fn renew_call(
     thread: &mut Thread<'_>,
     workers: &mut Workers,
-    drawing: Option<Drawing>,
-    ids: Ids,
+    system: &System,
+    call: Option<RenewedCall>,
     plan: &mut RenewalPlan,
 )
-    requires live { IfSome drawing (λ q. is_live_drawing workers.old.calls q ≡ true) }
-    requires room { IfSome drawing (λ q. workers.old.calls.next < 2 ^ 64 - 1) }
+    requires there { IfSome call (λ its. IsPid system.now.processes its.pid) }
+    requires live { IfSome call (λ its. is_live_drawing workers.old.calls its.drawing ≡ true) }
+    requires room { IfSome call (λ its. workers.old.calls.next < 2 ^ 64 - 1) }
     requires few { AreFew workers.old.calls }
-    requires cwds { IfSome drawing (λ q. plan.old.cwds.items ≢ []) }
+    requires cwds { (left : List Components) × TakesCwd system.now.processes call plan.old.cwds.items left }
     requires short { All IsShort plan.old.cwds.items }
     requires space { length plan.old.changes.items + length plan.old.cwds.items ≤ vec_capacity plan.old.changes }
-    ensures thread { thread.new ≡ row_renewed workers.old.calls.next drawing thread.old }
-    ensures kept { (process : Process) → process.ids ≡ ids → plan.old.cwds.items ≡ replicate (length plan.old.cwds.items) process.cwd → RenewsIf process drawing workers.old workers.new }
+    ensures thread { thread.new ≡ row_renewed workers.old.calls.next call thread.old }
+    ensures kept { RenewsIf system.now.processes plan.old.version call workers.old workers.new }
     ensures few { AreFew workers.new.calls }
-    ensures numbers { (ready : ℕ → Bool) → AreReady ready workers.old → CarriesNumbers (numbers_after_renewals ready (renewals_from workers.old.calls.next (with_drawing drawing []))) workers.old.calls workers.new.calls }
+    ensures numbers { (ready : ℕ → Bool) → AreReady ready workers.old → CarriesNumbers (numbers_after_renewals ready (renewals_from workers.old.calls.next (with_call call []))) workers.old.calls workers.new.calls }
     ensures ready { (q : ℕ) → IsReadyWith workers.new q ↔ IsReadyWith workers.old q }
-    ensures count { length plan.old.cwds.items ≡ length (with_drawing drawing []) + length plan.new.cwds.items }
-    ensures same { (cwd : Components) → plan.old.cwds.items ≡ replicate (length plan.old.cwds.items) cwd → plan.new.cwds.items ≡ replicate (length plan.new.cwds.items) cwd }
-    ensures changes { (given : List Change) × (plan.new.changes.items ≡ plan.old.changes.items ++ given) × AreNumberedFrom workers.old (renewals_from workers.old.calls.next (with_drawing drawing [])) given }
+    ensures cwds { TakesCwd system.now.processes call plan.old.cwds.items plan.new.cwds.items }
+    ensures short { All IsShort plan.new.cwds.items }
+    ensures version { plan.new.version ≡ plan.old.version }
+    ensures changes { (given : List Change) × (plan.new.changes.items ≡ plan.old.changes.items ++ given) × AreNumberedFrom workers.old (renewals_from workers.old.calls.next (with_call call [])) given }
     ensures space { length plan.new.changes.items + length plan.new.cwds.items ≤ vec_capacity plan.new.changes }
 {
-    if let Some(drawing) = drawing {
+    if let Some(call) = call {
         let Some(cwd) = plan.cwds.pop() else {
             unreachable!()
         };
-        let old = workers.seq(drawing);
+        let renewal = Renewal {
+            ids: system.ids(call.pid),
+            cwd,
+            version: plan.version,
+        };
+        let old = workers.seq(call.drawing);
         let new = workers.next_seq();
-        thread.renew(workers.renew(drawing, ids, cwd));
+        thread.renew(workers.renew(call.drawing, renewal));
         plan.changes.push_reserved(Change::Renewed { old, new });
     }
 }
 
-/// Gives the held calls of the caller's process except its own new drawings, in the order of threads. Each takes one of the plan's copies of
-/// the process's directory. Returns the changes, with the numbers that the calls had and have got.
+/// Gives these held calls new drawings, in the order of threads, with the ids of their processes, the plan's copies of their directories and
+/// its version. Returns the changes, with the numbers that the calls had and have got.
 pub fn renew_all(
     threads: &mut [Thread<'_>],
     workers: &mut Workers,
     system: &System,
-    caller: CallingThread,
+    which: WhichCalls<'_>,
     mut plan: RenewalPlan,
 ) -> Vec<Change>
-    requires there { IsPid system.now.processes caller.pid }
     requires few { length threads.old < 2 ^ 31 }
-    requires calls { CanRenew workers.old (drawings_from system.now.processes caller.pid caller.tid 1 threads.old) }
+    requires calls { CanRenew workers.old (calls_from (pids_of system.now.processes which) 1 threads.old) }
     requires room { workers.old.calls.next + length threads.old < 2 ^ 64 }
     requires in_use { AreFew workers.old.calls }
-    requires cwds { plan.cwds.items ≡ replicate (length (drawings_from system.now.processes caller.pid caller.tid 1 threads.old)) (process_at system.now.processes caller.pid).cwd }
-    requires short { IsShort (process_at system.now.processes caller.pid).cwd }
+    requires cwds { plan.cwds.items ≡ cwds_of system.now.processes (calls_from (pids_of system.now.processes which) 1 threads.old) }
+    requires short { All IsShort plan.cwds.items }
     requires space { length plan.changes.items + length plan.cwds.items ≤ vec_capacity plan.changes }
-    ensures renewed { HaveRenewed system.now.processes caller.pid caller.tid threads.old workers.old threads.new workers.new }
-    ensures changes { (given : List Change) × (result.items ≡ plan.changes.items ++ given) × AreNumberedFrom workers.old (renewals_from workers.old.calls.next (drawings_from system.now.processes caller.pid caller.tid 1 threads.old)) given }
+    ensures renewed { HaveRenewed system.now.processes (pids_of system.now.processes which.entry) plan.version threads.old workers.old threads.new workers.new }
+    ensures changes { (given : List Change) × (result.items ≡ plan.changes.items ++ given) × AreNumberedFrom workers.old (renewals_from workers.old.calls.next (calls_from (pids_of system.now.processes which.entry) 1 threads.old)) given }
 {
-    let ids = system.ids(caller.pid);
     for i in 0..threads.len() {
-        let drawing = drawing_renewed(&threads[i], system, caller, i as Tid + 1);
-        renew_call(&mut threads[i], workers, drawing, ids, &mut plan);
+        let call = call_renewed(&threads[i], system, which, i as Tid + 1);
+        renew_call(&mut threads[i], workers, system, call, &mut plan);
     }
     plan.changes
 }

@@ -6,7 +6,7 @@ ghost use Rattle.st_threads.specs.Ways.{drawn_way};
 
 use crate::way::CallWay;
 use st_base::{Drawing, Tid};
-use st_calls::SysCall;
+use st_calls::{FastAnswer, SysCall};
 use st_trace::Instr;
 use std::marker::Model;
 
@@ -38,6 +38,7 @@ impl Model for PendingCall {
 pub struct Thread<'a> {
     left: &'a [Instr],
     pending: Option<PendingCall>,
+    answer: FastAnswer,
     drawing: Drawing,
     dying: bool,
     ended: bool,
@@ -48,7 +49,7 @@ impl<'a> Model for Thread<'a> {
 
     ghost Value = { ThreadRow };
 
-    ghost view = { λ t. record { left = t.left.now; pending = t.pending; number = t.drawing; dying = t.dying; ended = t.ended } };
+    ghost view = { λ t. record { left = t.left.now; pending = t.pending; answer = t.answer; number = t.drawing; dying = t.dying; ended = t.ended } };
 }
 
 // The instructions after the first one.
@@ -79,6 +80,7 @@ impl<'a> Thread<'a> {
         Thread {
             left: body,
             pending: None,
+            answer: FastAnswer::Permit,
             drawing: 0,
             dying: false,
             ended: false,
@@ -97,6 +99,13 @@ impl<'a> Thread<'a> {
         ensures { result ≡ self.now.pending }
     {
         self.pending
+    }
+
+    /// The kernel's own answer to its barred call, as it was when the call was entered.
+    pub fn answer(&self) -> FastAnswer
+        ensures { result ≡ self.now.answer }
+    {
+        self.answer
     }
 
     /// The drawing of its held call.
@@ -150,9 +159,10 @@ impl<'a> Thread<'a> {
         self.left = rest_of(self.left);
     }
 
-    /// Enters the call of its next instruction, and goes on after it. A held call has the drawing of its message.
-    pub fn enter(&mut self, call: SysCall, regs: [u64; 6], way: CallWay)
-        ensures { self.new ≡ row_entered self.old call regs (drawn_way way) }
+    /// Enters the call of its next instruction, and goes on after it. A held call has the drawing of its message, and a barred one keeps
+    /// this answer of the kernel.
+    pub fn enter(&mut self, call: SysCall, regs: [u64; 6], way: CallWay, answer: FastAnswer)
+        ensures { self.new ≡ row_entered self.old call regs (drawn_way way) answer }
     {
         if let CallWay::Held(drawing) = way {
             self.drawing = drawing;
@@ -163,6 +173,7 @@ impl<'a> Thread<'a> {
             way,
             child: child_of(self.left),
         });
+        self.answer = answer;
         self.left = rest_of(self.left);
     }
 

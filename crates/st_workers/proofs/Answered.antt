@@ -5,7 +5,7 @@ use Rattle.std.proofs.lemmas.Option.{none-some, same_Some}
 use Rattle.std.specs.Prelude.{is_some}
 use Rattle.st_calls.specs.declared.judged.Snapshot.{Snapshot}
 use Rattle.st_calls.specs.declared.judged.Verdict.{Verdict}
-use Rattle.st_filter.specs.Judging as judging
+use Rattle.st_filter.specs.Judged.{verdict_under}
 use Rattle.st_lookaside.specs.Slot.{Slot}
 use Rattle.st_lookaside.specs.Slots.{slot_at}
 use Rattle.st_messages.specs.declared.kept.KeptNumber.{KeptNumber}
@@ -19,7 +19,6 @@ use Rattle.st_messages.proofs.Seqs.{seqs_let_go, seqs_moved}
 use Rattle.st_messages.proofs.Whole.{states_moved, threads_moved, whole-let_go, whole-moved}
 use Rattle.st_trace.specs.declared.entry.Entry.TheVariants as entry
 use Rattle.st_law.specs.declared.input.Input.{Input}
-use Rattle.st_filter.specs.Policies.{read_filters}
 use Rattle.st_law.specs.Numbers.{without_replaced}
 use Rattle.st_law.specs.State.{progress_of_message, snapshot_of_message, Message, State}
 use Rattle.st_workers.specs.Numbers.{AreNumbered, CarriesNumbers, HasNumbers, IsReadyWith}
@@ -258,11 +257,11 @@ module _ (old new : UnderWay) (w : ℕ) (s its : Snapshot) (drawn : drawn_copies
     same_answer : (a b : Verdict) → Answered a ≡ Answered b → a ≡ b
     same_answer a b e = cc
 
-    verdict_by : (i : Input) → v ≡ judging.verdict (read_filters i.policies s.policy s.rule) s → (b : Bool) → alive s.seq ≡ b → (x : Verdict) (t : Snapshot) → message_state new.calls s.seq ≡ Some (Answered x)
-        → snapshot_of_message s.seq (all_worked (entry.Answered w s v b) messages s.seq) ≡ Some t → x ≡ judging.verdict (read_filters i.policies t.policy t.rule) t
+    verdict_by : (i : Input) → v ≡ verdict_under i.policies s → (b : Bool) → alive s.seq ≡ b → (x : Verdict) (t : Snapshot) → message_state new.calls s.seq ≡ Some (Answered x)
+        → snapshot_of_message s.seq (all_worked (entry.Answered w s v b) messages s.seq) ≡ Some t → x ≡ verdict_under i.policies t
     verdict_by i is_verdict true e x t answered copies =
         let same : s ≡ t = sym drawn ∙ same_Some (drawn_copies s.seq its) t (sym at.1 ∙ copies) in
-        sym (same_answer v x (same_Some (Answered v) (Answered x) (sym (state e) ∙ answered))) ∙ is_verdict ∙ ap (λ (u : Snapshot). judging.verdict (read_filters i.policies u.policy u.rule) u) same
+        sym (same_answer v x (same_Some (Answered v) (Answered x) (sym (state e) ∙ answered))) ∙ is_verdict ∙ ap (verdict_under i.policies) same
     verdict_by i is_verdict false e x t answered copies =
         absurd (none-some (Answered x) (sym (ap (λ (c : HeldCalls). message_state c s.seq) (stale_calls e) ∙ (none_there e).state) ∙ answered))
 
@@ -290,7 +289,7 @@ module _ (old new : UnderWay) (w : ℕ) (s its : Snapshot) (drawn : drawn_copies
   answered_workers whole = workers_by whole.messages whole.turns whole.alive whole.posted whole.agrees (whole.alive s.seq) refl
 
   -- the messages and workers represent the state after the entry
-  pub answered_kept : (i : Input) (st : State) (alive : ℕ → Bool) → RepresentsMessages i st alive old → v ≡ judging.verdict (read_filters i.policies s.policy s.rule) s → RepresentsMessagesAfter i st (entry.Answered w s v (alive s.seq)) alive new
+  pub answered_kept : (i : Input) (st : State) (alive : ℕ → Bool) → RepresentsMessages i st alive old → v ≡ verdict_under i.policies s → RepresentsMessagesAfter i st (entry.Answered w s v (alive s.seq)) alive new
   answered_kept i st alive kept is_verdict = record {
     workers = workers_by st.messages st.turns alive st.posted kept.agrees (alive s.seq) refl ∙ kept.workers;
     numbered = numbered_by_life st.messages st.turns alive st.posted kept.agrees (alive s.seq) refl kept.numbered;

@@ -174,10 +174,10 @@ module _ (old new : UnderWay) (tid : ℕ) (head : kept.Head) (calls : new.calls 
   }
 
   -- the messages and workers represent the state after the entry
-  pub posted_kept : (i : Input) (st : State) (alive later : ℕ → Bool) (call : SysCall) (regs : List ℕ) → RepresentsMessages i st alive old → head_of tid head ≡ new_head i tid (st.threads tid).owner (st.processes (st.threads tid).owner) call regs
+  pub posted_kept : (i : Input) (st : State) (alive later : ℕ → Bool) (call : SysCall) (regs : List ℕ) → RepresentsMessages i st alive old → head_of tid head ≡ new_head i tid (st.threads tid).owner (st.processes (st.threads tid).owner) (st.versions (st.processes (st.threads tid).owner).policy) call regs
       → ChangesLife alive (suc st.posted) true later → RepresentsMessagesAfter i st (entry.Entered tid call regs (Held (suc st.posted))) later new
   posted_kept i st alive later call regs kept head_is lives =
-      let its : Head = new_head i tid (st.threads tid).owner (st.processes (st.threads tid).owner) call regs in
+      let its : Head = new_head i tid (st.threads tid).owner (st.processes (st.threads tid).owner) (st.versions (st.processes (st.threads tid).owner).policy) call regs in
       record {
         workers = workers_now ∙ kept.workers;
         numbered = posted_stays kept.numbered;

@@ -4,22 +4,20 @@ use Rattle.std.specs.Prelude.{if◌then◌else◌}
 use Rattle.std.specs.Option.{option_map}
 use Rattle.std.proofs.lemmas.Bool.{cases_eq, eq-eqb, ne_eqb}
 use Rattle.std.proofs.lemmas.Option.{none-some, same_Some}
-use Rattle.st_base.specs.declared.ids.Ids.{Ids}
 use Rattle.st_calls.specs.declared.judged.Verdict.{Verdict}
 use Rattle.st_lookaside.specs.Slot.{renewed, Slot}
 use Rattle.st_lookaside.specs.Slots.{slot_at, ChangesSlot, RenewsSlot}
 use Rattle.st_lookaside.specs.declared.head.Head as kept
+use Rattle.st_lookaside.specs.declared.head.Renewal.{Renewal}
 use Rattle.st_messages.specs.declared.message.Message as message
 use Rattle.st_messages.specs.declared.message.MsgState.TheVariants.{Waiting, Answered}
 use Rattle.st_messages.specs.Messages.{calls_after_cancel, calls_after_post_as, calls_after_renew, calls_after_renew_of, count_in_use, is_live_drawing, message_of_drawing, message_state, most_in_use, next_seq, seq_left, seq_of, thread_of_drawing, AreValidCalls, HeldCalls, RenewsState}
 use Rattle.st_messages.proofs.Whole.{seqs_renewed, states_cancelled, threads_cancelled, whole-renewed}
-use Rattle.st_model.specs.Process.{Process}
-use Rattle.st_names.specs.Name.{Components}
 use Rattle.st_law.specs.declared.input.Input.{Input}
-use Rattle.st_law.specs.Messages.{renewed_head, Head}
+use Rattle.st_law.specs.Messages.{Head}
 use Rattle.st_law.specs.Numbers.{drawn_as, largest_number, without_replaced}
 use Rattle.st_law.specs.State.{snapshot_of_message, Message}
-use Rattle.st_workers.specs.Refinement.{head_of, messages_renewed, AgreesWithMachine, RepresentsMachineMessages, IsLive, AreValidWorkers, RenewsLife}
+use Rattle.st_workers.specs.Refinement.{head_of, head_renewed, messages_renewed, AgreesWithMachine, RepresentsMachineMessages, IsLive, AreValidWorkers, RenewsLife}
 use Rattle.st_workers.specs.Leaving.{is_claimer_ready, HasLeft}
 use Rattle.st_workers.specs.Numbers.{AreFew, AreNumbered, AreReady, CarriesNumbers, HasNumbers, HaveSeqs, IsReadyWith}
 use Rattle.st_workers.specs.UnderWay.{found_in, Found, UnderWay}
@@ -44,12 +42,13 @@ found_without old p new = record {
 renewed_calls : (calls : HeldCalls) (p : ℕ) (keeps : Bool) (m : message.Message) → message_of_drawing calls p ≡ Some m → calls_after_renew calls p keeps ≡ calls_after_post_as (calls_after_cancel calls p keeps) m.tid (next_seq calls)
 renewed_calls calls p keeps m is = ap (calls_after_renew_of calls p keeps) is
 
--- a head under another drawing and its number, with these ids and this directory
-abbrev pub fresh_head : kept.Head → ℕ → ℕ → Ids → Components → kept.Head
-fresh_head head drawing seq ids cwd = record head { drawing = drawing; seq = seq; ids = ids; cwd = cwd }
+-- a head under another drawing and its number, after this renewal
+abbrev pub fresh_head : kept.Head → ℕ → ℕ → Renewal → kept.Head
+fresh_head head drawing seq renewal =
+    record head { drawing = drawing; seq = seq; ids = renewal.ids; cwd = renewal.cwd; version = renewal.version }
 
-module _ (old new : UnderWay) (p : ℕ) (keeps : Bool) (seq : ℕ) (ids : Ids) (cwd : Components) (here : is_live_drawing old.calls p ≡ true) (calls : new.calls ≡ calls_after_renew old.calls p keeps) (thread : thread_of_drawing new.calls old.calls.next ≡ thread_of_drawing old.calls p)
-    (states : RenewsState old.calls p old.calls.next new.calls) (slots : IfSome (slot_at old.slots p) (λ slot. RenewsSlot old.slots p old.calls.next (renewed slot old.calls.next seq ids cwd) new.slots))
+module _ (old new : UnderWay) (p : ℕ) (keeps : Bool) (seq : ℕ) (renewal : Renewal) (here : is_live_drawing old.calls p ≡ true) (calls : new.calls ≡ calls_after_renew old.calls p keeps) (thread : thread_of_drawing new.calls old.calls.next ≡ thread_of_drawing old.calls p)
+    (states : RenewsState old.calls p old.calls.next new.calls) (slots : IfSome (slot_at old.slots p) (λ slot. RenewsSlot old.slots p old.calls.next (renewed slot old.calls.next seq renewal) new.slots))
     (turns_left : HasLeft old.turns (message_state old.calls p) new.turns) (count : length new.turns ≡ length old.turns) (keeps_is : keeps ≡ is_claimer_ready old.turns (message_state old.calls p)) (few : count_in_use old.calls ≤ most_in_use) (number : seq ≡ next_seq old.calls) where
   message_there : (m : message.Message) × (message_of_drawing old.calls p ≡ Some m)
   message_there = live_message old.calls p here
@@ -100,10 +99,10 @@ module _ (old new : UnderWay) (p : ℕ) (keeps : Bool) (seq : ℕ) (ids : Ids) (
     slot_there = (let was : IsLive turns p (messages p) (found_in old) = agrees.live p (live_there messages turns alive posted old agrees p here) in (was.slot, was.slot_is))
 
     -- from the slots without that of the old drawing to those with that of the new one
-    again_slots : ChangesSlot between.slots old.calls.next (Some (renewed slot_there.0 old.calls.next seq ids cwd)) new.slots
+    again_slots : ChangesSlot between.slots old.calls.next (Some (renewed slot_there.0 old.calls.next seq renewal)) new.slots
     again_slots other =
-        known (slot_at old.slots p) (λ s. RenewsSlot old.slots p old.calls.next (renewed s old.calls.next seq ids cwd) new.slots) slot_there.0 slot_there.1 slots other
-        ∙ ap (λ (o : Option Slot). cond (other == old.calls.next) (Some (renewed slot_there.0 old.calls.next seq ids cwd)) o) (sym (without_slot_changes old.slots p other))
+        known (slot_at old.slots p) (λ s. RenewsSlot old.slots p old.calls.next (renewed s old.calls.next seq renewal) new.slots) slot_there.0 slot_there.1 slots other
+        ∙ ap (λ (o : Option Slot). cond (other == old.calls.next) (Some (renewed slot_there.0 old.calls.next seq renewal)) o) (sym (without_slot_changes old.slots p other))
 
     -- each number that is kept is kept by a ready worker
     again_numbered : AreNumbered old → AreNumbered new
@@ -112,7 +111,7 @@ module _ (old new : UnderWay) (p : ℕ) (keeps : Bool) (seq : ℕ) (ids : Ids) (
         cancelled_seqs old between p keeps message_there.0 numbered.calls message_there.1 refl (without_slot_changes old.slots p) (left_turn old new (message_state old.calls p) turns_left) keeps_iff.1 numbered.seqs in
         let between_numbered : AreNumbered between = cancelled_numbered old between p keeps message_there.0 message_there.1 refl between_states count renewed_ready keeps_iff left_first numbered in
         posted_numbered between new message_there.0.tid (next_seq old.calls) calls_are refl (subst AreValidCalls (sym calls) (whole-renewed old.calls p keeps numbered.calls few message_there.0 message_there.1))
-        (posted_seqs between new message_there.0.tid (next_seq old.calls) (renewed slot_there.0 old.calls.next seq ids cwd).head calls_are again_slots refl number between_numbered.calls left_first) between_numbered
+        (posted_seqs between new message_there.0.tid (next_seq old.calls) (renewed slot_there.0 old.calls.next seq renewal).head calls_are again_slots refl number between_numbered.calls left_first) between_numbered
 
     again_numbers : AreNumbered old → (ready : ℕ → Bool) → AreReady ready old → CarriesNumbers (λ numbers. without_replaced ready p (drawn_as largest_number old.calls.next numbers)) old.calls new.calls
     again_numbers numbered ready are numbers has =
@@ -142,12 +141,12 @@ module _ (old new : UnderWay) (p : ℕ) (keeps : Bool) (seq : ℕ) (ids : Ids) (
     pub was : IsLive turns p (messages p) (found_in old)
     was = agrees.live p live
 
-    slots_are : RenewsSlot old.slots p old.calls.next (renewed was.slot old.calls.next seq ids cwd) new.slots
-    slots_are = known (slot_at old.slots p) (λ s. RenewsSlot old.slots p old.calls.next (renewed s old.calls.next seq ids cwd) new.slots) was.slot was.slot_is slots
+    slots_are : RenewsSlot old.slots p old.calls.next (renewed was.slot old.calls.next seq renewal) new.slots
+    slots_are = known (slot_at old.slots p) (λ s. RenewsSlot old.slots p old.calls.next (renewed s old.calls.next seq renewal) new.slots) was.slot was.slot_is slots
 
-    is_posted : IsPosted (found_without (found_in old) p (found_in new)) (found_in new) old.calls.next was.tid (fresh_head was.slot.head old.calls.next seq ids cwd)
+    is_posted : IsPosted (found_without (found_in old) p (found_in new)) (found_in new) old.calls.next was.tid (fresh_head was.slot.head old.calls.next seq renewal)
     is_posted =
-        let fresh : Slot = renewed was.slot old.calls.next seq ids cwd in
+        let fresh : Slot = renewed was.slot old.calls.next seq renewal in
         record {
           next = ap (λ (c : HeldCalls). c.next) calls_are;
           state = state_now;
@@ -159,17 +158,16 @@ module _ (old new : UnderWay) (p : ℕ) (keeps : Bool) (seq : ℕ) (ids : Ids) (
           turn = λ w. refl;
         }
 
-    pub renewed_agrees : (later : ℕ → Bool) → RenewsLife alive p old.calls.next later → AgreesWithMachine (with_head (head_of was.tid (fresh_head was.slot.head old.calls.next seq ids cwd)) old.calls.next messages) turns later (suc posted) (found_in new)
+    pub renewed_agrees : (later : ℕ → Bool) → RenewsLife alive p old.calls.next later → AgreesWithMachine (with_head (head_of was.tid (fresh_head was.slot.head old.calls.next seq renewal)) old.calls.next messages) turns later (suc posted) (found_in new)
     renewed_agrees later lives =
-        posted_agrees (found_without (found_in old) p (found_in new)) (found_in new) old.calls.next was.tid (fresh_head was.slot.head old.calls.next seq ids cwd) is_posted messages turns (without_live p alive) later posted
+        posted_agrees (found_without (found_in old) p (found_in new)) (found_in new) old.calls.next was.tid (fresh_head was.slot.head old.calls.next seq renewal) is_posted messages turns (without_live p alive) later posted
         (ended_agrees (found_in old) (found_without (found_in old) p (found_in new)) p ended messages turns alive (without_live p alive) posted agrees live (λ other. refl)) refl lives
 
-    -- the message of the new number is the old one's, with the ids and the directory of its process
-    pub messages_are : (process : Process) → process.ids ≡ ids → process.cwd ≡ cwd → with_head (head_of was.tid (fresh_head was.slot.head old.calls.next seq ids cwd)) old.calls.next messages ≡ messages_renewed process p old.calls.next messages
-    messages_are process ids_is cwd_is =
-        let its : Head = head_of was.tid was.slot.head in
-        let renews : option_map (renewed_head process) (messages p).head ≡ Some (head_of was.tid (fresh_head was.slot.head old.calls.next seq ids cwd)) =
-        ap (option_map (renewed_head process)) was.is_slot.head ∙ (λ k. Some (record its { ids = ids_is k; cwd = cwd_is k })) in
+    -- the message of the new number is the old one's, after the renewal
+    pub messages_are : with_head (head_of was.tid (fresh_head was.slot.head old.calls.next seq renewal)) old.calls.next messages ≡ messages_renewed renewal p old.calls.next messages
+    messages_are =
+        let renews : option_map (head_renewed renewal) (messages p).head ≡ Some (head_of was.tid (fresh_head was.slot.head old.calls.next seq renewal)) =
+        ap (option_map (head_renewed renewal)) was.is_slot.head in
         let back = sym renews in
         λ k q. record (messages q) { head = cond (old.calls.next == q) (back k) (messages q).head }
 
@@ -182,7 +180,7 @@ module _ (old new : UnderWay) (p : ℕ) (keeps : Bool) (seq : ℕ) (ids : Ids) (
       let its : IsLive whole.turns p (whole.messages p) (found_in old) = was whole.messages whole.turns whole.alive whole.posted whole.agrees in
       record {
         count = count ∙ whole.count ∙ sym workers_now;
-        messages = with_head (head_of its.tid (fresh_head its.slot.head old.calls.next seq ids cwd)) old.calls.next whole.messages;
+        messages = with_head (head_of its.tid (fresh_head its.slot.head old.calls.next seq renewal)) old.calls.next whole.messages;
         turns = whole.turns;
         alive = with_live old.calls.next (without_live p whole.alive);
         posted = suc whole.posted;
@@ -196,14 +194,14 @@ module _ (old new : UnderWay) (p : ℕ) (keeps : Bool) (seq : ℕ) (ids : Ids) (
     by false e = e
 
   -- the messages and workers represent the state after the renewal
-  pub renewed_kept : (i : Input) (messages : ℕ → Message) (turns : ℕ → Option ℕ) (alive later : ℕ → Bool) (posted : ℕ) (process : Process) → RepresentsMachineMessages i messages turns alive posted old → process.ids ≡ ids → process.cwd ≡ cwd
-      → RenewsLife alive p (suc posted) later → RepresentsMachineMessages i (messages_renewed process p (suc posted) messages) turns later (suc posted) new
-  renewed_kept i messages turns alive later posted process kept ids_is cwd_is lives =
+  pub renewed_kept : (i : Input) (messages : ℕ → Message) (turns : ℕ → Option ℕ) (alive later : ℕ → Bool) (posted : ℕ) → RepresentsMachineMessages i messages turns alive posted old
+      → RenewsLife alive p (suc posted) later → RepresentsMachineMessages i (messages_renewed renewal p (suc posted) messages) turns later (suc posted) new
+  renewed_kept i messages turns alive later posted kept lives =
       let its : IsLive turns p (messages p) (found_in old) = was messages turns alive posted kept.agrees in
-      let head : Head = head_of its.tid (fresh_head its.slot.head old.calls.next seq ids cwd) in
+      let head : Head = head_of its.tid (fresh_head its.slot.head old.calls.next seq renewal) in
       let lives_next : RenewsLife alive p old.calls.next later = subst (λ (n : ℕ). RenewsLife alive p n later) (sym kept.agrees.next) lives in
-      subst (λ (n : ℕ). RepresentsMachineMessages i (messages_renewed process p n messages) turns later (suc posted) new) kept.agrees.next
-      (subst (λ (all : ℕ → Message). RepresentsMachineMessages i all turns later (suc posted) new) (messages_are messages turns alive posted kept.agrees process ids_is cwd_is) (record {
+      subst (λ (n : ℕ). RepresentsMachineMessages i (messages_renewed renewal p n messages) turns later (suc posted) new) kept.agrees.next
+      (subst (λ (all : ℕ → Message). RepresentsMachineMessages i all turns later (suc posted) new) (messages_are messages turns alive posted kept.agrees) (record {
         workers = workers_now ∙ kept.workers;
         numbered = again_numbered messages turns alive posted kept.agrees kept.numbered;
         agrees = renewed_agrees messages turns alive posted kept.agrees later lives_next;

@@ -8,7 +8,7 @@ use Rattle.st_base.specs.declared.errno.Errno.{Errno}
 use Rattle.st_calls.specs.declared.judged.Snapshot.{Snapshot}
 use Rattle.st_calls.specs.declared.judged.Verdict.{Verdict}
 use Rattle.st_effects.specs.Progress.{Ready as Whole}
-use Rattle.st_filter.specs.Judging.{verdict}
+use Rattle.st_filter.specs.Judged.{verdict_under}
 use Rattle.st_lookaside.specs.Slot.{Slot, slot_progress, snapshot_with}
 use Rattle.st_lookaside.specs.Slots.{slot_at}
 use Rattle.st_messages.specs.declared.message.MsgState.{MsgState}
@@ -17,7 +17,6 @@ use Rattle.st_messages.specs.Messages.{HeldCalls, message_state, thread_of_drawi
 use Rattle.st_trace.specs.declared.entry.Entry.{Entry}
 use Rattle.st_law.specs.declared.input.Input.{Input}
 use Rattle.st_law.specs.Messages.{claimed_after, words_after, lookups_after, fault_after, answered_after, turn_after}
-use Rattle.st_filter.specs.Policies.{read_filters}
 use Rattle.st_law.specs.State.{Message, is_ready, progress_of_message, snapshot_of_message}
 use Rattle.st_workers.specs.Filling.{IsTurnFor}
 use Rattle.st_workers.specs.Refinement.{drawn_copies, AgreesWithMachine, HasMessageFlags, IsDead, IsLive, IsSlotOf, IsState, IsTurn}
@@ -113,9 +112,9 @@ module _ (messages after : ℕ → Message) (turns turned : ℕ → Option ℕ) 
 
 -- the verdicts of all other numbers are unchanged
 pub verdicts_kept : (i : Input) (messages after : ℕ → Message) (old new : HeldCalls) (p : ℕ) → ((q : ℕ) → q ≢ p → after q ≡ messages q) → ((q : ℕ) → q ≢ p → message_state new q ≡ message_state old q)
-    → ((v : Verdict) (s : Snapshot) → message_state new p ≡ Some (Answered v) → snapshot_of_message p (after p) ≡ Some s → v ≡ verdict (read_filters i.policies s.policy s.rule) s)
-    → ((q : ℕ) (v : Verdict) (s : Snapshot) → message_state old q ≡ Some (Answered v) → snapshot_of_message q (messages q) ≡ Some s → v ≡ verdict (read_filters i.policies s.policy s.rule) s)
-    → (q : ℕ) (v : Verdict) (s : Snapshot) → message_state new q ≡ Some (Answered v) → snapshot_of_message q (after q) ≡ Some s → v ≡ verdict (read_filters i.policies s.policy s.rule) s
+    → ((v : Verdict) (s : Snapshot) → message_state new p ≡ Some (Answered v) → snapshot_of_message p (after p) ≡ Some s → v ≡ verdict_under i.policies s)
+    → ((q : ℕ) (v : Verdict) (s : Snapshot) → message_state old q ≡ Some (Answered v) → snapshot_of_message q (messages q) ≡ Some s → v ≡ verdict_under i.policies s)
+    → (q : ℕ) (v : Verdict) (s : Snapshot) → message_state new q ≡ Some (Answered v) → snapshot_of_message q (after q) ≡ Some s → v ≡ verdict_under i.policies s
 verdicts_kept i messages after old new p others states here all q v s is copies = elim (cases_eq q p) [
   | inl e ↦ here v s (ap (message_state new) (sym e) ∙ is) (ap (λ (n : ℕ). snapshot_of_message n (after n)) (sym e) ∙ copies)
   | inr ne ↦ all q v s (sym (states q ne) ∙ is) (ap (snapshot_of_message q) (sym (others q ne)) ∙ copies)

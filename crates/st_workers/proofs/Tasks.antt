@@ -8,7 +8,8 @@ use Rattle.st_names.specs.Name.{Components}
 use Rattle.st_calls.specs.declared.judged.Snapshot.{Snapshot}
 use Rattle.st_calls.specs.declared.judged.Verdict.{Verdict}
 use Rattle.st_effects.specs.Progress.{Progress, Word, Look, Stuck, Ready as Whole}
-use Rattle.st_filter.specs.Judging.{verdict}
+use Rattle.st_filter.specs.Judged.{verdict_under}
+use Rattle.st_filter.specs.Policies.{filters_in_force}
 use Rattle.st_lookaside.specs.Slot.{Slot, slot_progress, IsLookNext}
 use Rattle.st_lookaside.specs.Slots.{slot_at}
 use Rattle.st_messages.specs.declared.message.MsgState.{MsgState}
@@ -18,7 +19,7 @@ use Rattle.st_trace.specs.declared.entry.Entry.TheVariants as entry
 use Rattle.st_law.specs.declared.input.Input.{Input}
 use Rattle.st_law.specs.Machine.{answer_entry, claimed_entry, least_waiting, turn_entry, worker_entry, working_entry}
 use Rattle.st_law.specs.Messages.{Head}
-use Rattle.st_law.specs.State.{Message, State, is_live, is_ready, is_waiting, is_worker, progress_in, read_at, seq_at_work, snapshot_of_progress, worker_at}
+use Rattle.st_law.specs.State.{Message, State, is_live, is_ready, is_waiting, is_worker, progress_in, seq_at_work, snapshot_of_progress, worker_at}
 use Rattle.st_law.proofs.Least.{least}
 use Rattle.st_workers.specs.Refinement.{at_work, drawn_copies, AgreesWithMachine, HasMessageFlags, RepresentsMessages, IsLive, IsState, IsTurn, AreValidWorkers}
 use Rattle.st_workers.specs.Tasks.{idle_task, task_at, task_of, task_of_slot, task_of_turn, IsBusy, IsCopy, IsFault, IsLook, IsOfProcess, IsTask}
@@ -207,13 +208,13 @@ module _ (i : Input) (st : State) (kept : UnderWay) (w : ℕ) (is : RepresentsMe
   answer_by q (Look part name) s p_is ready e = absurd (true≢false (sym ready))
   answer_by q (Stuck errno) s p_is ready e = absurd (true≢false (sym ready))
 
-  pub ready_is : (q : ℕ) (s : Snapshot) → turn_of_worker kept w ≡ Some (Ready q s) → worker_entry i st w ≡ Some (entry.Answered w (drawn_copies q s) (verdict (read_at i st s.policy s.rule) s) (is_live st q))
+  pub ready_is : (q : ℕ) (s : Snapshot) → turn_of_worker kept w ≡ Some (Ready q s) → worker_entry i st w ≡ Some (entry.Answered w (drawn_copies q s) (verdict_under i.policies s) (is_live st q))
   ready_is q s ready =
       let turn : IsTurn st.messages (is_live st) (st.turns w) (Ready q s) = is.agrees.workers w (Ready q s) ready in
       let whole : is_ready (progress_in st q) ≡ true = sealed_ready q (st.messages q).head (progress_in st q) (drawn_copies q s) turn.1 in
       let at : worker_at st w ≡ Some q = ap (seq_at_work st) turn.0 ∙ ap (λ (b : Bool). cond b (Some q) None) (or_right (is_live st q) (is_ready (progress_in st q)) whole) in
       entry_by i st w (Some q) there at ∙ answer_by q (progress_in st q) (drawn_copies q s) refl whole turn.1
-      ∙ ap (λ (v : Verdict). Some (entry.Answered w (drawn_copies q s) v (is_live st q))) (same_verdict q s 1 (read_at i st s.policy s.rule))
+      ∙ ap (λ (v : Verdict). Some (entry.Answered w (drawn_copies q s) v (is_live st q))) (same_verdict q s 1 (filters_in_force i.policies s.policy s.version s.rule))
 
 -- ---- preconditions of the code
 

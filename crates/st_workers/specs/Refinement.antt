@@ -4,20 +4,18 @@ use Rattle.st_base.specs.declared.errno.Errno.{Errno}
 use Rattle.st_calls.specs.Argument.{args_of}
 use Rattle.st_calls.specs.declared.judged.Snapshot.{Snapshot}
 use Rattle.st_calls.specs.declared.judged.Verdict.{Verdict}
-use Rattle.st_filter.specs.Judging.{verdict}
+use Rattle.st_filter.specs.Judged.{verdict_under}
 use Rattle.st_lookaside.specs.Slot.{Slot, part_at}
 use Rattle.st_lookaside.specs.declared.head.Head as kept
+use Rattle.st_lookaside.specs.declared.head.Renewal.{Renewal}
 use Rattle.st_messages.specs.declared.message.MsgState.{MsgState}
 use Rattle.st_messages.specs.declared.message.MsgState.TheVariants.{Waiting, Claimed, Answered, Faulted}
 use Rattle.st_messages.specs.Messages.{message_state}
-use Rattle.st_model.specs.Process.{Process}
-use Rattle.st_trace.specs.declared.entry.Change.TheVariants.{Renewed}
 use Rattle.st_trace.specs.declared.entry.Entry.{Entry}
 use Rattle.st_law.specs.declared.input.Input.{Input}
 use Rattle.st_law.specs.Machine.{message_after}
-use Rattle.st_law.specs.Messages.{Head, head_after_change, posted_after, turn_after}
-use Rattle.st_filter.specs.Policies.{read_filters}
-use Rattle.st_law.specs.State.{Message, State, is_live, is_ready, progress_of_message, read_at, snapshot_in, snapshot_of_message}
+use Rattle.st_law.specs.Messages.{Head, posted_after, turn_after}
+use Rattle.st_law.specs.State.{Message, State, is_live, is_ready, progress_of_message, snapshot_in, snapshot_of_message}
 use Rattle.st_workers.specs.Numbers.{AreNumbered}
 use Rattle.st_workers.specs.UnderWay.{Found, UnderWay, found_in}
 use Rattle.st_workers.specs.declared.turn.Turn.{Turn}
@@ -33,6 +31,7 @@ head_of tid head = record {
   ids = head.ids;
   cwd = head.cwd;
   policy = head.policy;
+  version = head.version;
   rule = head.rule;
   call = head.call;
   regs = head.regs;
@@ -125,13 +124,13 @@ pub record AgreesWithMachine (messages : ℕ → Message) (turns : ℕ → Optio
   pub apart : (a b q : ℕ) → turns a ≡ Some q → turns b ≡ Some q → a ≡ b
   pub workers : (worker : ℕ) (turn : Turn) → found.turn worker ≡ Some turn → IsTurn messages alive (turns worker) turn
 
--- the same for the workers of an input; each answer is the verdict of the filters that were read; ready workers keep the numbers of ended
--- messages
+-- the same for the workers of an input; each answer is the verdict of the policies on its copies, at their version; ready workers keep the
+-- numbers of ended messages
 pub record RepresentsMachineMessages (i : Input) (messages : ℕ → Message) (turns : ℕ → Option ℕ) (alive : ℕ → Bool) (posted : ℕ) (kept : UnderWay) : Type 0 where
   pub workers : kept.calls.workers ≡ i.options.workers
   pub numbered : AreNumbered kept
   pub agrees : AgreesWithMachine messages turns alive posted (found_in kept)
-  pub verdicts : (q : ℕ) (v : Verdict) (s : Snapshot) → message_state kept.calls q ≡ Some (Answered v) → snapshot_of_message q (messages q) ≡ Some s → v ≡ verdict (read_filters i.policies s.policy s.rule) s
+  pub verdicts : (q : ℕ) (v : Verdict) (s : Snapshot) → message_state kept.calls q ≡ Some (Answered v) → snapshot_of_message q (messages q) ≡ Some s → v ≡ verdict_under i.policies s
 
 -- the same for a state of the law's machine
 abbrev pub RepresentsMessages : Input → State → (ℕ → Bool) → UnderWay → Type 0
@@ -150,12 +149,12 @@ abbrev pub SameWorkersState : UnderWay → UnderWay → Type 0
 SameWorkersState old new = (i : Input) (messages : ℕ → Message) (turns : ℕ → Option ℕ) (alive : ℕ → Bool) (posted : ℕ) → RepresentsMachineMessages i messages turns alive posted old → RepresentsMachineMessages i messages turns alive posted new
 
 -- how far a drawing has come in a state of the law's machine: it isn't live; it is neither faulted nor answered; it is answered with the
--- verdict of the filters that were read on its copies; or it is faulted
+-- verdict of the policies on its copies, at their version; or it is faulted
 abbrev pub IsMessageStateOf : Input → State → ℕ → Option MsgState → Type 0
 IsMessageStateOf i st q None = is_live st q ≡ false
 IsMessageStateOf i st q (Some Waiting) = (is_live st q ≡ true) × HasMessageFlags (st.messages q) false None false
 IsMessageStateOf i st q (Some (Claimed worker)) = (is_live st q ≡ true) × HasMessageFlags (st.messages q) true None false
-IsMessageStateOf i st q (Some (Answered v)) = (is_live st q ≡ true) × HasMessageFlags (st.messages q) true None true × (s : Snapshot) × (snapshot_in st q ≡ Some s) × (v ≡ verdict (read_at i st s.policy s.rule) s)
+IsMessageStateOf i st q (Some (Answered v)) = (is_live st q ≡ true) × HasMessageFlags (st.messages q) true None true × (s : Snapshot) × (snapshot_in st q ≡ Some s) × (v ≡ verdict_under i.policies s)
 IsMessageStateOf i st q (Some (Faulted errno)) = (is_live st q ≡ true) × HasMessageFlags (st.messages q) true (Some errno) false
 
 -- a drawing is that of a call that this thread holds, or has held
@@ -170,9 +169,14 @@ ChangesLife alive q is_live later = (other : ℕ) → later other ≡ (if other 
 abbrev pub RenewsLife : (ℕ → Bool) → ℕ → ℕ → (ℕ → Bool) → Type 0
 RenewsLife alive q fresh later = (other : ℕ) → later other ≡ (if other == fresh then true else if other == q then false else alive other)
 
--- the messages after one of them was renewed under a new drawing, if this is its process
-abbrev pub messages_renewed : Process → ℕ → ℕ → (ℕ → Message) → ℕ → Message
-messages_renewed process drawing fresh messages q = record (messages q) { head = head_after_change (λ p. (messages p).head) process q (messages q).head (Renewed drawing fresh) }
+-- the head of a message after this renewal
+abbrev pub head_renewed : Renewal → Head → Head
+head_renewed renewal head = record head { ids = renewal.ids; cwd = renewal.cwd; version = renewal.version }
+
+-- the messages after one of them was renewed under a new drawing
+abbrev pub messages_renewed : Renewal → ℕ → ℕ → (ℕ → Message) → ℕ → Message
+messages_renewed renewal drawing fresh messages q =
+    record (messages q) { head = if fresh == q then option_map (head_renewed renewal) (messages drawing).head else (messages q).head }
 
 -- each worker has a turn, and what is found represents some messages and turns
 pub record AreValidWorkers (kept : UnderWay) : Type 0 where

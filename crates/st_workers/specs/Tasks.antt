@@ -2,7 +2,7 @@
 use Rattle.std.specs.Prelude.{◌≡◌, ◌<◌, ℕ, true, Option, Some, None, option_map}
 use Rattle.st_calls.specs.declared.judged.Snapshot.{Snapshot}
 use Rattle.st_effects.specs.Progress.{Progress, Word, Look, Stuck, Ready}
-use Rattle.st_filter.specs.Judging.{verdict}
+use Rattle.st_filter.specs.Judged.{verdict_under}
 use Rattle.st_lookaside.specs.Slot.{Slot, slot_progress}
 use Rattle.st_lookaside.specs.Slots.{slot_at}
 use Rattle.st_messages.specs.Messages.{HeldCalls, first_waiting, is_live_drawing as is_live_here}
@@ -13,7 +13,7 @@ use Rattle.st_trace.specs.declared.entry.Entry.TheVariants as entry
 use Rattle.st_law.specs.declared.input.Input.{Input}
 use Rattle.st_law.specs.Machine.{worker_entry}
 use Rattle.st_law.specs.Messages.{Head}
-use Rattle.st_law.specs.State.{State, is_live, read_at, word_for}
+use Rattle.st_law.specs.State.{State, is_live, word_for}
 use Rattle.st_workers.specs.Refinement.{drawn_copies}
 use Rattle.st_workers.specs.UnderWay.{UnderWay, turn_of_worker}
 use Rattle.st_workers.specs.declared.task.Task.{Task}
@@ -106,4 +106,4 @@ IsTask i st kept worker (Copy drawing pid part place) = (worker_entry i st worke
 IsTask i st kept worker (LookAt drawing part) = (name : Components) × (worker_entry i st worker ≡ Some (entry.Looked drawing part name (look st.tree name)))
 IsTask i st kept worker (Fault drawing errno) = worker_entry i st worker ≡ Some (entry.Faulted drawing errno)
 IsTask i st kept worker Answer =
-    (q : ℕ) × (s : Snapshot) × (turn_of_worker kept worker ≡ Some (turn.Ready q s)) × (worker_entry i st worker ≡ Some (entry.Answered worker (drawn_copies q s) (verdict (read_at i st s.policy s.rule) s) (is_live st q)))
+    (q : ℕ) × (s : Snapshot) × (turn_of_worker kept worker ≡ Some (turn.Ready q s)) × (worker_entry i st worker ≡ Some (entry.Answered worker (drawn_copies q s) (verdict_under i.policies s) (is_live st q)))

@@ -2,10 +2,10 @@ ghost use Rattle.std.specs.Prelude.{◌≡◌, ◌<◌, ◌≤◌, ◌-◌, ◌^
 ghost use Rattle.st_workers.specs.declared.turn.Turn.TheVariants.{Idle, Ready, Working};
 ghost use Rattle.st_base.specs.declared.errno.Errno.{Errno};
 ghost use Rattle.st_calls.specs.declared.call.SysCall.{SysCall};
-ghost use Rattle.st_filter.specs.Judging.{verdict as judged};
+ghost use Rattle.st_filter.specs.Judged.{verdict_under};
 ghost use Rattle.st_law.specs.Machine.{first_state, worker_entry};
 ghost use Rattle.st_law.specs.Messages.{new_head};
-ghost use Rattle.st_law.specs.State.{State, is_live as is_live_in, read_at, snapshot_in, Message};
+ghost use Rattle.st_law.specs.State.{State, is_live as is_live_in, snapshot_in, Message};
 ghost use Rattle.st_law.specs.declared.input.Input.{Input};
 ghost use Rattle.st_lookaside.specs.Need.{IsShort};
 ghost use Rattle.st_lookaside.specs.Slots.{slot_at};
@@ -13,7 +13,6 @@ ghost use Rattle.st_law.specs.Numbers.{drawn_as, largest_number, no_numbers, wit
 ghost use Rattle.st_messages.specs.Messages.{calls_after_cancel, calls_after_let_go, calls_after_post, calls_after_renew, drawing_of, is_claimed, is_kept, is_live_drawing, message_state, next_seq, seq_of, thread_of_drawing, with_state, HasNoDrawing, HasWorker};
 ghost use Rattle.st_messages.specs.declared.message.Delivered.TheVariants.{Applied, Stale};
 ghost use Rattle.st_messages.specs.declared.message.MsgState.TheVariants.{Answered, Claimed, Faulted};
-ghost use Rattle.st_model.specs.Process.{Process};
 ghost use Rattle.st_model.specs.Tree.{look};
 ghost use Rattle.st_names.specs.Name.{Components};
 ghost use Rattle.st_names.specs.Seen.{seen_text};
@@ -29,9 +28,9 @@ ghost use Rattle.st_workers.specs.declared.task.Task.TheVariants.{Answer, Claim,
 use crate::filling;
 use crate::task::Task;
 use crate::turn::{Turn, put_turn};
-use st_base::{Drawing, Ids, Seq, Shared, Tid, Worker};
+use st_base::{Drawing, Seq, Shared, Tid, Worker};
 use st_calls::{Snapshot, Verdict};
-use st_lookaside::{Head, NewNumber, Next, Slots};
+use st_lookaside::{Head, NewNumber, Next, Renewal, Slots};
 use st_messages::{Delivered, Messages, MsgState};
 use st_names::{AbsName, Seen};
 use std::alloc::{AllocError, Global};
@@ -268,7 +267,7 @@ impl Workers {
         ensures calls { OnOk result (self.new.calls ≡ calls_after_post self.old.calls tid) }
         ensures numbers { OnOk result (CarriesNumbers (drawn_as largest_number self.old.calls.next) self.old.calls self.new.calls) }
         ensures unchanged { OnErr result (self.new.calls ≡ self.old.calls) }
-        ensures kept { OnOk result ((i : Input) (st : State) (alive later : ℕ → Bool) (call : SysCall) (regs : List ℕ) → RepresentsMessages i st alive self.old → head_of tid head ≡ new_head i tid (st.threads tid).owner (st.processes (st.threads tid).owner) call regs → ChangesLife alive (suc st.posted) true later → RepresentsMessagesAfter i st (entry.Entered tid call regs (Held (suc st.posted))) later self.new) }
+        ensures kept { OnOk result ((i : Input) (st : State) (alive later : ℕ → Bool) (call : SysCall) (regs : List ℕ) → RepresentsMessages i st alive self.old → head_of tid head ≡ new_head i tid (st.threads tid).owner (st.processes (st.threads tid).owner) (st.versions (st.processes (st.threads tid).owner).policy) call regs → ChangesLife alive (suc st.posted) true later → RepresentsMessagesAfter i st (entry.Entered tid call regs (Held (suc st.posted))) later self.new) }
         ensures err { OnErr result (SameWorkersState self.old self.new) }
     {
         let drawing = head.drawing;
@@ -382,7 +381,7 @@ impl Workers {
         ensures calls { result.2 ≡ Applied → self.new.calls ≡ with_state self.old.calls result.0 (Answered verdict) }
         ensures stale { result.2 ≡ Stale → self.new.calls ≡ calls_after_let_go self.old.calls result.0 }
         ensures numbers { CarriesNumbers (without_replaced (is_live_drawing self.old.calls) result.0) self.old.calls self.new.calls }
-        ensures kept { (i : Input) (st : State) (alive : ℕ → Bool) → RepresentsMessages i st alive self.old → verdict ≡ judged (read_at i st result.1.policy result.1.rule) result.1 → RepresentsMessagesAfter i st (entry.Answered worker (drawn_copies result.0 result.1) verdict (alive result.0)) alive self.new }
+        ensures kept { (i : Input) (st : State) (alive : ℕ → Bool) → RepresentsMessages i st alive self.old → verdict ≡ verdict_under i.policies result.1 → RepresentsMessagesAfter i st (entry.Answered worker (drawn_copies result.0 result.1) verdict (alive result.0)) alive self.new }
     {
         let turn = std::mem::replace(&mut self.turns[worker as usize - 1], Turn::Idle);
         let Turn::Ready(drawing, copies) = turn else {
@@ -416,13 +415,13 @@ impl Workers {
         self.slots.drop_of(drawing);
     }
 
-    /// Ends a live drawing, as `cancel` does, and posts its call again under the next drawing, which it returns, with these ids and this
-    /// directory. Nothing that was copied or seen is kept. It takes no memory.
-    pub fn renew(&mut self, drawing: Drawing, ids: Ids, cwd: Shared<AbsName>) -> Drawing
+    /// Ends a live drawing, as `cancel` does, and posts its call again under the next drawing, which it returns, with the ids, the directory
+    /// and the version of this renewal. Nothing that was copied or seen is kept. It takes no memory.
+    pub fn renew(&mut self, drawing: Drawing, renewal: Renewal) -> Drawing
         requires live { is_live_drawing self.old.calls drawing ≡ true }
         requires room { self.old.calls.next < 2 ^ 64 - 1 }
         requires few { AreFew self.old.calls }
-        requires short { IsShort cwd }
+        requires short { IsShort renewal.cwd }
         ensures drawing { result ≡ self.old.calls.next }
         ensures seq { seq_of self.new.calls result ≡ Some (next_seq self.old.calls) }
         ensures workers { self.new.calls.workers ≡ self.old.calls.workers }
@@ -430,7 +429,7 @@ impl Workers {
         ensures few { AreFew self.new.calls }
         ensures numbers { (ready : ℕ → Bool) → AreReady ready self.old → CarriesNumbers (λ numbers. without_replaced ready drawing (drawn_as largest_number self.old.calls.next numbers)) self.old.calls self.new.calls }
         ensures ready { (q : ℕ) → IsReadyWith self.new q ↔ IsReadyWith self.old q }
-        ensures kept { (i : Input) (messages : ℕ → Message) (turns : ℕ → Option ℕ) (alive later : ℕ → Bool) (posted : ℕ) (process : Process) → RepresentsMachineMessages i messages turns alive posted self.old → process.ids ≡ ids → process.cwd ≡ cwd → RenewsLife alive drawing (suc posted) later → RepresentsMachineMessages i (messages_renewed process drawing (suc posted) messages) turns later (suc posted) self.new }
+        ensures kept { (i : Input) (messages : ℕ → Message) (turns : ℕ → Option ℕ) (alive later : ℕ → Bool) (posted : ℕ) → RepresentsMachineMessages i messages turns alive posted self.old → RenewsLife alive drawing (suc posted) later → RepresentsMachineMessages i (messages_renewed renewal drawing (suc posted) messages) turns later (suc posted) self.new }
     {
         let keeps = leave(&mut self.turns, self.messages.state(drawing));
         let seq = self.messages.next_seq();
@@ -439,7 +438,7 @@ impl Workers {
             drawing: fresh,
             seq,
         };
-        self.slots.renew(drawing, new, ids, cwd);
+        self.slots.renew(drawing, new, renewal);
         fresh
     }
 }

@@ -34,7 +34,7 @@ returns c =
     let key : SlotKey = record { drawing = c.args.new.drawing; key = c.take_out-key.result } in
     let after : List slot.Slot = slots_of (with_value c.self.inside.slab c.take_out-key.result c.renew.new.self) c.put_in.new.keys.items in
     known_of c.self.inside.slab c.self.inside.keys.items c.args.self.now c.self.invariant c.self.view_is c.args.old c.take_out-key.result (renewed_key c.self.inside.slab c.self.inside.keys.items c.args.self.now c.self.invariant c.self.view_is c.args.old c.in-Ok.place c.in-Ok.ensures.found c.take_out-key.result c.take_out-key.ensures.value) c.index_mut-slot.result.now c.index_mut-slot.ensures.value
-    (λ s. RenewsSlot c.args.self.now c.args.old c.args.new.drawing (renewed s c.args.new.drawing c.args.new.seq c.args.ids c.args.cwd) after)
+    (λ s. RenewsSlot c.args.self.now c.args.old c.args.new.drawing (renewed s c.args.new.drawing c.args.new.seq c.args.renewal) after)
     (subst (λ (s : slot.Slot). RenewsSlot c.args.self.now c.args.old c.args.new.drawing s after) c.renew.ensures
     (subst (λ (keys : List SlotKey). RenewsSlot c.args.self.now c.args.old c.args.new.drawing c.renew.new.self (slots_of (with_value c.self.inside.slab c.take_out-key.result c.renew.new.self) keys))
     (sym (c.put_in.ensures ∙ ap (λ (keys : List SlotKey). insert keys c.gap_of-place.result key) c.take_out-key.ensures.items))

@@ -1,6 +1,6 @@
 use Rattle.std.proofs.Common.{◌≡◌, ◌↔◌, ◌-◌, ◌∙◌, set, Some, true, ap, refl, sym, subst}
 use Rattle.st_calls.specs.declared.judged.Snapshot.{Snapshot}
-use Rattle.st_filter.specs.Policies.{read_filters}
+use Rattle.st_filter.specs.Policies.{filters_in_force}
 use Rattle.st_messages.specs.Messages.{is_live_drawing, seq_of}
 use Rattle.st_messages.specs.declared.message.Delivered.TheVariants.{Applied}
 use Rattle.st_workers.specs.Refinement.{drawn_copies, RepresentsMessages}
@@ -75,7 +75,7 @@ pub returns-clause-kept : goal.returns-clause-kept
 returns-clause-kept c = λ i st alive kept judged.
     answered_kept (old c) (new c) c.args.worker (drawn c) c.in-Ready.copies refl c.args.verdict c.deliver-delivered.result (ready c) (delivered c) refl (put c) i st alive
     (subst (λ (k : UnderWay). RepresentsMessages i st alive k) (sym c.self.view_is) kept)
-    (judged ∙ sym (same_verdict c.in-Ready.drawing c.in-Ready.copies 1 (read_filters i.policies c.in-Ready.copies.policy c.in-Ready.copies.rule)))
+    (judged ∙ sym (same_verdict c.in-Ready.drawing c.in-Ready.copies 1 (filters_in_force i.policies c.in-Ready.copies.policy c.in-Ready.copies.version c.in-Ready.copies.rule)))
 
 pub returns-clause-lives : goal.returns-clause-lives
 returns-clause-lives c = λ i st alive kept. lives_as i st alive c.args.self.now c.in-Ready.drawing kept

@@ -60,14 +60,14 @@ turns_are c = whole_again (new c).turns (old c).turns c.self.inside.turns.len c.
 thread : (c : goal.After-renew) → thread_of_drawing (new c).calls (old c).calls.next ≡ thread_of_drawing (old c).calls c.args.drawing
 thread c = ap (thread_of_drawing (new c).calls) (sym c.renew-fresh.ensures.drawing) ∙ c.renew-fresh.ensures.thread
 
-slots : (c : goal.After-renew) → IfSome (slot_at (old c).slots c.args.drawing) (λ slot. RenewsSlot (old c).slots c.args.drawing (old c).calls.next (renewed slot (old c).calls.next c.next_seq-seq.result c.args.ids c.args.cwd) (new c).slots)
-slots c = subst (λ (n : ℕ). IfSome (slot_at (old c).slots c.args.drawing) (λ slot. RenewsSlot (old c).slots c.args.drawing n (renewed slot n c.next_seq-seq.result c.args.ids c.args.cwd) (new c).slots)) c.renew-fresh.ensures.drawing c.renew.ensures
+slots : (c : goal.After-renew) → IfSome (slot_at (old c).slots c.args.drawing) (λ slot. RenewsSlot (old c).slots c.args.drawing (old c).calls.next (renewed slot (old c).calls.next c.next_seq-seq.result c.args.renewal) (new c).slots)
+slots c = subst (λ (n : ℕ). IfSome (slot_at (old c).slots c.args.drawing) (λ slot. RenewsSlot (old c).slots c.args.drawing n (renewed slot n c.next_seq-seq.result c.args.renewal) (new c).slots)) c.renew-fresh.ensures.drawing c.renew.ensures
 
 pub invariant_of-self : goal.invariant_of-self
 invariant_of-self c =
     subst (λ (ts : List Turn). AreValidWorkers (with_turns (new c) ts) × AreNumbered (with_turns (new c) ts)) (sym (turns_are c)) (
-      renewed_whole (old c) (new c) c.args.drawing c.leave-keeps.result c.next_seq-seq.result c.args.ids c.args.cwd (here c) c.renew-fresh.ensures.calls (thread c) c.renew-fresh.ensures.states (slots c) (turns_left c) (count c) (keeps_is c) (few c) (number c) c.self.invariant.0,
-      renewed_stays (old c) (new c) c.args.drawing c.leave-keeps.result c.next_seq-seq.result c.args.ids c.args.cwd (here c) c.renew-fresh.ensures.calls (thread c) c.renew-fresh.ensures.states (slots c) (turns_left c) (count c) (keeps_is c) (few c) (number c) c.self.invariant.0 c.self.invariant.1,
+      renewed_whole (old c) (new c) c.args.drawing c.leave-keeps.result c.next_seq-seq.result c.args.renewal (here c) c.renew-fresh.ensures.calls (thread c) c.renew-fresh.ensures.states (slots c) (turns_left c) (count c) (keeps_is c) (few c) (number c) c.self.invariant.0,
+      renewed_stays (old c) (new c) c.args.drawing c.leave-keeps.result c.next_seq-seq.result c.args.renewal (here c) c.renew-fresh.ensures.calls (thread c) c.renew-fresh.ensures.states (slots c) (turns_left c) (count c) (keeps_is c) (few c) (number c) c.self.invariant.0 c.self.invariant.1,
     )
 
 pub returns-clause-calls : goal.returns-clause-calls
@@ -76,25 +76,25 @@ returns-clause-calls c = (c.leave-keeps.result, c.renew-fresh.ensures.calls ∙ 
 pub returns-clause-seq : goal.returns-clause-seq
 returns-clause-seq c =
     subst (λ (n : ℕ). seq_of (new c).calls n ≡ Some (next_seq c.args.self.now.calls)) (sym c.renew-fresh.ensures.drawing)
-    (renewed_seq (old c) (new c) c.args.drawing c.leave-keeps.result c.next_seq-seq.result c.args.ids c.args.cwd (here c) c.renew-fresh.ensures.calls (thread c) c.renew-fresh.ensures.states (slots c) (turns_left c) (count c) (keeps_is c) (few c) (number c) c.self.invariant.1
+    (renewed_seq (old c) (new c) c.args.drawing c.leave-keeps.result c.next_seq-seq.result c.args.renewal (here c) c.renew-fresh.ensures.calls (thread c) c.renew-fresh.ensures.states (slots c) (turns_left c) (count c) (keeps_is c) (few c) (number c) c.self.invariant.1
     ∙ ap (λ (k : UnderWay). Some (next_seq k.calls)) c.self.view_is)
 
 pub returns-clause-few : goal.returns-clause-few
-returns-clause-few c = renewed_few (old c) (new c) c.args.drawing c.leave-keeps.result c.next_seq-seq.result c.args.ids c.args.cwd (here c) c.renew-fresh.ensures.calls (thread c) c.renew-fresh.ensures.states (slots c) (turns_left c) (count c) (keeps_is c) (few c) (number c) (subst (λ (k : UnderWay). AreFew k.calls) (sym c.self.view_is) c.requires.few)
+returns-clause-few c = renewed_few (old c) (new c) c.args.drawing c.leave-keeps.result c.next_seq-seq.result c.args.renewal (here c) c.renew-fresh.ensures.calls (thread c) c.renew-fresh.ensures.states (slots c) (turns_left c) (count c) (keeps_is c) (few c) (number c) (subst (λ (k : UnderWay). AreFew k.calls) (sym c.self.view_is) c.requires.few)
 
 pub returns-clause-numbers : goal.returns-clause-numbers
 returns-clause-numbers c =
     subst (λ (k : UnderWay). (ready : ℕ → Bool) → AreReady ready k → CarriesNumbers (λ numbers. without_replaced ready c.args.drawing (drawn_as largest_number k.calls.next numbers)) k.calls (new c).calls) c.self.view_is
-    (renewed_numbers (old c) (new c) c.args.drawing c.leave-keeps.result c.next_seq-seq.result c.args.ids c.args.cwd (here c) c.renew-fresh.ensures.calls (thread c) c.renew-fresh.ensures.states (slots c) (turns_left c) (count c) (keeps_is c) (few c) (number c) c.self.invariant.0 c.self.invariant.1)
+    (renewed_numbers (old c) (new c) c.args.drawing c.leave-keeps.result c.next_seq-seq.result c.args.renewal (here c) c.renew-fresh.ensures.calls (thread c) c.renew-fresh.ensures.states (slots c) (turns_left c) (count c) (keeps_is c) (few c) (number c) c.self.invariant.0 c.self.invariant.1)
 
 pub returns-clause-ready : goal.returns-clause-ready
 returns-clause-ready c =
     subst (λ (k : UnderWay). (q : ℕ) → IsReadyWith (with_turns (new c) (all_turns c)) q ↔ IsReadyWith k q) c.self.view_is (
     subst (λ (ts : List Turn). (q : ℕ) → IsReadyWith (with_turns (new c) ts) q ↔ IsReadyWith (old c) q) (sym (turns_are c))
-    (renewed_ready (old c) (new c) c.args.drawing c.leave-keeps.result c.next_seq-seq.result c.args.ids c.args.cwd (here c) c.renew-fresh.ensures.calls (thread c) c.renew-fresh.ensures.states (slots c) (turns_left c) (count c) (keeps_is c) (few c) (number c))
+    (renewed_ready (old c) (new c) c.args.drawing c.leave-keeps.result c.next_seq-seq.result c.args.renewal (here c) c.renew-fresh.ensures.calls (thread c) c.renew-fresh.ensures.states (slots c) (turns_left c) (count c) (keeps_is c) (few c) (number c))
     )
 
 pub returns-clause-kept : goal.returns-clause-kept
-returns-clause-kept c = λ i messages turns alive later posted process kept ids_is cwd_is lives.
-    subst (λ (ts : List Turn). RepresentsMachineMessages i (messages_renewed process c.args.drawing (suc posted) messages) turns later (suc posted) (record { calls = (new c).calls; slots = (new c).slots; turns = ts })) (sym (turns_are c))
-    (renewed_kept (old c) (new c) c.args.drawing c.leave-keeps.result c.next_seq-seq.result c.args.ids c.args.cwd (here c) c.renew-fresh.ensures.calls (thread c) c.renew-fresh.ensures.states (slots c) (turns_left c) (count c) (keeps_is c) (few c) (number c) i messages turns alive later posted process (subst (λ (k : UnderWay). RepresentsMachineMessages i messages turns alive posted k) (sym c.self.view_is) kept) ids_is cwd_is lives)
+returns-clause-kept c = λ i messages turns alive later posted kept lives.
+    subst (λ (ts : List Turn). RepresentsMachineMessages i (messages_renewed c.args.renewal c.args.drawing (suc posted) messages) turns later (suc posted) (record { calls = (new c).calls; slots = (new c).slots; turns = ts })) (sym (turns_are c))
+    (renewed_kept (old c) (new c) c.args.drawing c.leave-keeps.result c.next_seq-seq.result c.args.renewal (here c) c.renew-fresh.ensures.calls (thread c) c.renew-fresh.ensures.states (slots c) (turns_left c) (count c) (keeps_is c) (few c) (number c) i messages turns alive later posted (subst (λ (k : UnderWay). RepresentsMachineMessages i messages turns alive posted k) (sym c.self.view_is) kept) lives)
