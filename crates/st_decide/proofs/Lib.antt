@@ -9,3 +9,4 @@ pub mod Questions
 pub mod Reached
 mod Running
 pub mod Started
+pub mod Versions

@@ -12,26 +12,35 @@ use Rattle.st_calls.specs.declared.judged.Snapshot.{Snapshot}
 use Rattle.st_calls.specs.declared.judged.Verdict.{Verdict}
 use Rattle.st_messages.specs.declared.message.MsgState.{MsgState}
 use Rattle.st_messages.specs.declared.message.MsgState.TheVariants.{Waiting, Claimed, Answered, Faulted}
-use Rattle.st_model.specs.Processes.{StartedThread, pid_of, thread_at}
+use Rattle.st_model.specs.Processes.{StartedThread, pid_of, process_at, thread_at}
 use Rattle.st_trace.specs.declared.entry.Entry.TheVariants.{Ended}
 use Rattle.st_trace.specs.declared.entry.Way.{Way}
 use Rattle.st_trace.specs.declared.entry.Way.TheVariants.{Fast, Barred, Held, Untraced}
 use Rattle.st_names.specs.Name.{Components}
 use Rattle.st_law.specs.declared.input.Input.{Input}
-use Rattle.st_law.specs.Machine.{answered_entry, held_entry, pending_entry, permitted_entry, running_entry, thread_entry}
+use Rattle.st_law.specs.Machine.{answered_entry, barred_entry, held_entry, pending_entry, permitted_entry, running_entry, thread_entry}
 use Rattle.st_law.specs.Messages.{Head}
-use Rattle.st_law.specs.State.{State, is_live, is_live_by, link_now, snapshot_in, thread_count}
+use Rattle.st_law.specs.State.{State, is_live, is_live_by, link_now, process_in, snapshot_in, thread_count}
 use Rattle.st_law.specs.Threads.{PendingCall}
 use Rattle.st_law.proofs.Invariant.{Fine, IfPending, IsFine, IsOpen}
 use Rattle.st_system.specs.System.{IsAmong, IsSystem, IsThreadState}
 use Rattle.st_workers.specs.Refinement.{HasMessageFlags, IsMessageStateOf, RepresentsMessages}
-use Rattle.st_decide.specs.NextSteps.{HasEntered, HasPending, IsStepOf}
+use Rattle.st_decide.specs.NextSteps.{HasEntered, HasPending, IsInProcess, IsStepOf}
 use Rattle.st_decide.specs.Machine.{Refines, Running}
 use Rattle.st_decide.specs.Step.{step_entry}
 use Rattle.st_threads.specs.Thread.{ThreadRow, IsWayHeld, IsRow, IsRowOf}
 use Rattle.st_decide.specs.declared.step.Step.{Step}
 use Rattle.st_decide.proofs.Reached.{reached_of}
+use Rattle.st_decide.proofs.Versions.{judged_now}
 use Rattle.st_threads.proofs.Rows.{drawing_of_held}
+
+-- a number of items within their count has an item
+pub not_absent : {X : Type 0} (items : List X) (n : ℕ) → item_at_number items n ≡ None → 1 ≤ n → n ≤ length items → ⊥
+not_absent items zero none from to = omega (arith, from)
+not_absent items (suc n) none from to = elim ((slice_get_cases items n).1) [
+  | inl found ↦ none-some found.0 (sym none ∙ found.2)
+  | inr past ↦ let beyond = past.0 in omega (arith, beyond, to)
+]
 
 module _ (m : Running) (st : State) (is : Refines m st) (t : ℕ) where
   pub row_of : (row : ThreadRow) → item_at_number m.threads t ≡ Some row → IsRow row (st.threads t)
@@ -65,16 +74,9 @@ module _ (m : Running) (st : State) (is : Refines m st) (t : ℕ) where
   -- a thread that the script doesn't have does nothing
   pub entry_absent : item_at_number m.threads t ≡ None → thread_entry m.input st t ≡ None
   entry_absent none = by (thread_at m.system.processes t) (is.system.threads t) (is.system.among t) where
-    there : (n : ℕ) → item_at_number m.threads n ≡ None → 1 ≤ n → n ≤ length m.threads → ⊥
-    there zero none from to = omega (arith, from)
-    there (suc n) none from to = elim ((slice_get_cases m.threads n).1) [
-      | inl found ↦ none-some found.0 (sym none ∙ found.2)
-      | inr past ↦ let beyond = past.0 in omega (arith, beyond, to)
-    ]
-
     by : (o : Option StartedThread) → IsThreadState o (st.threads t) → IsAmong (thread_count m.input) t o → thread_entry m.input st t ≡ None
     by None x among = unstarted x.0
-    by (Some thread) x among = absurd (there t none among.0 (subst (λ (n : ℕ). t ≤ n) (sym is.count) among.1))
+    by (Some thread) x among = absurd (not_absent m.threads t none among.0 (subst (λ (n : ℕ). t ≤ n) (sym is.count) among.1))
 
   -- a thread that runs ends if it is dying, and otherwise goes on
   pub entry_running : (row : ThreadRow) (pid : ℕ) → item_at_number m.threads t ≡ Some row → pid_of m.system.processes t ≡ Some pid → 0 < pid → row.ended ≡ false
@@ -83,6 +85,10 @@ module _ (m : Running) (st : State) (is : Refines m st) (t : ℕ) where
       let its : IsRow row (st.threads t) = row_of row row_is in
       let apart : ((st.threads t).owner == 0) ≡ false = ne_eqb (st.threads t).owner 0 (λ e. let owner = owner_is pid process in omega (arith, e, owner, some)) in
       λ k. cond (apart k || (its.ended ∙ unended) k) None (cond (its.dying k) (Some (Ended t)) (running_entry m.input st t (its.pending k)))
+
+-- the process of a thread is that of the law's machine
+pub process_here : (m : Running) (st : State) → Refines m st → (t pid : ℕ) → IsInProcess m.system t pid → process_in st t ≡ process_at m.system.processes pid
+process_here m st is t pid caller = ap st.processes (owner_is m st is t pid caller.process) ∙ is.system.processes pid
 
 -- ---- a thread that has entered a call
 
@@ -96,6 +102,10 @@ module _ (m : Running) (st : State) (is : Refines m st) (t pid : ℕ) (entered :
 
   pub process_is : (st.threads t).owner ≡ pid
   process_is = owner_is m st is t pid x.caller.process
+
+  -- a barred call is denied with the answer that its thread has kept
+  pub barred_is : (n : ℕ) → entered.way ≡ Barred n → (step : Step) → barred_entry t n x.row.answer ≡ step_entry m.input st t step → pending_entry m.input st t entered.call entered.regs entered.way ≡ step_entry m.input st t step
+  barred_is n way step e = ap (pending_entry m.input st t entered.call entered.regs) way ∙ ap (barred_entry t n) (its.answer entered n x.pending way) ∙ e
 
 -- ---- a held call
 
@@ -116,10 +126,10 @@ module _ (m : Running) (st : State) (is : Refines m st) (t pid drawing : ℕ) (e
   pub number_is : IsWayHeld entered.way → (st.threads t).number ≡ drawing
   number_is held = number_by entered.way refl held
 
-  fine : Fine m.input st t entered
-  fine = subst (IfPending (Fine m.input st t)) (row_its.pending ∙ x.pending) ((reached_of m.input st is.reached).whole.calls.fine t)
+  fine : Fine st t entered
+  fine = subst (IfPending (Fine st t)) (row_its.pending ∙ x.pending) ((reached_of m.input st is.reached).whole.calls.fine t)
 
-  open_by : (way : Way) → IsWayHeld way → IsFine m.input st t entered.call entered.regs way → IsOpen st t entered.call entered.regs
+  open_by : (way : Way) → IsWayHeld way → IsFine st t entered.call entered.regs way → IsOpen st t entered.call entered.regs
   open_by (Held first) held x = x
   open_by Fast held x = absurd held
   open_by (Barred n) held x = absurd held
@@ -157,7 +167,7 @@ module _ (m : Running) (st : State) (is : Refines m st) (t q : ℕ) where
       ap (held_entry m.input st t q) come.1.fault
       ∙ ap (λ (b : Bool). cond b (answered_entry m.input st t q (snapshot_in st q)) None) come.1.answered
       ∙ ap (answered_entry m.input st t q) come.3
-      ∙ x come.2 come.3 (sym come.4)
+      ∙ x come.2 come.3 (sym (judged_now m st is q come.2 come.0 come.3) ∙ sym come.4)
 
 -- ---- a call that is permitted
 

@@ -19,7 +19,7 @@ use Rattle.st_law.specs.Machine.{decided_entry}
 use Rattle.st_law.specs.Sessions.{SessionFilter, session_filters, verdict_or}
 use Rattle.st_law.specs.State.{State, decision_in, operator_decides, is_live, is_open_question, is_question, is_undecided, read_at, snapshot_in}
 use Rattle.st_law.proofs.Standing.{read_decides}
-use Rattle.st_filter.specs.Policies.{read_filters}
+use Rattle.st_filter.specs.Policies.{filters_in_force}
 use Rattle.st_law.specs.declared.input.Mode.{Mode}
 use Rattle.st_law.specs.declared.input.Mode.TheVariants.{Enforce, Learn, AskText}
 use Rattle.st_learn.specs.Operator.{answers, operator_answers, Added}
@@ -28,7 +28,8 @@ use Rattle.st_workers.specs.Refinement.{drawn_copies, HasAnswer, IsMessageStateO
 use Rattle.st_workers.proofs.Copies.{same_verdict}
 use Rattle.st_decide.specs.Machine.{Refines, Running}
 use Rattle.st_decide.specs.NextSteps.{IsDecidedStep, IsDecision, IsPermittedStep}
-use Rattle.st_decide.specs.Questions.{is_unmatched, later_decision, session_verdict}
+use Rattle.st_decide.specs.Questions.{filters_now, is_unmatched, later_decision, session_verdict}
+use Rattle.st_decide.proofs.Versions.{judged_now}
 use Rattle.st_decide.specs.declared.step.Step.{Step}
 use Rattle.st_decide.specs.declared.step.Step.TheVariants.{Wait, Deny}
 
@@ -36,7 +37,7 @@ use Rattle.st_decide.specs.declared.step.Step.TheVariants.{Wait, Deny}
 abbrev pub denied : ℕ → Errno → Cause → Step
 denied q errno why = Deny (record { drawing = Some q; errno = errno; cause = why })
 
--- ---- the filters that were read decide
+-- ---- the filters in force decide
 
 -- their verdict is the decision
 pub read_decision : (m : Running) (q : ℕ) (read : Verdict) → read ≢ Unmatched → IsDecision m q read (Some read)
@@ -45,19 +46,20 @@ read_decision m q read some st is s there from = (
   λ none. absurd (some none),
 )
 
--- ---- the filters that were read don't decide
+-- ---- the filters in force don't decide
 
 module _ (m : Running) (st : State) (is : Refines m st) where
   pub later_decides : (s : Snapshot) → verdict (read_at m.input st s.policy s.rule) s ≡ Unmatched → decision_in m.input st s ≡ session_verdict m s
   later_decides s read =
       ap (λ (v : Verdict). verdict_or v (verdict_from (suc (length (read_at m.input st s.policy s.rule))) (session_filters st.session s.policy s.rule) s)) read
       ∙ ap (λ (session : List SessionFilter). verdict_from (suc (length (read_at m.input st s.policy s.rule))) (session_filters session s.policy s.rule) s) is.operator.session
+      ∙ ap (λ (n : ℕ). verdict_from (suc (length (filters_in_force m.input.policies s.policy n s.rule))) (session_filters m.operator.filters s.policy s.rule) s) (is.operator.versions s.policy)
 
   -- a held call that they don't decide is a question iff the session doesn't decide either, and the operator would answer
   question_by : (q : ℕ) (copies : Snapshot) → IsMessageStateOf m.input st q (Some (Answered Unmatched)) → snapshot_in st q ≡ Some copies → is_question m.input st q ≡ (is_undecided (session_verdict m copies) && answers m.input m.operator copies)
   question_by q copies come there =
       let same : come.2 ≡ copies = same_Some come.2 copies (sym come.3 ∙ there) in
-      let read : verdict (read_at m.input st copies.policy copies.rule) copies ≡ Unmatched = subst (λ (s : Snapshot). verdict (read_at m.input st s.policy s.rule) s ≡ Unmatched) same (sym come.4) in
+      let read : verdict (read_at m.input st copies.policy copies.rule) copies ≡ Unmatched = subst (λ (s : Snapshot). verdict (read_at m.input st s.policy s.rule) s ≡ Unmatched) same (sym (judged_now m st is q come.2 come.0 come.3) ∙ sym come.4) in
       (λ k. come.0 k && come.1.answered k && is_open_question m.input st (there k))
       ∙ (λ k. is_undecided (later_decides copies read k) && asked_same m.input st m.operator is.operator copies m.input.options.mode k)
 
@@ -121,7 +123,7 @@ module _ (m : Running) (st : State) (is : Refines m st) (q : ℕ) where
   decided : (v : Verdict) → v ≢ Unmatched → is_undecided v ≡ false → IsMessageStateOf m.input st q (Some (Answered v)) → is_question m.input st q ≡ false
   decided v some none come =
       (λ k. come.0 k && come.1.answered k && is_open_question m.input st (come.3 k))
-      ∙ (λ k. is_undecided (read_decides (read_at m.input st come.2.policy come.2.rule) (session_filters st.session come.2.policy come.2.rule) come.2 v (sym come.4) some k) && operator_decides m.input st come.2 m.input.options.mode)
+      ∙ (λ k. is_undecided (read_decides (read_at m.input st come.2.policy come.2.rule) (session_filters st.session come.2.policy come.2.rule) come.2 v (sym (judged_now m st is q come.2 come.0 come.3) ∙ sym come.4) some k) && operator_decides m.input st come.2 m.input.options.mode)
       ∙ ap (λ (b : Bool). b && operator_decides m.input st come.2 m.input.options.mode) none
 
   -- a message in any other state is no question
@@ -143,7 +145,7 @@ answers_drawn added q s AskText = refl
 pub later_drawn : (m : Running) (q : ℕ) (s : Snapshot) → later_decision m (drawn_copies q s) ≡ later_decision m s
 later_drawn m q s = λ k. if is_undecided (same k) && answers_drawn m.operator q s m.input.options.mode k then None else Some (same k) where
   same : session_verdict m (drawn_copies q s) ≡ session_verdict m s
-  same = same_verdict q s (suc (length (read_filters m.input.policies s.policy s.rule))) (session_filters m.operator.filters s.policy s.rule)
+  same = same_verdict q s (suc (length (filters_now m s))) (session_filters m.operator.filters s.policy s.rule)
 
 -- an unmatched message is answered
 pub unmatched_answered : (o : Option MsgState) → is_unmatched o ≡ true → HasAnswer o

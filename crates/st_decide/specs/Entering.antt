@@ -1,6 +1,7 @@
 -- How calls are entered.
 use Rattle.std.specs.Prelude.{◌≡◌, ℕ, suc, if◌then◌else◌, List}
 use Rattle.st_calls.specs.declared.call.SysCall.{SysCall}
+use Rattle.st_calls.specs.declared.rule.FastAnswer.{FastAnswer}
 use Rattle.st_lookaside.specs.Need.{IsShort}
 use Rattle.st_lookaside.specs.declared.head.Head as kept
 use Rattle.st_messages.specs.Messages.{next_seq}
@@ -22,6 +23,11 @@ way_in i st t call regs = if (process_in st t).traced then way_of_answer (suc st
 abbrev pub IsWayOf : Running → ℕ → NewCall → Way → Type 0
 IsWayOf m t new way = (st : State) → Refines m st → way_in m.input st t new.call new.regs ≡ way
 
+-- a call that goes on this way keeps the kernel's own answer to it, if it is barred
+abbrev pub IsKeptAnswer : Running → ℕ → NewCall → Way → FastAnswer → Type 0
+IsKeptAnswer m t new way answer =
+    (n : ℕ) → way ≡ Barred n → (st : State) → Refines m st → answer_in m.input st (process_in st t) new.call new.regs ≡ answer
+
 -- a way on which no message is posted
 abbrev pub IsUnposted : Way → Type 0
 IsUnposted Fast = Unit {0}
@@ -34,4 +40,4 @@ pub record IsHeadOf (m : Running) (new : NewCall) (head : kept.Head) : Type 0 wh
   pub drawing_is : head.drawing ≡ m.workers.calls.next
   pub seq_is : head.seq ≡ next_seq m.workers.calls
   pub short : IsShort head.cwd
-  pub law : (st : State) (t : ℕ) → Refines m st → head_of t head ≡ new_head m.input t new.pid (st.processes new.pid) new.call new.regs
+  pub law : (st : State) (t : ℕ) → Refines m st → head_of t head ≡ new_head m.input t new.pid (st.processes new.pid) (st.versions (st.processes new.pid).policy) new.call new.regs

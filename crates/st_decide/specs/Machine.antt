@@ -9,7 +9,7 @@ use Rattle.st_law.specs.Machine.{entry_of, state_after, state_of_run, thread_ent
 use Rattle.st_law.specs.State.{State, is_live, thread_count}
 use Rattle.st_learn.specs.Answers.{Answers, AreAnswersIn}
 use Rattle.st_learn.specs.Operator.{Added, IsAdded}
-use Rattle.st_reached.specs.Grants.{RepliesUngranted, SetIdsUngranted}
+use Rattle.st_reached.specs.Grants.{AllUngranted, RepliesUngranted}
 use Rattle.st_reached.specs.Scripts.{IsBounded}
 use Rattle.st_system.specs.System.{IsSystem, Parts}
 use Rattle.st_workers.specs.Numbers.{CarriesEntry, IsNumbered}
@@ -41,7 +41,7 @@ pub record IsReached (i : Input) (st : State) : Type 0 where
 pub record Refines (m : Running) (st : State) : Type 0 where
   pub reached : IsReached m.input st
   pub bounded : IsBounded m.input.start
-  pub ungranted : SetIdsUngranted m.input.policies
+  pub ungranted : AllUngranted m.input.policies
   pub replies : RepliesUngranted m.input.replies
   pub system : IsSystem m.input st m.system
   pub workers : RepresentsMessages m.input st (is_live st) m.workers

@@ -15,8 +15,9 @@ use Rattle.st_messages.specs.declared.message.MsgState.{MsgState}
 use Rattle.st_messages.specs.declared.message.MsgState.TheVariants.{Waiting, Claimed, Answered, Faulted}
 use Rattle.st_trace.specs.declared.entry.Cause.TheVariants.{Fault}
 use Rattle.st_trace.specs.declared.entry.Entry.TheVariants.{Denied}
-use Rattle.st_law.specs.Machine.{barred_entry, decided_entry, held_entry, pending_entry, permitted_entry, unheld_entry}
-use Rattle.st_law.specs.State.{State, answer_in, arguments_now, decision_in, is_question, link_now, process_in, read_at, snapshot_in}
+use Rattle.st_trace.specs.declared.start.Instr.{Instr}
+use Rattle.st_law.specs.Machine.{decided_entry, held_entry, next_instruction_entry, pending_entry, permitted_entry, reloaded_entry, unheld_entry}
+use Rattle.st_law.specs.State.{State, answer_in, arguments_now, decision_in, is_question, link_now, may_reload, process_in, read_at, snapshot_in}
 use Rattle.st_law.specs.Threads.{PendingCall}
 use Rattle.st_system.specs.Fit.{AreFit, first_name}
 use Rattle.st_system.specs.System.{Parts}
@@ -24,7 +25,7 @@ use Rattle.st_decide.specs.Machine.{IsNextStep, Refines, Running}
 use Rattle.st_decide.specs.Step.{step_entry}
 use Rattle.st_threads.specs.Thread.{IsWayHeld, ThreadRow}
 use Rattle.st_decide.specs.declared.step.Step.{Step}
-use Rattle.st_decide.specs.declared.step.Step.TheVariants.{Wait, End, Store, Enter, Make, Fail, Deny}
+use Rattle.st_decide.specs.declared.step.Step.TheVariants.{Wait, End, Store, Enter, Make, Fail, Deny, Reload, RefuseReload}
 use Rattle.st_decide.specs.declared.step.ReadyCall.{ReadyCall}
 
 -- a thread is of this process, which exists
@@ -46,11 +47,25 @@ pub record HasPending (m : Running) (t pid : ℕ) (entered : PendingCall) (drawi
   pub has : HasEntered m t pid entered
   pub number : has.row.number ≡ drawing
 
+-- the same, by how far the thread has come
+pub record IsPendingOf (m : Running) (t pid : ℕ) (entered : PendingCall) (row : ThreadRow) : Type 0 where
+  pub pending : HasPending m t pid entered row.number
+  pub row_is : pending.has.row ≡ row
+
 -- a thread of a process holds a call under this drawing
 pub record HoldsDrawing (m : Running) (t pid drawing : ℕ) : Type 0 where
   pub entered : PendingCall
   pub pending : HasPending m t pid entered drawing
   pub held : IsWayHeld entered.way
+
+-- the step of a thread without a pending call, by its instructions left
+abbrev pub IsInstructionStep : Running → ℕ → List Instr → Step → Type 0
+IsInstructionStep m t left step = (st : State) → Refines m st → next_instruction_entry m.input st t left ≡ step_entry m.input st t step
+
+-- the step of a thread that reloads the script's policy with this number: whether that is done depends on its process
+abbrev pub IsReloadStep : Running → ℕ → ℕ → Step → Type 0
+IsReloadStep m t n step =
+    (st : State) → Refines m st → Some (reloaded_entry m.input st t n (may_reload (process_in st t))) ≡ step_entry m.input st t step
 
 -- the step of a thread that has entered a call
 abbrev pub IsPendingStep : Running → ℕ → PendingCall → Step → Type 0
@@ -66,23 +81,18 @@ abbrev pub IsUnheldStep : Running → ℕ → PendingCall → Step → Type 0
 IsUnheldStep m t entered step =
     (st : State) → Refines m st → unheld_entry m.input st t entered.call entered.regs (process_in st t).ids (arguments_now m.input st t entered.call entered.regs) ≡ step_entry m.input st t step
 
--- the step of a call that is barred by the filter of this number
-abbrev pub IsBarredStep : Running → ℕ → PendingCall → ℕ → Step → Type 0
-IsBarredStep m t entered number step =
-    (st : State) → Refines m st → barred_entry t number (answer_in m.input st (process_in st t) entered.call entered.regs) ≡ step_entry m.input st t step
-
 -- the step of a call that is held under this drawing
 abbrev pub IsHeldStep : Running → ℕ → ℕ → Step → Type 0
 IsHeldStep m t drawing step = (st : State) → Refines m st → held_entry m.input st t drawing (st.messages drawing).fault ≡ step_entry m.input st t step
 
--- the decision on an answered call on whose copies the filters that were read have this verdict; none if the call is a question
+-- the decision on an answered call on whose copies the filters in force have this verdict; none if the call is a question
 abbrev pub IsDecision : Running → ℕ → Verdict → Option Verdict → Type 0
 IsDecision m drawing read None =
     (st : State) → Refines m st → (s : Snapshot) → snapshot_in st drawing ≡ Some s → verdict (read_at m.input st s.policy s.rule) s ≡ read → (decision_in m.input st s ≡ Unmatched) × (is_question m.input st drawing ≡ true)
 IsDecision m drawing read (Some given) =
     (st : State) → Refines m st → (s : Snapshot) → snapshot_in st drawing ≡ Some s → verdict (read_at m.input st s.policy s.rule) s ≡ read → (decision_in m.input st s ≡ given) × (given ≡ Unmatched → is_question m.input st drawing ≡ false)
 
--- the step of a held call on whose copies the filters that were read have this verdict
+-- the step of a held call on whose copies the filters in force have this verdict
 abbrev pub IsDecidedStep : Running → ℕ → ℕ → Verdict → Step → Type 0
 IsDecidedStep m t drawing read step =
     (st : State) → Refines m st → (s : Snapshot) → snapshot_in st drawing ≡ Some s → verdict (read_at m.input st s.policy s.rule) s ≡ read → decided_entry m.input st t drawing s (decision_in m.input st s) ≡ step_entry m.input st t step
@@ -120,6 +130,8 @@ CanBeDone parts t End = Unit {0}
 CanBeDone parts t (Store stored) = Unit {0}
 CanBeDone parts t (Fail failed) = Unit {0}
 CanBeDone parts t (Deny denied) = Unit {0}
+CanBeDone parts t (Reload policy) = Unit {0}
+CanBeDone parts t (RefuseReload policy) = Unit {0}
 
 -- a thread does this step next, and can
 pub record CanStep (m : Running) (t : ℕ) (step : Step) : Type 0 where

@@ -13,14 +13,16 @@ use Rattle.st_workers.specs.Refinement.{HasAnswer}
 use Rattle.st_law.specs.declared.input.Input.{Input}
 use Rattle.st_learn.specs.Deciding.{lesser}
 use Rattle.st_learn.specs.Operator.{answers}
+use Rattle.st_learn.specs.Sessions.{version_of}
 use Rattle.st_law.specs.Machine.{least_question}
 use Rattle.st_law.specs.Sessions.{session_filters}
-use Rattle.st_filter.specs.Policies.{read_filters}
+use Rattle.st_filter.specs.Formula.{FilterValue}
+use Rattle.st_filter.specs.Policies.{filters_in_force}
 use Rattle.st_law.specs.State.{State, is_live, is_question, is_undecided}
 use Rattle.st_decide.specs.Machine.{Refines, Running}
 use Rattle.st_threads.specs.Thread.{ThreadRow, drawing_held}
 
--- whether a message was answered, and no filter that was read decides
+-- whether a message was answered, and no filter in force decides
 abbrev pub is_unmatched : Option MsgState → Bool
 is_unmatched (Some (Answered Unmatched)) = true
 is_unmatched _ = false
@@ -29,11 +31,15 @@ is_unmatched _ = false
 abbrev pub least_held : List ThreadRow → Option ℕ
 least_held rows = fold (λ least row. lesser least (drawing_held row)) None rows
 
--- the verdict of the session's filters on copies; the filters are numbered on after those that were read
-abbrev pub session_verdict : Running → Snapshot → Verdict
-session_verdict m s = verdict_from (suc (length (read_filters m.input.policies s.policy s.rule))) (session_filters m.operator.filters s.policy s.rule) s
+-- the filters in force for the policy and the rule of copies, without the session's
+abbrev pub filters_now : Running → Snapshot → List FilterValue
+filters_now m s = filters_in_force m.input.policies s.policy (version_of m.operator.reloads s.policy) s.rule
 
--- the decision on a call with these copies on which the filters that were read don't decide; none if the session's don't decide either,
+-- the verdict of the session's filters on copies; the filters are numbered on after those in force
+abbrev pub session_verdict : Running → Snapshot → Verdict
+session_verdict m s = verdict_from (suc (length (filters_now m s))) (session_filters m.operator.filters s.policy s.rule) s
+
+-- the decision on a call with these copies on which the filters in force don't decide; none if the session's don't decide either,
 -- and the operator would answer
 abbrev pub later_decision : Running → Snapshot → Option Verdict
 later_decision m s = if is_undecided (session_verdict m s) && answers m.input m.operator s then None else Some (session_verdict m s)

@@ -14,7 +14,7 @@ use st_base::Drawing;
 use st_calls::{Snapshot, Verdict};
 use st_messages::MsgState;
 
-// Whether a message was answered, and no filter that was read decides.
+// Whether a message was answered, and no filter in force decides.
 fn is_unmatched(state: Option<MsgState>) -> bool
     ensures { result ≡ is_unmatched state }
 {
@@ -50,7 +50,7 @@ fn lesser_drawing(one: Option<Drawing>, other: Option<Drawing>) -> Option<Drawin
 }
 
 impl<'v, 'a> View<'v, 'a> {
-    // The verdict of the session's filters on a held call on which the filters that were read don't decide.
+    // The verdict of the session's filters on a held call on which the filters in force don't decide.
     fn session_verdict(&self, copies: &Snapshot) -> Verdict
         ensures { result ≡ session_verdict self.now copies.now }
     {

@@ -1,13 +1,17 @@
 // Decides what a thread does next, as in the law's machine.
-ghost use Rattle.std.specs.Prelude.{◌≡◌, Some, IfOk};
+ghost use Rattle.std.specs.Prelude.{◌≡◌, ℕ, Some, IfOk};
 ghost use Rattle.st_calls.specs.declared.judged.Verdict.TheVariants.{Unmatched};
 ghost use Rattle.st_decide.specs.Machine.{Refines, IsNextStep};
-ghost use Rattle.st_decide.specs.NextSteps.{CanBeDone, HasEntered, HasPending, HoldsDrawing, IsAnswerOf, IsBarredStep, IsDecidedStep, IsDecision, IsHeldStep, IsInProcess, IsPendingStep, IsPermittedStep, IsUnheldStep};
+ghost use Rattle.st_decide.specs.NextSteps.{CanBeDone, HasEntered, HoldsDrawing, IsAnswerOf, IsDecidedStep, IsDecision, IsHeldStep, IsInProcess, IsPendingOf, IsPendingStep, IsPermittedStep, IsUnheldStep};
+ghost use Rattle.st_decide.specs.Step.{step_entry};
 ghost use Rattle.st_decide.specs.declared.step.Step.TheVariants as steps;
+ghost use Rattle.st_law.specs.declared.input.Input.{Input};
+ghost use Rattle.st_law.specs.Machine.{barred_entry};
 ghost use Rattle.st_law.specs.State.{State};
 ghost use Rattle.st_messages.specs.Messages.{message_state};
 ghost use Rattle.st_messages.specs.declared.message.MsgState.TheVariants.{Answered};
 ghost use Rattle.st_model.specs.Processes.{IsPid};
+ghost use Rattle.st_system.specs.System.{Parts};
 ghost use Rattle.st_workers.specs.Refinement.{HasAnswer, IsMessageStateOf};
 
 use crate::step::{DeniedCall, FailedCall, ReadyCall, Step};
@@ -16,7 +20,7 @@ use st_arguments::Arguments;
 use st_base::{Drawing, Errno, Ids, Pid, Tid};
 use st_calls::{FastAnswer, Rule, SysCall, Verdict};
 use st_messages::MsgState;
-use st_threads::{CallWay, CallingThread, PendingCall};
+use st_threads::{CallWay, CallingThread, PendingCall, Thread};
 use st_trace::{CallArgs, Cause};
 use std::alloc::{AllocError, Global};
 
@@ -29,6 +33,21 @@ fn deny(drawing: Drawing, errno: Errno, cause: Cause) -> Step
         errno,
         cause,
     })
+}
+
+// A barred call is denied with the kernel's own answer to it, as it was when the call was entered.
+fn barred_step(number: u32, answer: FastAnswer) -> Step
+    ensures step { (i : Input) (st : State) (t : ℕ) → barred_entry t number answer ≡ step_entry i st t result }
+    ensures can { (parts : Parts) (t : ℕ) → CanBeDone parts t result }
+{
+    match answer {
+        FastAnswer::Refuse(errno) => Step::Deny(DeniedCall {
+            drawing: None,
+            errno,
+            cause: Cause::Filter(number),
+        }),
+        FastAnswer::Permit | FastAnswer::Ask => Step::Wait,
+    }
 }
 
 impl<'v, 'a> View<'v, 'a> {
@@ -50,32 +69,27 @@ impl<'v, 'a> View<'v, 'a> {
             return Ok(Step::End);
         }
         match thread.pending() {
-            None => Ok(Step::of_instructions(pid, thread.left())),
-            Some(entered) => self.pending_step(
-                alloc,
-                CallingThread { pid, tid },
-                entered,
-                thread.drawing(),
-            ),
+            None => Ok(self.instruction_step(CallingThread { pid, tid }, thread.left())),
+            Some(entered) => self.pending_step(alloc, CallingThread { pid, tid }, thread, entered),
         }
     }
 
-    // What a thread does next that has entered a call. If the call is held, it has this drawing.
+    // What a thread does next that has entered a call.
     fn pending_step(
         &self,
         alloc: Global,
         caller: CallingThread,
+        thread: &Thread<'_>,
         entered: PendingCall,
-        drawing: Drawing,
     ) -> Result<Step, AllocError>
-        requires { HasPending self.now caller.tid caller.pid entered drawing }
+        requires { IsPendingOf self.now caller.tid caller.pid entered thread.now }
         ensures step { IfOk result (IsPendingStep self.now caller.tid entered) }
         ensures can { IfOk result (CanBeDone self.now.system caller.tid) }
     {
         match entered.way {
             CallWay::Fast | CallWay::Untraced => self.unheld_step(alloc, caller, entered),
-            CallWay::Barred(number) => Ok(self.barred_step(caller, entered, number)),
-            CallWay::Held(_) => self.held_step(alloc, caller, drawing),
+            CallWay::Barred(number) => Ok(barred_step(number, thread.answer())),
+            CallWay::Held(_) => self.held_step(alloc, caller, thread.drawing()),
         }
     }
 
@@ -136,22 +150,6 @@ impl<'v, 'a> View<'v, 'a> {
         })
     }
 
-    // A barred call is denied with the error of the filter that bars it.
-    fn barred_step(&self, caller: CallingThread, entered: PendingCall, number: u32) -> Step
-        requires { HasEntered self.now caller.tid caller.pid entered }
-        ensures step { IsBarredStep self.now caller.tid entered number result }
-        ensures can { CanBeDone self.now.system caller.tid result }
-    {
-        match self.answer(caller.pid, entered.call, &entered.regs) {
-            FastAnswer::Refuse(errno) => Step::Deny(DeniedCall {
-                drawing: None,
-                errno,
-                cause: Cause::Filter(number),
-            }),
-            FastAnswer::Permit | FastAnswer::Ask => Step::Wait,
-        }
-    }
-
     // A held call waits until it is faulted or answered.
     fn held_step(
         &self,
@@ -173,7 +171,7 @@ impl<'v, 'a> View<'v, 'a> {
         }
     }
 
-    // The decision on an answered call on which the filters that were read have this verdict; none if the call is a question.
+    // The decision on an answered call on which the filters in force have this verdict; none if the call is a question.
     fn decision(&self, drawing: Drawing, read: Verdict) -> Option<Verdict>
         requires here { message_state self.now.workers.calls drawing ≡ Some (Answered read) }
         requires come { (st : State) → Refines self.now st → IsMessageStateOf self.now.input st drawing (Some (Answered read)) }

@@ -8,8 +8,9 @@ mod enabled;
 mod entering;
 mod holding;
 mod making;
+mod reloading;
 pub mod step;
 pub mod view;
 
-pub use step::{DeniedCall, FailedCall, NewCall, ReadyCall, Step, StoredWord};
+pub use step::{DeniedCall, FailedCall, NewCall, NewWay, ReadyCall, Step, StoredWord};
 pub use view::View;

@@ -1,16 +1,11 @@
-ghost use Rattle.std.specs.Prelude.{◌≡◌, ℕ, [], None};
-ghost use Rattle.st_law.specs.declared.input.Input.{Input};
-ghost use Rattle.st_law.specs.Machine.{next_instruction_entry};
-ghost use Rattle.st_law.specs.State.{State};
-ghost use Rattle.st_decide.specs.NextSteps.{CanBeDone, IsInProcess};
-ghost use Rattle.st_decide.specs.Step.{step_entry};
-ghost use Rattle.st_system.specs.System.{Parts};
+ghost use Rattle.std.specs.Prelude.{◌≡◌, [], None};
 ghost use Rattle.st_trace.specs.declared.entry.CallResult.TheVariants.{Failed};
 ghost use Rattle.st_trace.specs.declared.entry.Entry.TheVariants.{Denied, Used};
 
 use st_base::{Drawing, Errno, Ids, Pid, Seq, Sequence, Tid};
-use st_calls::SysCall;
-use st_trace::{CallArgs, CallResult, Cause, Change, Entry, Instr};
+use st_calls::{FastAnswer, SysCall};
+use st_threads::CallWay;
+use st_trace::{CallArgs, CallResult, Cause, Change, Entry};
 use std::alloc::Global;
 
 /// What a thread does next.
@@ -30,6 +25,10 @@ pub enum Step {
     Fail(FailedCall),
     /// Its call is denied.
     Deny(DeniedCall),
+    /// It puts the script's policy with this number in force.
+    Reload(u32),
+    /// Its reload of the script's policy with this number is refused.
+    RefuseReload(u32),
 }
 
 /// A word that a thread stores, with an index in its process's memory.
@@ -45,6 +44,13 @@ pub struct NewCall {
     pub pid: Pid,
     pub call: SysCall,
     pub regs: [u64; 6],
+}
+
+/// How a new call goes on, and the kernel's own answer to it, which a barred call keeps.
+#[derive(Clone, Copy, Debug)]
+pub struct NewWay {
+    pub way: CallWay,
+    pub answer: FastAnswer,
 }
 
 /// How a call is made: by a thread of this process, with these arguments and under these ids. A held call has the drawing of its message.
@@ -146,32 +152,6 @@ impl DeniedCall {
             seq,
             errno,
             cause,
-        }
-    }
-}
-
-impl Step {
-    /// The next step of a thread of this process without a pending call, by its instructions left.
-    pub fn of_instructions(pid: Pid, left: &[Instr]) -> Self
-        ensures entry { (i : Input) (st : State) (t : ℕ) → next_instruction_entry i st t left.now ≡ step_entry i st t result }
-        ensures can { (parts : Parts) (t : ℕ) → IsInProcess parts t pid → CanBeDone parts t result }
-    {
-        match left {
-            [] => Step::End,
-            [Instr::Store(place, word), ..] => Step::Store(StoredWord {
-                place: *place,
-                word: *word,
-            }),
-            [Instr::Call(call, regs), ..] => Step::Enter(NewCall {
-                pid,
-                call: *call,
-                regs: *regs,
-            }),
-            [Instr::Fork(_), ..] => Step::Enter(NewCall {
-                pid,
-                call: SysCall::Fork,
-                regs: [0; 6],
-            }),
         }
     }
 }

@@ -1,5 +1,5 @@
 -- The machine after the operator's answer.
-use Rattle.std.proofs.Common.{◌≡◌, ◌∙◌, ◌++◌, ◌==◌, ℕ, suc, Bool, cond, Option, Some, None, refl, ap, sym, subst}
+use Rattle.std.proofs.Common.{◌≡◌, ◌∙◌, ◌++◌, ◌==◌, ℕ, suc, Bool, cond, List, Option, Some, None, refl, ap, sym, subst}
 use Rattle.std.proofs.lemmas.Bool.{eq-eqb}
 use Rattle.std.proofs.lemmas.Option.{none-some, same_Some}
 use Rattle.std.specs.Prelude.{if◌then◌else◌}
@@ -17,12 +17,12 @@ use Rattle.st_law.specs.declared.input.Mode.TheVariants.{Enforce, Learn, AskText
 use Rattle.st_law.specs.Machine.{entry_of, question_entry, reply_entry, state_after}
 use Rattle.st_law.specs.Messages.{Head}
 use Rattle.st_law.specs.Numbers.{renumbered}
-use Rattle.st_law.specs.Sessions.{learnt_by, replied_by}
+use Rattle.st_law.specs.Sessions.{learnt_by, replied_by, with_binaries}
 use Rattle.st_law.specs.State.{filter_count, next_reply, progress_of_message, snapshot_in, snapshot_of_message, snapshot_of_progress, snapshot_with, State}
 use Rattle.st_learn.specs.Answers.{Answers, AreAnswersIn, KeepsAll}
-use Rattle.st_learn.specs.Operator.{Added, IsAdded, IsAnsweredBy}
+use Rattle.st_learn.specs.Operator.{Added, IsAdded, IsAnsweredBy, KeepsAdded}
 use Rattle.st_learn.proofs.InForce.{answers_keep, answers_stand}
-use Rattle.st_learn.proofs.Replies.{added_stands}
+use Rattle.st_learn.proofs.Replies.{added_keep, added_stands}
 use Rattle.st_decide.specs.Machine.{Refines, RefinesSomeState, IsDrawnStep, Running, SameState}
 use Rattle.st_decide.specs.Questions.{IsLeastFound}
 use Rattle.st_decide.proofs.Reached.{reached_more}
@@ -51,10 +51,10 @@ operators i st q s e AskText is = by (next_reply i st s.policy s.rule) is where
 abbrev pub with_operator : Running → Added → Answers → Running
 with_operator m operator answers = record { input = m.input; system = m.system; workers = m.workers; threads = m.threads; answers = answers; operator = operator }
 
--- out of memory: calls are answered as before
-pub asked_in_vain : (m : Running) (answers : Answers) → KeepsAll m.answers answers → SameState m (with_operator m m.operator answers)
-asked_in_vain m answers kept st is = (stood, refl) where
-  stood : Refines (with_operator m m.operator answers) st
+-- out of memory: calls are answered as before, and what the operator has added is kept
+pub kept_in_vain : (m : Running) (operator : Added) (answers : Answers) → KeepsAdded m.operator operator → KeepsAll m.answers answers → SameState m (with_operator m operator answers)
+kept_in_vain m operator answers same kept st is = (stood, refl) where
+  stood : Refines (with_operator m operator answers) st
   stood = record {
     reached = is.reached;
     bounded = is.bounded;
@@ -65,8 +65,12 @@ asked_in_vain m answers kept st is = (stood, refl) where
     threads = is.threads;
     count = is.count;
     answers = answers_keep m.input st m.answers answers kept is.answers;
-    operator = is.operator;
+    operator = added_keep m.input st m.operator operator same is.operator;
   }
+
+-- the same, if the operator has added nothing
+pub asked_in_vain : (m : Running) (answers : Answers) → KeepsAll m.answers answers → SameState m (with_operator m m.operator answers)
+asked_in_vain m answers kept = kept_in_vain m m.operator answers (record { filters = refl; changed = refl; versions = λ binary. refl; replies = refl; left = refl }) kept
 
 module _ (m : Running) (st : State) (is : Refines m st) (new : Added) (answers : Answers) where
   on_by : (e : Entry) → IsOperators e → entry_of m.input st Operator ≡ Some e → IsAdded m.input (state_after m.input st e) new → AreAnswersIn m.input (state_after m.input st e) answers → Refines (with_operator m new answers) (state_after m.input st e)
@@ -116,6 +120,8 @@ as_numbered st q n = record st { messages = λ p. if p == n then st.messages q e
 pub record IsOfDrawing (i : Input) (st : State) (q : ℕ) (s : Snapshot) (mode : Mode) (workers : UnderWay) (given : Entry) : Type 0 where
   pub entry : question_entry i st q (drawn_copies q s) mode ≡ Some (at_drawing q given)
   pub session : (state_after i st (at_drawing q given)).session ≡ (state_after i (as_numbered st q s.seq) given).session
+  pub changed : (state_after i st (at_drawing q given)).changed ≡ (state_after i (as_numbered st q s.seq) given).changed
+  pub versions : (binary : List ℕ) → (state_after i st (at_drawing q given)).versions binary ≡ (state_after i (as_numbered st q s.seq) given).versions binary
   pub replied : (state_after i st (at_drawing q given)).replied ≡ (state_after i (as_numbered st q s.seq) given).replied
   pub numbered : IsNumbered (at_drawing q given) given workers
 
@@ -138,6 +144,8 @@ module _ (i : Input) (st : State) (q : ℕ) (s : Snapshot) (sealed : snapshot_in
     learned_is n is = record {
       entry = ap (λ (k : ℕ). Some (Learned q k)) (sym is);
       session = ap (λ (o : Option Snapshot). st.session ++ learnt_by o) sealed ∙ sym (ap (λ (o : Option Snapshot). st.session ++ learnt_by o) numbered_copies);
+      changed = ap (λ (o : Option Snapshot). with_binaries st.changed (learnt_by o)) sealed ∙ sym (ap (λ (o : Option Snapshot). with_binaries st.changed (learnt_by o)) numbered_copies);
+      versions = λ binary. refl;
       replied = refl;
       numbered = learned_has workers q s.seq has n;
     }
@@ -147,12 +155,19 @@ module _ (i : Input) (st : State) (q : ℕ) (s : Snapshot) (sealed : snapshot_in
       entry = ap (reply_entry i st q (drawn_copies q s)) next ∙ ap (λ (k : ℕ). Some (Replied q reply k)) (sym is);
       session = ap (λ (o : Option Snapshot). st.session ++ replied_by (item_at_number i.replies reply) o) sealed
           ∙ same_reply (item_at_number i.replies reply) ∙ sym (ap (λ (o : Option Snapshot). st.session ++ replied_by (item_at_number i.replies reply) o) numbered_copies);
+      changed = ap (λ (o : Option Snapshot). with_binaries st.changed (replied_by (item_at_number i.replies reply) o)) sealed
+          ∙ same_changed (item_at_number i.replies reply) ∙ sym (ap (λ (o : Option Snapshot). with_binaries st.changed (replied_by (item_at_number i.replies reply) o)) numbered_copies);
+      versions = λ binary. refl;
       replied = refl;
       numbered = replied_has workers q s.seq has reply n;
     } where
       same_reply : (o : Option Reply) → st.session ++ replied_by o (Some (drawn_copies q s)) ≡ st.session ++ replied_by o (Some s)
       same_reply None = refl
       same_reply (Some reply) = refl
+
+      same_changed : (o : Option Reply) → with_binaries st.changed (replied_by o (Some (drawn_copies q s))) ≡ with_binaries st.changed (replied_by o (Some s))
+      same_changed None = refl
+      same_changed (Some reply) = refl
 
     by_reply : (o : Option ℕ) → next_reply i st s.policy s.rule ≡ o → (given : Entry) → reply_entry i (as_numbered st q s.seq) s.seq s o ≡ Some given → IsOfDrawing i st q s AskText workers given
     by_reply None next given e = absurd (none-some given e)
@@ -171,7 +186,7 @@ module _ (m : Running) (new : Added) (answers : Answers) (q : ℕ) (copies : Sna
     numbered_state = as_numbered st q copies.seq
 
     step : (question_entry m.input numbered_state copies.seq copies m.input.options.mode ≡ Some given) × IsAdded m.input (state_after m.input numbered_state given) new × AreAnswersIn m.input (state_after m.input numbered_state given) answers
-    step = law numbered_state (added_stands m.input st numbered_state m.operator refl refl is.operator) (answers_stand m.input st numbered_state m.answers refl is.answers) (numbered_copies m.input st q copies (sealed st is))
+    step = law numbered_state (added_stands m.input st numbered_state m.operator refl refl (λ b. refl) refl is.operator) (answers_stand m.input st numbered_state m.answers refl (λ b. refl) is.answers) (numbered_copies m.input st q copies (sealed st is))
 
     its : IsOfDrawing m.input st q copies m.input.options.mode m.workers given
     its = its_entry m.input st q copies (sealed st is) m.workers has m.input.options.mode given step.0
@@ -183,8 +198,8 @@ module _ (m : Running) (new : Added) (answers : Answers) (q : ℕ) (copies : Sna
         let operates : IsOperators (at_drawing q given) = operators m.input st q (drawn_copies q copies) (at_drawing q given) m.input.options.mode its.entry in (
           adds,
           on_by m st is new answers (at_drawing q given) operates adds
-              (added_stands m.input (state_after m.input numbered_state given) (state_after m.input st (at_drawing q given)) new its.session its.replied step.1)
-              (answers_stand m.input (state_after m.input numbered_state given) (state_after m.input st (at_drawing q given)) answers its.session step.2),
+              (added_stands m.input (state_after m.input numbered_state given) (state_after m.input st (at_drawing q given)) new its.session its.changed its.versions its.replied step.1)
+              (answers_stand m.input (state_after m.input numbered_state given) (state_after m.input st (at_drawing q given)) answers its.session its.versions step.2),
           none_drawn m.workers (at_drawing q given) operates,
         )
 

@@ -31,7 +31,7 @@ module _ (i : Input) (system : Parts) (workers : UnderWay) (threads : List Threa
   rows t = subst (λ (o : Option ThreadRow). IsRowOf o (first_thread i t)) (sym (ap (λ (l : List ThreadRow). item_at_number l t) are ∙ item-map i.start.threads t)) (by (item_at_number i.start.threads t) refl) where
     by : (o : Option start.ThreadRow) → item_at_number i.start.threads t ≡ o → IsRowOf (option_map row_of o) (first_thread i t)
     by None e = tt
-    by (Some row) e = record { left = ap body_of_row e; pending = refl; number = λ q e. absurd (none-some q e); dying = refl; ended = refl }
+    by (Some row) e = record { left = ap body_of_row e; pending = refl; answer = λ entered n e w. absurd (none-some entered e); number = λ q e. absurd (none-some q e); dying = refl; ended = refl }
 
   pub begun : CanRun i → IsSystem i (first_state i) system → RepresentsMessages i (first_state i) (is_live (first_state i)) workers → AreAnswersIn i (first_state i) answers → IsAdded i (first_state i) operator
       → Refines (record { input = i; system = system; workers = workers; threads = threads; answers = answers; operator = operator }) (first_state i)

@@ -1,13 +1,11 @@
 -- A call that is made: the step of the machine, by what its end and the renewals of the other calls of its process leave.
-use Rattle.std.proofs.Common.{◌≡◌, ◌-◌, ◌++◌, ◌∙◌, ℕ, true, List, [], ◌∷◌, length, replicate, set, Some, None, refl, ap, sym, subst}
+use Rattle.std.proofs.Common.{◌≡◌, ◌-◌, ◌++◌, ◌∙◌, ℕ, true, List, [], ◌∷◌, set, Some, None, refl, ap, sym, subst}
 use Rattle.std.specs.Prelude.{IfSome, slice_index_or}
 use Rattle.st_base.specs.Numbered.{item_at_number}
 use Rattle.st_base.specs.declared.ids.Ids.{Ids}
 use Rattle.st_calls.specs.Call.{sets_ids}
-use Rattle.st_lookaside.specs.Need.{IsShort}
 use Rattle.st_messages.specs.Messages.{is_live_drawing}
 use Rattle.st_model.specs.Identity.{ids_after_set, set_refused}
-use Rattle.st_model.specs.Processes.{process_at}
 use Rattle.st_names.specs.Name.{Components}
 use Rattle.st_request.specs.declared.outcome.Outcome.{Outcome}
 use Rattle.st_system.specs.Steps.{IsCallMade}
@@ -17,23 +15,25 @@ use Rattle.st_trace.specs.declared.entry.Change.TheVariants.{SetIds}
 use Rattle.st_trace.specs.declared.entry.Choice.TheVariants.{Thread}
 use Rattle.st_trace.specs.declared.entry.Entry.TheVariants.{Used}
 use Rattle.st_threads.specs.Ending.{is_ended_by, HaveCalls, HaveEnded, EndsCall}
-use Rattle.st_threads.specs.Renewing.{drawings_from, renewals_from, AreNumberedFrom, HaveRenewed}
+use Rattle.st_threads.specs.Renewing.{calls_from, cwds_of, renewals_from, AreNumberedFrom, HaveRenewed}
+use Rattle.st_threads.specs.declared.renewing.RenewedCall.{RenewedCall}
 use Rattle.st_threads.specs.Thread.{ThreadRow}
 use Rattle.st_workers.specs.Numbers.{IsNumbered}
 use Rattle.st_workers.specs.UnderWay.{UnderWay}
-use Rattle.st_decide.specs.Machine.{RefinesSomeState, Running}
+use Rattle.st_law.specs.State.{State}
+use Rattle.st_decide.specs.Machine.{Refines, RefinesSomeState, Running}
 use Rattle.st_decide.specs.Making.{request_with}
 use Rattle.st_decide.specs.NextSteps.{CanStep}
 use Rattle.st_decide.specs.declared.step.ReadyCall.{ReadyCall}
 use Rattle.st_decide.specs.declared.step.Step.TheVariants as steps
 use Rattle.st_decide.proofs.FewCalls.{few_calls}
-use Rattle.st_machine.specs.Making.{CanRenewOthers, EndsMade, IsClosed, MakesCall, RenewsNone, RenewsOthers}
+use Rattle.st_machine.specs.Making.{others, CanRenewOthers, EndsMade, IsClosed, MakesCall, RenewsNone, RenewsOthers}
 use Rattle.st_machine.specs.declared.own_call.OwnCall.{OwnCall}
 use Rattle.st_machine.proofs.After.{with_parts}
 use Rattle.st_machine.proofs.EntryNumbers.{renewed_has, used_has}
 use Rattle.st_machine.proofs.MadeSteps.{calls_closed, drawing_there, made_mute, making}
 use Rattle.st_machine.proofs.Moving.{row_making}
-use Rattle.st_machine.proofs.RenewedSteps.{can_set, copies_set, cwd_set, low_set, numbers_set, own_set, room_set, setting, there_set}
+use Rattle.st_machine.proofs.RenewedSteps.{calls_set, can_set, copies_set, low_set, own_set, room_set, setting}
 use Rattle.st_machine.proofs.Served.{running_step}
 
 -- a call that a thread makes, as its own call
@@ -66,29 +66,30 @@ module _ (m : Running) (run : RefinesSomeState m) (t : ℕ) (ready : ReadyCall) 
 
     -- a call that sets ids
     module _ (sets : sets_ids ready.call ≡ true) (given : Ids) (well : set_refused ready.call ready.ids (slice_index_or ready.regs 0 0) ≡ None) (given_is : ids_after_set ready.call ready.ids (slice_index_or ready.regs 0 0) ≡ given) where
-      pub set_so : (changes : List Change) → RenewsOthers parts.processes (own_call t ready) m.threads m.workers rows left
-          → ((closed : List ThreadRow) → IsClosed m.threads t closed → (numbered : List Change) × (changes ≡ (SetIds given ∷ []) ++ numbered) × AreNumberedFrom m.workers (renewals_from m.workers.calls.next (drawings_from parts.processes ready.pid t 1 closed)) numbered)
+      pub set_so : (version : ℕ) → ((st : State) → Refines m st → version ≡ st.versions (st.processes ready.pid).policy) → (changes : List Change) → RenewsOthers parts.processes (own_call t ready) version m.threads m.workers rows left
+          → ((closed : List ThreadRow) → IsClosed m.threads t closed → (numbered : List Change) × (changes ≡ (SetIds given ∷ []) ++ numbered) × AreNumberedFrom m.workers (renewals_from m.workers.calls.next (calls_from (others parts.processes (own_call t ready)) 1 closed)) numbered)
           → MakesCall m t ready (record { result = outcome.result; changes = changes }) (with_parts m parts left rows)
-      set_so changes renews numbered =
+      set_so version version_is changes renews numbered =
           let closed = renews.2 in
-          let all : List ℕ = drawings_from m.system.processes ready.pid t 1 m.threads in
-          let have = subst (λ (shut : List ThreadRow). HaveRenewed parts.processes ready.pid t shut m.workers rows renews.1) closed.2 renews.3 in
+          let all : List RenewedCall = calls_from (others m.system.processes (own_call t ready)) 1 m.threads in
+          let have = subst (λ (shut : List ThreadRow). HaveRenewed parts.processes (others parts.processes (own_call t ready)) version shut m.workers rows renews.1) closed.2 renews.3 in
           let new = numbered renews.0 closed in
-          let drawn : AreNumberedFrom m.workers (renewals_from m.workers.calls.next all) new.0 = subst (λ (numbers : List ℕ). AreNumberedFrom m.workers (renewals_from m.workers.calls.next numbers) new.0)
-          (ap (drawings_from parts.processes ready.pid t 1) closed.2 ∙ numbers_set m t ready can closed.0 closed.1 sets outcome parts done given well given_is run.state run.is) new.2 in (
+          let drawn : AreNumberedFrom m.workers (renewals_from m.workers.calls.next all) new.0 = subst (λ (calls : List RenewedCall). AreNumberedFrom m.workers (renewals_from m.workers.calls.next calls) new.0)
+          (ap (calls_from (others parts.processes (own_call t ready)) 1) closed.2 ∙ calls_set m t ready can closed.0 closed.1 sets outcome parts done given well given_is run.state run.is) new.2 in (
             SetIds given ∷ renewals_from m.workers.calls.next all,
-            setting m t ready can closed.0 closed.1 sets outcome parts done given well given_is renews.1 left rows have renews.4 renews.5,
+            setting m t ready can closed.0 closed.1 sets outcome parts done given well given_is version version_is renews.1 left rows have renews.4 renews.5,
             (λ seq is. subst (λ (cs : List Change). IsNumbered (Used t ready.drawing ready.call ready.regs ready.args ready.ids outcome.result (SetIds given ∷ renewals_from m.workers.calls.next all)) (Used t seq ready.call ready.regs ready.args ready.ids outcome.result cs) m.workers) (sym new.1)
                 (renewed_has m.workers ready.drawing seq call_lives is t ready.call ready.regs ready.args ready.ids outcome.result given all m.workers.calls.next new.0
                 (low_set m t ready can closed.0 closed.1 sets outcome parts done given well given_is run.state run.is) drawn)),
           )
 
-  -- the other held calls can be renewed after it is made, with as many copies of the directory as they need
+  -- the other held calls can be renewed after it is made, with the copies of directories that were made
   pub others_can : (outcome : Outcome) (parts : Parts) → IsCallMade ready.call (request_with m t ready) outcome m.system parts → sets_ids ready.call ≡ true
       → (given : Ids) → set_refused ready.call ready.ids (slice_index_or ready.regs 0 0) ≡ None → ids_after_set ready.call ready.ids (slice_index_or ready.regs 0 0) ≡ given
-      → (cwds : List Components) → cwds ≡ replicate (length (drawings_from m.system.processes ready.pid t 1 m.threads)) (process_at m.system.processes ready.pid).cwd → IsShort (process_at m.system.processes ready.pid).cwd
-      → (closed : List ThreadRow) × IsClosed m.threads t closed × CanRenewOthers parts.processes (own_call t ready) closed m.workers cwds
-  others_can outcome parts done sets given well given_is cwds copied short =
+      → (version : ℕ) → ((st : State) → Refines m st → version ≡ st.versions (st.processes ready.pid).policy)
+      → (cwds : List Components) → cwds ≡ cwds_of m.system.processes (calls_from (others m.system.processes (own_call t ready)) 1 m.threads)
+      → (closed : List ThreadRow) × IsClosed m.threads t closed × CanRenewOthers parts.processes (own_call t ready) version closed m.workers cwds
+  others_can outcome parts done sets given well given_is version version_is cwds copied =
       let row = call_there.0 in
       let row_is = call_there.1 in
       let st = run.state in
@@ -96,13 +97,11 @@ module _ (m : Running) (run : RefinesSomeState m) (t : ℕ) (ready : ReadyCall) 
         set m.threads (t - 1) (record row { pending = None }),
         (row, row_is, refl),
         record {
-          there = there_set m t ready can row row_is sets outcome parts done given well given_is st is;
           calls = can_set m t ready can row row_is sets outcome parts done given well given_is st is;
           room = room_set m t ready can row row_is sets outcome parts done given well given_is st is;
           few = few_calls m st is;
           copies = copied ∙ copies_set m t ready can row row_is sets outcome parts done given well given_is st is;
-          short = subst IsShort (cwd_set m t ready can row row_is sets outcome parts done given well given_is st is) short;
-          lives = λ new between have. own_set m t ready can row row_is sets outcome parts done given well given_is between new have st is;
+          lives = λ new between have. own_set m t ready can row row_is sets outcome parts done given well given_is version version_is between new have st is;
         },
       )
 

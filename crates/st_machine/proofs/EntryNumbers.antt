@@ -1,5 +1,5 @@
 -- Each entry of the machine has the numbers that the law gives its drawings.
-use Rattle.std.proofs.Common.{◌≡◌, ◌∙◌, ◌<◌, ℕ, arith, Bool, true, cond, List, [], ◌∷◌, map, Option, Some, None, refl, ap, sym, true≢false}
+use Rattle.std.proofs.Common.{◌≡◌, ◌∙◌, ◌<◌, ℕ, arith, Bool, true, false, cond, List, [], ◌∷◌, map, Option, Some, None, refl, ap, sym, true≢false}
 use Rattle.std.proofs.lemmas.Bool.{eq-eqb}
 use Rattle.std.specs.List.{fold}
 use Rattle.std.specs.Option.{option_map}
@@ -17,7 +17,7 @@ use Rattle.st_trace.specs.declared.entry.CallResult.{CallResult}
 use Rattle.st_trace.specs.declared.entry.Cause.{Cause}
 use Rattle.st_trace.specs.declared.entry.Change.{Change}
 use Rattle.st_trace.specs.declared.entry.Change.TheVariants.{Renewed, SetIds}
-use Rattle.st_trace.specs.declared.entry.Entry.TheVariants.{Answered, Claimed, Copied, Denied, Entered, Faulted, Learned, Looked, Replied, Used}
+use Rattle.st_trace.specs.declared.entry.Entry.TheVariants.{Answered, Claimed, Copied, Denied, Entered, Faulted, Learned, Looked, Reloaded, Replied, Used}
 use Rattle.st_trace.specs.declared.entry.Way.{Way}
 use Rattle.st_trace.specs.declared.entry.Way.TheVariants.{Barred, Fast, Held, Untraced}
 use Rattle.st_decide.specs.Entering.{IsUnposted}
@@ -29,6 +29,7 @@ use Rattle.st_workers.specs.UnderWay.{UnderWay}
 use Rattle.st_workers.proofs.Carried.{draws_next}
 use Rattle.st_workers.proofs.Numbered.{live_has_seq}
 use Rattle.st_threads.specs.Renewing.{renewals_from, AreNumberedFrom}
+use Rattle.st_threads.specs.declared.renewing.RenewedCall.{RenewedCall}
 use Rattle.st_threads.proofs.Renewed.{later_same}
 use Rattle.st_machine.proofs.MadeSteps.{numbers_mute}
 
@@ -100,12 +101,21 @@ module _ (workers : UnderWay) (drawing seq : Option ℕ) (live : IfSome drawing 
         (λ k. Used t ((is ∙ seqs_are workers.calls numbers has drawing live) k) call regs args ids result (mute_changes numbers.number_of changes mute k))
         ∙ (λ k. Used t (option_map (sym same k).number_of drawing) call regs args ids result (map (numbered_change (sym same k).number_of) changes))
 
-    later_if : (ready : ℕ → Bool) (ns : List ℕ) (next : ℕ) (numbers : Numbers) (o : Option ℕ) → IfSome o (λ q. q < next) → option_map numbers.number_of o ≡ option_map (fold (numbers_after_change largest_number ready) numbers (renewals_from next ns)).number_of o
+    later_if : (ready : ℕ → Bool) (ns : List RenewedCall) (next : ℕ) (numbers : Numbers) (o : Option ℕ) → IfSome o (λ q. q < next) → option_map numbers.number_of o ≡ option_map (fold (numbers_after_change largest_number ready) numbers (renewals_from next ns)).number_of o
     later_if ready ns next numbers None low = refl
     later_if ready ns next numbers (Some q) low = ap Some (sym (later_same ready ns next q low numbers))
 
-    -- a call that sets ids, and renews the held calls of these drawings
-    pub renewed_has : (given : Ids) (ns : List ℕ) (next : ℕ) (changes : List Change) → IfSome drawing (λ q. q < next) → AreNumberedFrom workers (renewals_from next ns) changes
+    -- a call that sets ids, and renews these held calls
+    pub renewed_has : (given : Ids) (ns : List RenewedCall) (next : ℕ) (changes : List Change) → IfSome drawing (λ q. q < next) → AreNumberedFrom workers (renewals_from next ns) changes
         → IsNumbered (Used t drawing call regs args ids result (SetIds given ∷ renewals_from next ns)) (Used t seq call regs args ids result (SetIds given ∷ changes)) workers
     renewed_has given ns next changes low numbered = λ ready are numbers has. λ k.
         Used t ((is ∙ seqs_are workers.calls numbers has drawing live ∙ later_if ready ns next numbers drawing low) k) call regs args ids result (SetIds given ∷ numbered ready are numbers has k)
+
+-- a reload, and the renewals that it makes
+pub reloaded_has : (workers : UnderWay) (t n next : ℕ) (calls : List RenewedCall) (changes : List Change) → AreNumberedFrom workers (renewals_from next calls) changes
+    → IsNumbered (Reloaded t n true (renewals_from next calls)) (Reloaded t n true changes) workers
+reloaded_has workers t n next calls changes numbered = λ ready are numbers has. ap (Reloaded t n true) (numbered ready are numbers has)
+
+-- a reload that is refused
+pub refused_has : (workers : UnderWay) (t n : ℕ) → IsNumbered (Reloaded t n false []) (Reloaded t n false []) workers
+refused_has workers t n = λ ready are numbers has. refl

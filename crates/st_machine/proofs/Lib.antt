@@ -10,6 +10,8 @@ mod Made
 mod MadeSteps
 mod Moving
 mod OwnCall
+mod ReloadedSteps
+mod Renewals
 mod RenewedSteps
 mod Room
 mod Running

@@ -17,7 +17,7 @@ use Rattle.st_law.specs.declared.input.Input.{Input}
 use Rattle.st_law.specs.Inputs as inputs
 use Rattle.st_law.specs.Lawful.{IsUnheld, IsPending, IsUsed}
 use Rattle.st_law.specs.Machine.{entry_of, state_after, thread_after}
-use Rattle.st_law.specs.Messages.{Head}
+use Rattle.st_law.specs.Messages.{Head, renewed_head}
 use Rattle.st_law.specs.State.{State, child_of_pending, is_live, is_live_by, request_of, system_of}
 use Rattle.st_law.specs.Threads.{PendingCall}
 use Rattle.st_law.proofs.Invariant as invariant
@@ -269,7 +269,7 @@ module _ (m : Running) (st : State) (is : Refines m st) (t : ℕ) (ready : Ready
 
     -- ---- the rows
 
-    module _ (u : ℕ) (there : u ≢ 0) (r : ThreadRow) (left : (st.threads u).left ≡ r.left) (pending : cond (t == u) None (st.threads u).pending ≡ r.pending) (number : (q : ℕ) → drawing_held r ≡ Some q → (st.threads u).number ≡ q)
+    module _ (u : ℕ) (there : u ≢ 0) (r : ThreadRow) (left : (st.threads u).left ≡ r.left) (pending : cond (t == u) None (st.threads u).pending ≡ r.pending) (answer : (entered : PendingCall) (n : ℕ) → r.pending ≡ Some entered → entered.way ≡ Barred n → (st.threads u).answer ≡ r.answer) (number : (q : ℕ) → drawing_held r ≡ Some q → (st.threads u).number ≡ q)
         (dying : (st.threads u).dying ≡ r.dying) (over : (st.threads u).ended ≡ r.ended) where
       always : (b : Bool) → (b || true) ≡ true
       always true = refl
@@ -279,10 +279,11 @@ module _ (m : Running) (st : State) (is : Refines m st) (t : ℕ) (ready : Ready
       never true = refl
       never false = refl
 
-      row_later : (d : Bool) → ended u ≡ d → IsRow (row_dying_if d r) (thread_after st entry u)
+      row_later : (d : Bool) → ended u ≡ d → IsRow (row_dying_if d r) (thread_after input st entry u)
       row_later true e = record {
         left = left;
         pending = pending;
+        answer = answer;
         number = λ q has. absurd (none-some q (sym (none_dying (record r { dying = true }) refl) ∙ has));
         dying = ends.dying u there (st.threads u).dying ∙ ap (λ (b : Bool). (st.threads u).dying || b) e ∙ always (st.threads u).dying;
         ended = over;
@@ -290,6 +291,7 @@ module _ (m : Running) (st : State) (is : Refines m st) (t : ℕ) (ready : Ready
       row_later false e = record {
         left = left;
         pending = pending;
+        answer = answer;
         number = λ q has. seq_mute (st.threads u).number changes ends.mute ∙ number q has;
         dying = ends.dying u there (st.threads u).dying ∙ ap (λ (b : Bool). (st.threads u).dying || b) e ∙ never (st.threads u).dying ∙ dying;
         ended = over;
@@ -298,7 +300,7 @@ module _ (m : Running) (st : State) (is : Refines m st) (t : ℕ) (ready : Ready
     not_none : (rows : List ThreadRow) (u : ℕ) (r : ThreadRow) → item_at_number rows u ≡ Some r → u ≢ 0
     not_none rows u r e none = let from = (number_within rows u r e).0 in omega (arith, from, none)
 
-    row_then : (u : ℕ) (o : Option ThreadRow) → item_at_number closed u ≡ o → IsRowOf (option_map (λ (r : ThreadRow). row_dying_if (ended u) r) o) (thread_after st entry u)
+    row_then : (u : ℕ) (o : Option ThreadRow) → item_at_number closed u ≡ o → IsRowOf (option_map (λ (r : ThreadRow). row_dying_if (ended u) r) o) (thread_after input st entry u)
     row_then u None e = tt
     row_then u (Some r) e =
         let within = number_within m.threads t row row_is in
@@ -307,13 +309,13 @@ module _ (m : Running) (st : State) (is : Refines m st) (t : ℕ) (ready : Ready
         elim (cases_eq u t) [
           | inl same ↦
               let r_is : record row { pending = None } ≡ r = same_Some (record row { pending = None }) r (sym (at ∙ ap (λ (b : Bool). cond b (Some (record row { pending = None })) (item_at_number m.threads u)) (eq-eqb u t same)) ∙ e) in
-              subst (λ (r : ThreadRow). IsRow (row_dying_if (ended u) r) (thread_after st entry u)) r_is
+              subst (λ (r : ThreadRow). IsRow (row_dying_if (ended u) r) (thread_after input st entry u)) r_is
               (row_later u (not_none closed u r e) (record row { pending = None }) (ap (λ (n : ℕ). (st.threads n).left) same ∙ its.left) (ap (λ (b : Bool). cond b None (st.threads u).pending) (eq-eqb t u (sym same)))
-              (λ q has. absurd (none-some q (sym (none_closed row) ∙ has))) (ap (λ (n : ℕ). (st.threads n).dying) same ∙ its.dying) (ap (λ (n : ℕ). (st.threads n).ended) same ∙ its.ended) (ended u) refl)
+              (λ entered n e w. absurd (none-some entered e)) (λ q has. absurd (none-some q (sym (none_closed row) ∙ has))) (ap (λ (n : ℕ). (st.threads n).dying) same ∙ its.dying) (ap (λ (n : ℕ). (st.threads n).ended) same ∙ its.ended) (ended u) refl)
           | inr ne ↦
               let was : item_at_number m.threads u ≡ Some r = sym (at ∙ ap (λ (b : Bool). cond b (Some (record row { pending = None })) (item_at_number m.threads u)) (ne_eqb u t ne)) ∙ e in
               let r_its : IsRow r (st.threads u) = row_of m st is u r was in
-              row_later u (not_none closed u r e) r r_its.left (ap (λ (b : Bool). cond b None (st.threads u).pending) (ne_eqb t u (λ x. ne (sym x))) ∙ r_its.pending) r_its.number r_its.dying r_its.ended (ended u) refl
+              row_later u (not_none closed u r e) r r_its.left (ap (λ (b : Bool). cond b None (st.threads u).pending) (ne_eqb t u (λ x. ne (sym x))) ∙ r_its.pending) r_its.answer r_its.number r_its.dying r_its.ended (ended u) refl
         ]
 
     -- ---- the machine that runs
@@ -324,11 +326,11 @@ module _ (m : Running) (st : State) (is : Refines m st) (t : ℕ) (ready : Ready
         let lives : later ≡ life_but ended st alive = λ k other. (life_is input st (reached_of input st is.reached) t ready.drawing ready.call ready.regs ready.args ready.ids outcome.result changes law other ∙ ends.life other) k in
         let kept : RepresentsMessages input st later left = subst (λ (life : ℕ → Bool). RepresentsMessages input st life left) (sym lives) (over.kept input st alive (closes input st (is_live st) is.workers) are_closed) in
         let messages : (q : ℕ) → (state_after input st entry).messages q ≡ record (st.messages q) { closed = ((state_after input st entry).messages q).closed } =
-        λ q k. record ((state_after input st entry).messages q) { head = head_mute (λ p. (st.messages p).head) (process_after st.processes (st.threads t).owner (st.threads t).owner changes) q changes ends.mute k } in
+        λ q k. record ((state_after input st entry).messages q) { head = head_mute (λ p. (st.messages p).head) (renewed_head (λ p. process_after st.processes (st.threads t).owner p changes) st.versions) q changes ends.mute k } in
         let posted : (state_after input st entry).posted ≡ st.posted = posted_mute st.posted changes ends.mute in
-        following m st is (choice.Thread t) entry entry_is refl refl parts left new is_system
+        following m st is (choice.Thread t) entry entry_is refl refl (λ b. refl) refl parts left new is_system
         (subst (λ (n : ℕ). RepresentsMachineMessages input (state_after input st entry).messages st.turns later n left) (sym posted) (closing_is_not_kept input st.messages (state_after input st entry).messages st.turns later st.posted left kept messages))
-        (λ u. subst (λ (o : Option ThreadRow). IsRowOf o (thread_after st entry u)) (sym (over.rows u)) (row_then u (item_at_number closed u) refl))
+        (λ u. subst (λ (o : Option ThreadRow). IsRowOf o (thread_after input st entry u)) (sym (over.rows u)) (row_then u (item_at_number closed u) refl))
         (over.count ∙ length-set m.threads (t - 1) _)
 
     -- the call draws no number

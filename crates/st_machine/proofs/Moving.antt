@@ -65,10 +65,10 @@ module _ (m : Running) (t : ℕ) (next : IsNextStep m t steps.End) where
       → IsDrawnStep m (choice.Thread t) (Ended t) (with_parts m system m.workers (set m.threads (t - 1) (record row { ended = true })))
   ended_step system row row_is moves st is =
       let its : IsRow row (st.threads t) = row_of m st is t row row_is in
-      let rows = rows_changed m.threads st.threads (thread_after st (Ended t)) t row (record row { ended = true }) row_is
-      (λ u ne. record { left = refl; pending = refl; number = refl; dying = refl; ended = ap (λ (b : Bool). b || (st.threads u).ended) (ne_eqb t u (λ e. ne (sym e))) })
-      (record { left = its.left; pending = its.pending; number = its.number; dying = its.dying; ended = ap (λ (b : Bool). b || (st.threads t).ended) (eq-eqb t t refl) }) is.threads in
-      (next st is, following m st is (choice.Thread t) (Ended t) (next st is) refl refl system m.workers (set m.threads (t - 1) (record row { ended = true })) (moves m.input st is.system) is.workers rows (length-set m.threads (t - 1) _), (λ ready are numbers has. (numbers.in_use, has)))
+      let rows = rows_changed m.threads st.threads (thread_after m.input st (Ended t)) t row (record row { ended = true }) row_is
+      (λ u ne. record { left = refl; pending = refl; answer = refl; number = refl; dying = refl; ended = ap (λ (b : Bool). b || (st.threads u).ended) (ne_eqb t u (λ e. ne (sym e))) })
+      (record { left = its.left; pending = its.pending; answer = its.answer; number = its.number; dying = its.dying; ended = ap (λ (b : Bool). b || (st.threads t).ended) (eq-eqb t t refl) }) is.threads in
+      (next st is, following m st is (choice.Thread t) (Ended t) (next st is) refl refl (λ b. refl) refl system m.workers (set m.threads (t - 1) (record row { ended = true })) (moves m.input st is.system) is.workers rows (length-set m.threads (t - 1) _), (λ ready are numbers has. (numbers.in_use, has)))
 
 -- ---- a thread stores a word
 
@@ -112,17 +112,17 @@ module _ (m : Running) (t : ℕ) (stored : StoredWord) (next : IsNextStep m t (s
       → IsDrawnStep m (choice.Thread t) (Stored t stored.place stored.word) (with_parts m system m.workers (set m.threads (t - 1) (record row { left = drop 1 row.left })))
   stored_step system row row_is moves st is =
       let its : IsRow row (st.threads t) = row_of m st is t row row_is in
-      let rows = rows_changed m.threads st.threads (thread_after st (Stored t stored.place stored.word)) t row (record row { left = drop 1 row.left }) row_is
-      (λ u ne. record { left = ap (λ (b : Bool). cond b (drop 1 (st.threads u).left) (st.threads u).left) (ne_eqb t u (λ e. ne (sym e))); pending = refl; number = refl; dying = refl; ended = refl })
-      (record { left = ap (λ (b : Bool). cond b (drop 1 (st.threads t).left) (st.threads t).left) (eq-eqb t t refl) ∙ ap (drop 1) its.left; pending = its.pending; number = its.number; dying = its.dying; ended = its.ended }) is.threads in
-      (next st is, following m st is (choice.Thread t) (Stored t stored.place stored.word) (next st is) refl refl system m.workers (set m.threads (t - 1) (record row { left = drop 1 row.left })) (moves m.input st is.system) is.workers rows (length-set m.threads (t - 1) _), (λ ready are numbers has. (numbers.in_use, has)))
+      let rows = rows_changed m.threads st.threads (thread_after m.input st (Stored t stored.place stored.word)) t row (record row { left = drop 1 row.left }) row_is
+      (λ u ne. record { left = ap (λ (b : Bool). cond b (drop 1 (st.threads u).left) (st.threads u).left) (ne_eqb t u (λ e. ne (sym e))); pending = refl; answer = refl; number = refl; dying = refl; ended = refl })
+      (record { left = ap (λ (b : Bool). cond b (drop 1 (st.threads t).left) (st.threads t).left) (eq-eqb t t refl) ∙ ap (drop 1) its.left; pending = its.pending; answer = its.answer; number = its.number; dying = its.dying; ended = its.ended }) is.threads in
+      (next st is, following m st is (choice.Thread t) (Stored t stored.place stored.word) (next st is) refl refl (λ b. refl) refl system m.workers (set m.threads (t - 1) (record row { left = drop 1 row.left })) (moves m.input st is.system) is.workers rows (length-set m.threads (t - 1) _), (λ ready are numbers has. (numbers.in_use, has)))
 
 -- ---- a call is over
 
 -- the rows after a thread's call was made or denied
-closed_rows : (m : Running) (st : State) → Refines m st → (t : ℕ) (row : ThreadRow) → item_at_number m.threads t ≡ Some row → (e : Entry) → ((u : ℕ) → u ≢ t → HasComeAsFar (st.threads u) (thread_after st e u))
-    → IsRow (record row { pending = None }) (thread_after st e t) → AreRows (set m.threads (t - 1) (record row { pending = None })) (thread_after st e)
-closed_rows m st is t row row_is e others own = rows_changed m.threads st.threads (thread_after st e) t row (record row { pending = None }) row_is others own is.threads
+closed_rows : (m : Running) (st : State) → Refines m st → (t : ℕ) (row : ThreadRow) → item_at_number m.threads t ≡ Some row → (e : Entry) → ((u : ℕ) → u ≢ t → HasComeAsFar (st.threads u) (thread_after m.input st e u))
+    → IsRow (record row { pending = None }) (thread_after m.input st e t) → AreRows (set m.threads (t - 1) (record row { pending = None })) (thread_after m.input st e)
+closed_rows m st is t row row_is e others own = rows_changed m.threads st.threads (thread_after m.input st e) t row (record row { pending = None }) row_is others own is.threads
 
 -- the entry of a call that fails before it is made
 abbrev pub entry_failed : ℕ → FailedCall → Entry
@@ -136,22 +136,22 @@ module _ (m : Running) (t : ℕ) (call : FailedCall) (next : IsNextStep m t (ste
   failed_step row row_is st is =
       let its : IsRow row (st.threads t) = row_of m st is t row row_is in
       let rows = closed_rows m st is t row row_is failed
-      (λ u ne. record { left = refl; pending = ap (λ (b : Bool). cond b None (st.threads u).pending) (ne_eqb t u (λ e. ne (sym e))); number = refl; dying = refl; ended = refl })
-      (record { left = its.left; pending = ap (λ (b : Bool). cond b None (st.threads t).pending) (eq-eqb t t refl); number = λ q e. absurd (none-some q (sym (none_closed row) ∙ e)); dying = its.dying; ended = its.ended }) in (
+      (λ u ne. record { left = refl; pending = ap (λ (b : Bool). cond b None (st.threads u).pending) (ne_eqb t u (λ e. ne (sym e))); answer = refl; number = refl; dying = refl; ended = refl })
+      (record { left = its.left; pending = ap (λ (b : Bool). cond b None (st.threads t).pending) (eq-eqb t t refl); answer = λ entered n e w. absurd (none-some entered e); number = λ q e. absurd (none-some q (sym (none_closed row) ∙ e)); dying = its.dying; ended = its.ended }) in (
         next st is,
-        following m st is (choice.Thread t) failed (next st is) refl refl m.system m.workers (set m.threads (t - 1) (record row { pending = None }))
+        following m st is (choice.Thread t) failed (next st is) refl refl (λ b. refl) refl m.system m.workers (set m.threads (t - 1) (record row { pending = None }))
             (same_system m.input st (state_after m.input st failed) m.system refl refl refl refl refl refl (λ u. refl) (λ u. refl) is.system) is.workers rows (length-set m.threads (t - 1) _),
         (λ ready are numbers has. (numbers.in_use, has)),
       )
 
 -- ---- a call is denied
 
-denied_rows : (m : Running) (st : State) → Refines m st → (t : ℕ) (drawing : Option ℕ) (errno : Errno) (why : Cause) (row : ThreadRow) → item_at_number m.threads t ≡ Some row → AreRows (set m.threads (t - 1) (record row { pending = None })) (thread_after st (Denied t drawing errno why))
+denied_rows : (m : Running) (st : State) → Refines m st → (t : ℕ) (drawing : Option ℕ) (errno : Errno) (why : Cause) (row : ThreadRow) → item_at_number m.threads t ≡ Some row → AreRows (set m.threads (t - 1) (record row { pending = None })) (thread_after m.input st (Denied t drawing errno why))
 denied_rows m st is t drawing errno why row row_is =
     let its : IsRow row (st.threads t) = row_of m st is t row row_is in
     closed_rows m st is t row row_is (Denied t drawing errno why)
-    (λ u ne. record { left = refl; pending = ap (λ (b : Bool). cond b None (st.threads u).pending) (ne_eqb t u (λ e. ne (sym e))); number = refl; dying = refl; ended = refl })
-    (record { left = its.left; pending = ap (λ (b : Bool). cond b None (st.threads t).pending) (eq-eqb t t refl); number = λ q e. absurd (none-some q (sym (none_closed row) ∙ e)); dying = its.dying; ended = its.ended })
+    (λ u ne. record { left = refl; pending = ap (λ (b : Bool). cond b None (st.threads u).pending) (ne_eqb t u (λ e. ne (sym e))); answer = refl; number = refl; dying = refl; ended = refl })
+    (record { left = its.left; pending = ap (λ (b : Bool). cond b None (st.threads t).pending) (eq-eqb t t refl); answer = λ entered n e w. absurd (none-some entered e); number = λ q e. absurd (none-some q (sym (none_closed row) ∙ e)); dying = its.dying; ended = its.ended })
 
 module _ (m : Running) (t : ℕ) (errno : Errno) (why : Cause) where
   -- a thread's call is denied next, under this number if it is held
@@ -168,7 +168,7 @@ module _ (m : Running) (t : ℕ) (errno : Errno) (why : Cause) where
       → IsDrawnStep m (choice.Thread t) (Denied t drawing errno why) (with_parts m m.system workers (set m.threads (t - 1) (record row { pending = None })))
   denied_step None next workers row row_is ends fewer st is = (
     next st is,
-    following m st is (choice.Thread t) (Denied t None errno why) (next st is) refl refl m.system workers (set m.threads (t - 1) (record row { pending = None }))
+    following m st is (choice.Thread t) (Denied t None errno why) (next st is) refl refl (λ b. refl) refl m.system workers (set m.threads (t - 1) (record row { pending = None }))
         (same_system m.input st (state_after m.input st (Denied t None errno why)) m.system refl refl refl refl refl refl (λ u. refl) (λ u. refl) is.system) (ends m.input st (is_live st) is.workers)
         (denied_rows m st is t None errno why row row_is) (length-set m.threads (t - 1) _),
     (λ ready are. fewer),
@@ -179,7 +179,7 @@ module _ (m : Running) (t : ℕ) (errno : Errno) (why : Cause) where
       let lives : later ≡ life_without_number (is_live st) (Some q) = λ k other. (denied_life m.input st t q errno why other ∙ ap (λ (b : Bool). cond b false (is_live st other)) (eqb-sym other q)) k in
       let kept : RepresentsMessages m.input st later workers = subst (λ (life : ℕ → Bool). RepresentsMessages m.input st life workers) (sym lives) (ends m.input st (is_live st) is.workers) in (
         next st is,
-        following m st is (choice.Thread t) e (next st is) refl refl m.system workers (set m.threads (t - 1) (record row { pending = None }))
+        following m st is (choice.Thread t) e (next st is) refl refl (λ b. refl) refl m.system workers (set m.threads (t - 1) (record row { pending = None }))
             (same_system m.input st (state_after m.input st e) m.system refl refl refl refl refl refl (λ u. refl) (λ u. refl) is.system)
             (closing_is_not_kept m.input st.messages (state_after m.input st e).messages st.turns later st.posted workers kept (λ p. refl)) (denied_rows m st is t (Some q) errno why row row_is) (length-set m.threads (t - 1) _),
         (λ ready are. fewer),
@@ -214,3 +214,7 @@ row_entering m run t call next = row_there m run.state run.is t (started_of m.in
 -- a thread that makes a call has a row
 pub row_making : (m : Running) → RefinesSomeState m → (t : ℕ) (ready : ReadyCall) → IsNextStep m t (steps.Make ready) → (row : ThreadRow) × (item_at_number m.threads t ≡ Some row)
 row_making m run t ready next = row_there m run.state run.is t (started_of m.input run.state t _ (next run.state run.is))
+
+-- a thread that reloads a policy has a row
+pub row_reloading : (m : Running) → RefinesSomeState m → (t n : ℕ) → IsNextStep m t (steps.Reload n) → (row : ThreadRow) × (item_at_number m.threads t ≡ Some row)
+row_reloading m run t n next = row_there m run.state run.is t (started_of m.input run.state t _ (next run.state run.is))

@@ -9,31 +9,32 @@ use Rattle.st_trace.specs.declared.entry.Change.TheVariants.{Renewed}
 use Rattle.st_threads.specs.Ending.{life_without_number}
 use Rattle.st_threads.specs.Renewing.{AreLiveAndDistinct, AreOthers, renewals_from}
 use Rattle.st_threads.specs.Thread.{ThreadRow}
+use Rattle.st_threads.specs.declared.renewing.RenewedCall.{RenewedCall}
 use Rattle.st_workers.proofs.Turns.{read_is}
 use Rattle.st_machine.specs.Making.{IsClosed}
 
--- numbers that are live by one test are live by another
-pub more_live : (a b : ℕ → Bool) → ((q : ℕ) → a q ≡ true → b q ≡ true) → (numbers : List ℕ) → AreLiveAndDistinct a numbers → AreLiveAndDistinct b numbers
+-- calls that are live by one test are live by another
+pub more_live : (a b : ℕ → Bool) → ((q : ℕ) → a q ≡ true → b q ≡ true) → (calls : List RenewedCall) → AreLiveAndDistinct a calls → AreLiveAndDistinct b calls
 more_live a b more [] live = tt
-more_live a b more (q ∷ numbers) live = (more q live.0, live.1, more_live a b more numbers live.2)
+more_live a b more (call ∷ calls) live = (more call.drawing live.0, live.1, more_live a b more calls live.2)
 
--- a number that isn't live is none of these
-pub none_of_live : (alive : ℕ → Bool) (q : ℕ) → alive q ≡ false → (numbers : List ℕ) → AreLiveAndDistinct alive numbers → AreOthers q numbers
+-- a drawing that isn't live is none of these calls'
+pub none_of_live : (alive : ℕ → Bool) (q : ℕ) → alive q ≡ false → (calls : List RenewedCall) → AreLiveAndDistinct alive calls → AreOthers q calls
 none_of_live alive q dead [] live = tt
-none_of_live alive q dead (p ∷ numbers) live = (λ e. true≢false (sym live.0 ∙ ap alive e ∙ dead), none_of_live alive q dead numbers live.2)
+none_of_live alive q dead (call ∷ calls) live = (λ e. true≢false (sym live.0 ∙ ap alive e ∙ dead), none_of_live alive q dead calls live.2)
 
 neither : (b : Bool) → cond b false false ≡ false
 neither true = refl
 neither false = refl
 
 module _ (st : State) (m q : ℕ) where
-  -- a number that isn't renewed is live as before
-  pub lives_on : (numbers : List ℕ) (next : ℕ) (alive : ℕ → Bool) → q < next → AreOthers q numbers → life_after_changes st m alive (renewals_from next numbers) q ≡ alive q
+  -- a drawing that isn't renewed is live as before
+  pub lives_on : (calls : List RenewedCall) (next : ℕ) (alive : ℕ → Bool) → q < next → AreOthers q calls → life_after_changes st m alive (renewals_from next calls) q ≡ alive q
   lives_on [] next alive low others = refl
-  lives_on (p ∷ numbers) next alive low others =
-      lives_on numbers (suc next) (life_after_change st m alive (Renewed p next)) (omega (arith, low)) others.1
-      ∙ ap (λ (b : Bool). cond b true (cond (q == p) false (alive q))) (ne_eqb q next (λ e. omega (arith, e, low)))
-      ∙ ap (λ (b : Bool). cond b false (alive q)) (ne_eqb q p (λ e. others.0 (sym e)))
+  lives_on (call ∷ calls) next alive low others =
+      lives_on calls (suc next) (life_after_change st m alive (Renewed call.drawing next)) (omega (arith, low)) others.1
+      ∙ ap (λ (b : Bool). cond b true (cond (q == call.drawing) false (alive q))) (ne_eqb q next (λ e. omega (arith, e, low)))
+      ∙ ap (λ (b : Bool). cond b false (alive q)) (ne_eqb q call.drawing (λ e. others.0 (sym e)))
 
   one_end : (p next : ℕ) (alive : ℕ → Bool) (other : ℕ) → q < next → life_without_number (life_after_change st m alive (Renewed p next)) (Some q) other ≡ life_after_change st m (life_without_number alive (Some q)) (Renewed p next) other
   one_end p next alive other low = by (q == other) refl where
@@ -43,17 +44,17 @@ module _ (st : State) (m q : ℕ) where
         let same = eqb-true q other e in
         sym (ap (λ (b : Bool). cond b true (cond (other == p) false false)) (ne_eqb other next (λ f. omega (arith, same, f, low))) ∙ neither (other == p))
 
-  ends_later : (numbers : List ℕ) (next : ℕ) (alive : ℕ → Bool) → q < next → life_without_number (life_after_changes st m alive (renewals_from next numbers)) (Some q) ≡ life_after_changes st m (life_without_number alive (Some q)) (renewals_from next numbers)
+  ends_later : (calls : List RenewedCall) (next : ℕ) (alive : ℕ → Bool) → q < next → life_without_number (life_after_changes st m alive (renewals_from next calls)) (Some q) ≡ life_after_changes st m (life_without_number alive (Some q)) (renewals_from next calls)
   ends_later [] next alive low = refl
-  ends_later (p ∷ numbers) next alive low =
-      ends_later numbers (suc next) (life_after_change st m alive (Renewed p next)) (omega (arith, low))
-      ∙ ap (λ (life : ℕ → Bool). life_after_changes st m life (renewals_from (suc next) numbers)) (λ k other. one_end p next alive other low k)
+  ends_later (call ∷ calls) next alive low =
+      ends_later calls (suc next) (life_after_change st m alive (Renewed call.drawing next)) (omega (arith, low))
+      ∙ ap (λ (life : ℕ → Bool). life_after_changes st m life (renewals_from (suc next) calls)) (λ k other. one_end call.drawing next alive other low k)
 
 -- it is the same whether the caller's call ends before the renewals or after them
-pub ends_after : (st : State) (m : ℕ) (drawing : Option ℕ) (numbers : List ℕ) (next : ℕ) (alive : ℕ → Bool) → IfSome drawing (λ q. q < next)
-    → life_without_number (life_after_changes st m alive (renewals_from next numbers)) drawing ≡ life_after_changes st m (life_without_number alive drawing) (renewals_from next numbers)
-ends_after st m None numbers next alive low = refl
-ends_after st m (Some q) numbers next alive low = ends_later st m q numbers next alive low
+pub ends_after : (st : State) (m : ℕ) (drawing : Option ℕ) (calls : List RenewedCall) (next : ℕ) (alive : ℕ → Bool) → IfSome drawing (λ q. q < next)
+    → life_without_number (life_after_changes st m alive (renewals_from next calls)) drawing ≡ life_after_changes st m (life_without_number alive drawing) (renewals_from next calls)
+ends_after st m None calls next alive low = refl
+ends_after st m (Some q) calls next alive low = ends_later st m q calls next alive low
 
 -- the threads once the call of one of them is closed
 pub closed_is : (rows : List ThreadRow) (t : ℕ) (read shut : ThreadRow) (now closed : List ThreadRow) → IsClosed rows t closed → read ≡ get_or rows (t - 1) read → shut ≡ record read { pending = None } → now ≡ set rows (t - 1) shut → now ≡ closed

@@ -5,8 +5,7 @@ use Rattle.std.specs.Option.{option_map}
 use Rattle.std.specs.Prelude.{OnErr, Result, Ok, Err}
 use Rattle.st_calls.specs.declared.judged.Snapshot.{Snapshot}
 use Rattle.st_calls.specs.declared.judged.Verdict.{Verdict}
-use Rattle.st_filter.specs.Judging.{verdict}
-use Rattle.st_filter.specs.Policies.{filters_of, policy_of}
+use Rattle.st_filter.specs.Judged.{verdict_under}
 use Rattle.st_messages.specs.Messages.{is_live_drawing}
 use Rattle.st_messages.specs.declared.message.Delivered.{Delivered}
 use Rattle.st_messages.specs.declared.message.Delivered.TheVariants.{Applied, Stale}
@@ -141,28 +140,28 @@ module _ (m : Running) (st : State) (is : Refines m st) (w : ℕ) (new : UnderWa
   pub claimed_step : (v q : ℕ) → worker_entry m.input st w ≡ Some (entry.Claimed v q) → RepresentsMessagesAfter m.input st (entry.Claimed v q) (law.is_live st) new → IsServedBy (entry.Claimed v q)
   claimed_step v q is_entry kept = (
     is_entry,
-    following m st is (choice.Worker w) (entry.Claimed v q) is_entry refl refl m.system new m.threads
+    following m st is (choice.Worker w) (entry.Claimed v q) is_entry refl refl (λ b. refl) refl m.system new m.threads
         (same_system m.input st (state_after m.input st (entry.Claimed v q)) m.system refl refl refl refl refl refl (λ t. refl) (λ t. refl) is.system) kept rows refl,
   )
 
   pub copied_step : (q part place word : ℕ) → worker_entry m.input st w ≡ Some (entry.Copied q part place word) → RepresentsMessagesAfter m.input st (entry.Copied q part place word) (law.is_live st) new → IsServedBy (entry.Copied q part place word)
   copied_step q part place word is_entry kept = (
     is_entry,
-    following m st is (choice.Worker w) (entry.Copied q part place word) is_entry refl refl m.system new m.threads
+    following m st is (choice.Worker w) (entry.Copied q part place word) is_entry refl refl (λ b. refl) refl m.system new m.threads
         (same_system m.input st (state_after m.input st (entry.Copied q part place word)) m.system refl refl refl refl refl refl (λ t. refl) (λ t. refl) is.system) kept rows refl,
   )
 
   pub looked_step : (q part : ℕ) (name : Components) (seen : SeenText) → worker_entry m.input st w ≡ Some (entry.Looked q part name seen) → RepresentsMessagesAfter m.input st (entry.Looked q part name seen) (law.is_live st) new → IsServedBy (entry.Looked q part name seen)
   looked_step q part name seen is_entry kept = (
     is_entry,
-    following m st is (choice.Worker w) (entry.Looked q part name seen) is_entry refl refl m.system new m.threads
+    following m st is (choice.Worker w) (entry.Looked q part name seen) is_entry refl refl (λ b. refl) refl m.system new m.threads
         (same_system m.input st (state_after m.input st (entry.Looked q part name seen)) m.system refl refl refl refl refl refl (λ t. refl) (λ t. refl) is.system) kept rows refl,
   )
 
   pub faulted_step : (q : ℕ) (errno : Errno) → worker_entry m.input st w ≡ Some (entry.Faulted q errno) → RepresentsMessagesAfter m.input st (entry.Faulted q errno) (law.is_live st) new → IsServedBy (entry.Faulted q errno)
   faulted_step q errno is_entry kept = (
     is_entry,
-    following m st is (choice.Worker w) (entry.Faulted q errno) is_entry refl refl m.system new m.threads
+    following m st is (choice.Worker w) (entry.Faulted q errno) is_entry refl refl (λ b. refl) refl m.system new m.threads
         (same_system m.input st (state_after m.input st (entry.Faulted q errno)) m.system refl refl refl refl refl refl (λ t. refl) (λ t. refl) is.system) kept rows refl,
   )
 
@@ -170,7 +169,7 @@ module _ (m : Running) (st : State) (is : Refines m st) (w : ℕ) (new : UnderWa
       → IsServedBy (entry.Answered v s verdict applied)
   answered_step v s verdict applied is_entry kept = (
     is_entry,
-    following m st is (choice.Worker w) (entry.Answered v s verdict applied) is_entry refl refl m.system new m.threads
+    following m st is (choice.Worker w) (entry.Answered v s verdict applied) is_entry refl refl (λ b. refl) refl m.system new m.threads
         (same_system m.input st (state_after m.input st (entry.Answered v s verdict applied)) m.system refl refl refl refl refl refl (λ t. refl) (λ t. refl) is.system) kept rows refl,
   )
 
@@ -215,9 +214,9 @@ module _ (m : Running) (w : ℕ) (new : UnderWay) where
       ) (λ ready are. fewer)
 
   -- a ready worker answers
-  pub answered : (q : ℕ) (s : Snapshot) (v : Verdict) (applied : Bool) → turn_of_worker m.workers w ≡ Some (Ready q s) → v ≡ verdict (filters_of s.rule (policy_of m.input.policies s.policy)) s
+  pub answered : (q : ℕ) (s : Snapshot) (v : Verdict) (applied : Bool) → turn_of_worker m.workers w ≡ Some (Ready q s) → v ≡ verdict_under m.input.policies s
       → ((i : Input) (st : State) (alive : ℕ → Bool) → RepresentsMessages i st alive m.workers → applied ≡ alive q) → HasTask m w tasks.Answer
-      → ((i : Input) (st : State) (alive : ℕ → Bool) → RepresentsMessages i st alive m.workers → v ≡ verdict (filters_of s.rule (policy_of i.policies s.policy)) s → RepresentsMessagesAfter i st (entry.Answered w (drawn_copies q s) v (alive q)) alive new)
+      → ((i : Input) (st : State) (alive : ℕ → Bool) → RepresentsMessages i st alive m.workers → v ≡ verdict_under i.policies s → RepresentsMessagesAfter i st (entry.Answered w (drawn_copies q s) v (alive q)) alive new)
       → KeepsNumbers m.workers.calls new.calls
       → IsDrawnStep m (choice.Worker w) (entry.Answered w (drawn_copies q s) v applied) (with_workers m new)
   answered q s v applied ready judged lives task after fewer = λ st is.
@@ -227,8 +226,8 @@ module _ (m : Running) (w : ℕ) (new : UnderWay) where
       let applies : applied ≡ law.is_live st q = lives m.input st (law.is_live st) is.workers in
       with_numbers st (entry.Answered w (drawn_copies q s) v applied) (
       answered_step m st is w new w (drawn_copies q s) v applied
-      (own.3 ∙ ap (λ (x : Snapshot). Some (entry.Answered w (drawn_copies own.0 x) (verdict (filters_of x.rule (policy_of m.input.policies x.policy)) x) (law.is_live st own.0))) here
-      ∙ ap (λ (n : ℕ). Some (entry.Answered w (drawn_copies n s) (verdict (filters_of s.rule (policy_of m.input.policies s.policy)) s) (law.is_live st n))) there
+      (own.3 ∙ ap (λ (x : Snapshot). Some (entry.Answered w (drawn_copies own.0 x) (verdict_under m.input.policies x) (law.is_live st own.0))) here
+      ∙ ap (λ (n : ℕ). Some (entry.Answered w (drawn_copies n s) (verdict_under m.input.policies s) (law.is_live st n))) there
       ∙ ap (λ (x : Verdict). Some (entry.Answered w (drawn_copies q s) x (law.is_live st q))) (sym judged) ∙ ap (λ (b : Bool). Some (entry.Answered w (drawn_copies q s) v b)) (sym applies))
       (subst (λ (b : Bool). RepresentsMessagesAfter m.input st (entry.Answered w (drawn_copies q s) v b) (law.is_live st) new) (sym applies) (after m.input st (law.is_live st) is.workers judged))
       ) (λ ready are. fewer)

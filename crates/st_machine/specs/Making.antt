@@ -1,19 +1,19 @@
 -- The step that makes a call.
-use Rattle.std.specs.Prelude.{◌≡◌, ◌<◌, ◌+◌, ◌-◌, ◌^◌, ℕ, true, List, length, replicate, set, Option, Some, None, IfSome, IsSome, slice_index_or}
+use Rattle.std.specs.Prelude.{◌≡◌, ◌<◌, ◌+◌, ◌-◌, ◌^◌, ℕ, true, List, length, set, Option, Some, None, IfSome, IsSome, slice_index_or}
 use Rattle.st_base.specs.Numbered.{item_at_number}
 use Rattle.st_calls.specs.Call.{sets_ids}
-use Rattle.st_lookaside.specs.Need.{IsShort}
 use Rattle.st_messages.specs.Messages.{is_live_drawing}
 use Rattle.st_model.specs.Identity.{set_refused}
-use Rattle.st_model.specs.Processes.{IsPid, Processes, process_at}
+use Rattle.st_model.specs.Processes.{Processes}
 use Rattle.st_names.specs.Name.{Components}
 use Rattle.st_request.specs.declared.outcome.Outcome.{Outcome}
 use Rattle.st_trace.specs.declared.entry.Change.{Change}
 use Rattle.st_trace.specs.declared.entry.Choice.TheVariants.{Thread}
 use Rattle.st_trace.specs.declared.entry.Entry.TheVariants.{Used}
 use Rattle.st_threads.specs.Ending.{is_ended_by, EndsCall, HaveEnded}
-use Rattle.st_threads.specs.Renewing.{drawings_from, CanRenew, HaveRenewed}
+use Rattle.st_threads.specs.Renewing.{calls_from, cwds_of, pids_of, CanRenew, HaveRenewed}
 use Rattle.st_threads.specs.Thread.{ThreadRow}
+use Rattle.st_threads.specs.declared.which.WhichCalls.TheVariants.{OthersOf}
 use Rattle.st_workers.specs.Numbers.{seq_if, AreFew, IsNumbered, KeepsNumbers}
 use Rattle.st_workers.specs.UnderWay.{UnderWay}
 use Rattle.st_decide.specs.Machine.{IsDrawnStep, Running}
@@ -43,18 +43,21 @@ EndsMade processes own changes rows workers new left =
     (closed : List ThreadRow) × (between : UnderWay) × IsClosed rows own.caller.tid closed × EndsCall own.drawing workers between × KeepsNumbers workers.calls between.calls
     × HaveEnded (is_ended_by processes own.caller.tid own.caller.pid changes) closed between new left
 
--- the other held calls of the process of a call can be renewed, with these copies of its directory, and then the call can end
-pub record CanRenewOthers (processes : Processes) (own : OwnCall) (closed : List ThreadRow) (workers : UnderWay) (cwds : List Components) : Type 0 where
-  pub there : IsPid processes own.caller.pid
-  pub calls : CanRenew workers (drawings_from processes own.caller.pid own.caller.tid 1 closed)
+-- the process of each thread whose held call is renewed with the call of another thread: those of the same process
+abbrev pub others : Processes → OwnCall → ℕ → Option ℕ
+others processes own = pids_of processes (OthersOf own.caller)
+
+-- the other held calls of the process of a call can be renewed, with this version of their policy and these copies of directories, and then
+-- the call can end
+pub record CanRenewOthers (processes : Processes) (own : OwnCall) (version : ℕ) (closed : List ThreadRow) (workers : UnderWay) (cwds : List Components) : Type 0 where
+  pub calls : CanRenew workers (calls_from (others processes own) 1 closed)
   pub room : workers.calls.next + length closed < 2 ^ 64
   pub few : AreFew workers.calls
-  pub copies : cwds ≡ replicate (length (drawings_from processes own.caller.pid own.caller.tid 1 closed)) (process_at processes own.caller.pid).cwd
-  pub short : IsShort (process_at processes own.caller.pid).cwd
-  pub lives : (new : List ThreadRow) (between : UnderWay) → HaveRenewed processes own.caller.pid own.caller.tid closed workers new between → IfSome own.drawing (λ q. is_live_drawing between.calls q ≡ true)
+  pub copies : cwds ≡ cwds_of processes (calls_from (others processes own) 1 closed)
+  pub lives : (new : List ThreadRow) (between : UnderWay) → HaveRenewed processes (others processes own) version closed workers new between → IfSome own.drawing (λ q. is_live_drawing between.calls q ≡ true)
 
--- the other held calls of the process of a call are renewed, and then the call has ended
-abbrev pub RenewsOthers : Processes → OwnCall → List ThreadRow → UnderWay → List ThreadRow → UnderWay → Type 0
-RenewsOthers processes own rows workers new left =
-    (closed : List ThreadRow) × (between : UnderWay) × IsClosed rows own.caller.tid closed × HaveRenewed processes own.caller.pid own.caller.tid closed workers new between
+-- the other held calls of the process of a call are renewed, with this version of their policy, and then the call has ended
+abbrev pub RenewsOthers : Processes → OwnCall → ℕ → List ThreadRow → UnderWay → List ThreadRow → UnderWay → Type 0
+RenewsOthers processes own version rows workers new left =
+    (closed : List ThreadRow) × (between : UnderWay) × IsClosed rows own.caller.tid closed × HaveRenewed processes (others processes own) version closed workers new between
     × EndsCall own.drawing between left × KeepsNumbers between.calls left.calls

@@ -9,7 +9,7 @@ use Rattle.st_messages.specs.declared.message.Delivered.TheVariants.{Applied, St
 use Rattle.st_workers.specs.UnderWay.{turn_of_worker}
 use Rattle.st_workers.specs.declared.turn.Turn.TheVariants.{Ready}
 
--- this is the verdict of the filters that were read on the copies that a worker is ready with
+-- this is the verdict of the policies on the copies that a worker is ready with, at their version
 abbrev pub IsVerdictFor : Running → ℕ → Verdict → Type 0
 IsVerdictFor m worker v = (q : ℕ) (s : Snapshot) → turn_of_worker m.workers worker ≡ Some (Ready q s) → v ≡ verdict_under m.input.policies s
 

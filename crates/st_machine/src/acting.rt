@@ -103,6 +103,11 @@ impl<'a> Machine<'a> {
                 self.deny(tid, denied, added);
                 Ok(())
             }
+            Step::Reload(policy) => self.reload(alloc, tid, policy, added),
+            Step::RefuseReload(policy) => {
+                self.refuse_reload(alloc, tid, policy, added);
+                Ok(())
+            }
         }
     }
 

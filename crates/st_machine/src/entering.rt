@@ -1,6 +1,6 @@
 // Enters calls: fast, barred, untraced, or held under the next drawing.
 ghost use Rattle.std.specs.Prelude.{◌≡◌, OnOk, OnErr};
-ghost use Rattle.st_decide.specs.Entering.{IsUnposted, IsWayOf};
+ghost use Rattle.st_decide.specs.Entering.{IsKeptAnswer, IsUnposted, IsWayOf};
 ghost use Rattle.st_decide.specs.Machine.{IsNextStep, IsStep, SameState};
 ghost use Rattle.st_decide.specs.NextSteps.{CanStep};
 ghost use Rattle.st_decide.specs.declared.step.Step.TheVariants as steps;
@@ -11,7 +11,8 @@ ghost use Rattle.st_trace.specs.declared.entry.Way.TheVariants.{Held};
 use crate::machine::Machine;
 use crate::placing::leave;
 use st_base::Tid;
-use st_decide::NewCall;
+use st_calls::FastAnswer;
+use st_decide::{NewCall, NewWay};
 use st_threads::CallWay;
 use st_trace::{Entry, Way};
 use std::alloc::{AllocError, Global};
@@ -31,15 +32,16 @@ fn way_unheld(way: CallWay) -> Way
 
 impl<'a> Machine<'a> {
     // Enters a thread's call that isn't held.
-    fn enter_unheld(&mut self, tid: Tid, new: &NewCall, way: CallWay, added: &mut Option<Entry>)
+    fn enter_unheld(&mut self, tid: Tid, new: &NewCall, chosen: NewWay, added: &mut Option<Entry>)
         requires next { IsNextStep self.old tid (steps.Enter new.now) }
-        requires way { IsWayOf self.old tid new.now (drawn_way way) }
-        requires unposted { IsUnposted (drawn_way way) }
+        requires way { IsWayOf self.old tid new.now (drawn_way chosen.way) }
+        requires answer { IsKeptAnswer self.old tid new.now (drawn_way chosen.way) chosen.answer }
+        requires unposted { IsUnposted (drawn_way chosen.way) }
         ensures step { IsStep self.old (Thread tid) added.new self.new }
         ensures input { self.new.input ≡ self.old.input }
     {
-        self.threads[tid as usize - 1].enter(new.call, new.regs, way);
-        let entered = way_unheld(way);
+        self.threads[tid as usize - 1].enter(new.call, new.regs, chosen.way, chosen.answer);
+        let entered = way_unheld(chosen.way);
         leave(
             added,
             Entry::Entered {
@@ -71,7 +73,8 @@ impl<'a> Machine<'a> {
         let drawing = head.drawing;
         let seq = head.seq;
         self.workers.post(alloc, tid, head)?;
-        self.threads[tid as usize - 1].enter(new.call, new.regs, CallWay::Held(drawing));
+        let way = CallWay::Held(drawing);
+        self.threads[tid as usize - 1].enter(new.call, new.regs, way, FastAnswer::Ask);
         leave(
             added,
             Entry::Entered {
@@ -98,11 +101,11 @@ impl<'a> Machine<'a> {
         ensures place { OnErr result (added.new ≡ added.old) }
         ensures input { self.new.input ≡ self.old.input }
     {
-        let way = self.view().way_of(tid, new);
-        match way {
+        let chosen = self.view().way_of(tid, new);
+        match chosen.way {
             CallWay::Held(_) => self.enter_held(alloc, tid, new, added),
             CallWay::Fast | CallWay::Barred(_) | CallWay::Untraced => {
-                self.enter_unheld(tid, new, way, added);
+                self.enter_unheld(tid, new, chosen, added);
                 Ok(())
             }
         }

@@ -9,6 +9,7 @@ pub mod machine;
 mod making;
 mod own_call;
 mod placing;
+mod reloading;
 mod renewing;
 mod serving;
 

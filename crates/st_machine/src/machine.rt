@@ -3,6 +3,7 @@ ghost use Rattle.st_law.specs.Machine.{first_state};
 ghost use Rattle.st_law.specs.State.{State, is_live};
 ghost use Rattle.st_learn.specs.Answers.{AreAnswersIn};
 ghost use Rattle.st_learn.specs.Operator.{IsAdded};
+ghost use Rattle.st_learn.specs.SessionIn.{IsSessionIn};
 ghost use Rattle.st_law.specs.Numbers.{in_use_now, no_numbers};
 ghost use Rattle.st_workers.specs.Numbers.{HasNumbers};
 ghost use Rattle.st_workers.specs.Refinement.{RepresentsMessages};
@@ -148,16 +149,16 @@ impl<'a> Machine<'a> {
         self.input
     }
 
-    /// The policies of the input, compiled.
+    /// The policies of the input, those of the script included, compiled.
     pub fn compiled(&self) -> &Compiled<'a>
         ensures { result.now ≡ self.now.input.policies }
     {
         self.answers.compiled()
     }
 
-    /// The session of each abstract state that the machine represents.
+    /// The session of each abstract state that the machine represents: its filters, and the versions in force.
     pub fn session(&self) -> &Session<'a>
-        ensures { (st : State) → Refines self.now st → result.now.filters ≡ st.session }
+        ensures { (st : State) → Refines self.now st → IsSessionIn st result.now }
     {
         self.operator.session()
     }

@@ -1,17 +1,18 @@
 // The end of a call that its thread makes, with what its changes end, or after the other held calls of its process are renewed.
-ghost use Rattle.std.specs.Prelude.{◌≡◌, ◌<◌, ◌+◌, ◌≤◌, ◌^◌, ◌++◌, true, List, length, Some, vec_capacity, IfSome};
+ghost use Rattle.std.specs.Prelude.{◌≡◌, ◌<◌, ◌+◌, ◌≤◌, ◌^◌, ◌++◌, true, All, List, length, Some, vec_capacity, IfSome};
 ghost use Rattle.st_base.specs.Numbered.{item_at_number};
-ghost use Rattle.st_machine.specs.Making.{CanRenewOthers, EndsMade, IsClosed, RenewsOthers};
+ghost use Rattle.st_lookaside.specs.Need.{IsShort};
+ghost use Rattle.st_machine.specs.Making.{others, CanRenewOthers, EndsMade, IsClosed, RenewsOthers};
 ghost use Rattle.st_messages.specs.Messages.{is_live_drawing};
 ghost use Rattle.st_threads.specs.Ending.{EndsCall, HaveCalls};
-ghost use Rattle.st_threads.specs.Renewing.{drawings_from, renewals_from, AreNumberedFrom};
+ghost use Rattle.st_threads.specs.Renewing.{calls_from, renewals_from, AreNumberedFrom};
 ghost use Rattle.st_threads.specs.Thread.{ThreadRow};
 ghost use Rattle.st_trace.specs.declared.entry.Change.{Change};
 ghost use Rattle.st_workers.specs.UnderWay.{UnderWay};
 
 use st_base::{Drawing, Sequence};
 use st_system::System;
-use st_threads::{CallingThread, RenewalPlan, Thread, end_by_all, end_call, renew_all};
+use st_threads::{CallingThread, RenewalPlan, Thread, WhichCalls, end_by_all, end_call, renew_all};
 use st_trace::Change;
 use st_workers::Workers;
 
@@ -52,14 +53,16 @@ pub(crate) fn renew_others(
     own: OwnCall,
     plan: RenewalPlan,
 ) -> Sequence<Change>
-    requires can { (closed : List ThreadRow) × IsClosed threads.old.items own.caller.tid closed × CanRenewOthers system.now.processes own closed workers.old plan.cwds.items }
+    requires can { (closed : List ThreadRow) × IsClosed threads.old.items own.caller.tid closed × CanRenewOthers system.now.processes own plan.version closed workers.old plan.cwds.items }
     requires few { length threads.old.items < 2 ^ 31 }
+    requires short { All IsShort plan.cwds.items }
     requires space { length plan.changes.items + length plan.cwds.items ≤ vec_capacity plan.changes }
-    ensures renewed { RenewsOthers system.now.processes own threads.old.items workers.old threads.new.items workers.new }
-    ensures changes { (closed : List ThreadRow) → IsClosed threads.old.items own.caller.tid closed → (given : List Change) × (result ≡ plan.changes.items ++ given) × AreNumberedFrom workers.old (renewals_from workers.old.calls.next (drawings_from system.now.processes own.caller.pid own.caller.tid 1 closed)) given }
+    ensures renewed { RenewsOthers system.now.processes own plan.version threads.old.items workers.old threads.new.items workers.new }
+    ensures changes { (closed : List ThreadRow) → IsClosed threads.old.items own.caller.tid closed → (given : List Change) × (result ≡ plan.changes.items ++ given) × AreNumberedFrom workers.old (renewals_from workers.old.calls.next (calls_from (others system.now.processes own) 1 closed)) given }
 {
     threads[own.caller.tid as usize - 1].close();
-    let changes = renew_all(threads, workers, system, own.caller, plan);
+    let which = WhichCalls::OthersOf(own.caller);
+    let changes = renew_all(threads, workers, system, which, plan);
     end_call(workers, own.drawing);
     Sequence::of(changes)
 }

@@ -12,7 +12,8 @@ use crate::own_call::{OwnCall, renew_others};
 use st_base::{Ids, Tid};
 use st_decide::ReadyCall;
 use st_request::Outcome;
-use st_threads::{CallingThread, NewIds, plan_renewals};
+use st_threads::{CallingThread, RenewedCalls, WhichCalls, plan_renewals};
+use st_trace::Change;
 use std::alloc::{AllocError, Global};
 
 impl<'a> Machine<'a> {
@@ -37,12 +38,14 @@ impl<'a> Machine<'a> {
             pid: ready.pid,
             tid,
         };
-        let plan = plan_renewals(
-            alloc,
-            &self.threads,
-            &self.system,
-            NewIds { caller, ids: set },
-        )?;
+        let calls = RenewedCalls {
+            which: WhichCalls::OthersOf(caller),
+            version: self
+                .operator
+                .version(self.system.policy(ready.pid).get().bytes()),
+        };
+        let first = Some(Change::SetIds(set));
+        let plan = plan_renewals(alloc, &self.threads, &self.system, calls, first)?;
         let request = self.view().request_with(tid, ready);
         let outcome = self.system.execute(alloc, ready.call, &request)?;
         let own = OwnCall {

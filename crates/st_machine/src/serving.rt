@@ -183,7 +183,7 @@ impl<'a> Machine<'a> {
         leave(added, Entry::Faulted { seq, errno });
     }
 
-    // Lets a ready worker answer with the verdict of the filters that were read on its copies.
+    // Lets a ready worker answer with the verdict of the policies on its copies, at their version.
     fn answer_of(&mut self, worker: Worker, added: &mut Option<Entry>)
         requires task { HasTask self.old worker tasks.Answer }
         requires worker { HasWorker self.old.workers.calls worker }
@@ -195,8 +195,8 @@ impl<'a> Machine<'a> {
         self.answer(worker, verdict, added);
     }
 
-    /// Lets a ready worker answer with a verdict, which is that of the filters that were read on its copies, and stores the entry that this
-    /// adds in `added`. It takes no memory.
+    /// Lets a ready worker answer with a verdict, which is that of the policies on its copies, at their version, and stores the entry that
+    /// this adds in `added`. It takes no memory.
     pub fn answer(&mut self, worker: Worker, verdict: Verdict, added: &mut Option<Entry>)
         requires task { HasTask self.old worker tasks.Answer }
         requires verdict { IsVerdictFor self.old worker verdict }

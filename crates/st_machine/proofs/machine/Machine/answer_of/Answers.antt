@@ -1,8 +1,8 @@
-use Rattle.std.proofs.Common.{◌≡◌, ◌∙◌, List, Some, ap, sym, subst}
+use Rattle.std.proofs.Common.{◌≡◌, ◌∙◌, Some, ap, sym, subst}
 use Rattle.st_calls.specs.declared.judged.Snapshot.{Snapshot}
 use Rattle.st_decide.specs.Machine.{Running}
 use Rattle.st_filter.specs.Judged.{verdict_under}
-use Rattle.st_filter.specs.declared.set.BinaryPolicy.{BinaryPolicy}
+use Rattle.st_filter.specs.Policies.{PoliciesValue}
 use Rattle.st_workers.specs.UnderWay.{turn_of_worker}
 use Rattle.st_workers.specs.declared.turn.Turn.TheVariants.{Ready}
 use Rattle.st_machine.proofs.Running.{running_of}
@@ -18,5 +18,5 @@ answer-requires-clause-verdict c q s ready =
     let same : copies ≡ s = same_copies m.workers c.args.worker c.copies-copies.ensures.0 q copies s c.copies-copies.ensures.1 here in
     subst (λ (k : Running). c.decide-verdict.result ≡ verdict_under k.input.policies s) c.self.view_is
     (c.decide-verdict.ensures
-    ∙ ap (λ (policies : List BinaryPolicy). verdict_under policies copies) (c.compiled.ensures ∙ c.self.invariant.is.answers.read)
+    ∙ ap (λ (policies : PoliciesValue). verdict_under policies copies) (c.compiled.ensures ∙ c.self.invariant.is.answers.policies)
     ∙ ap (verdict_under m.input.policies) same)

@@ -1,3 +1,4 @@
+use Rattle.st_calls.specs.declared.rule.FastAnswer.TheVariants as answers
 use Rattle.std.proofs.Common.{◌≡◌, ◌-◌, ◌∙◌, ℕ, Some, ap, set, sym, subst}
 use Rattle.st_base.specs.Numbered.{item_at_number}
 use Rattle.st_model.specs.Processes.{pid_of}
@@ -85,18 +86,18 @@ added c = entry.Entered c.args.tid (call c).call (call c).regs (Held c.in_ok-hea
 abbrev new : (c : goal.After-leave) → ThreadRow → Running
 new c row = with_parts (old c) (old c).system c.post.new.self (set (old c).threads (c.args.tid - 1) row)
 
-put : (c : goal.After-leave) → c.enter.new.self ≡ row_entered (row c).0 (call c).call (call c).regs (Held c.in_ok-head.head.drawing)
-put c = c.enter.ensures ∙ ap (λ (r : ThreadRow). row_entered r (call c).call (call c).regs (Held c.in_ok-head.head.drawing)) (read_is (old c).threads c.args.tid (row c).0 c.index_mut.result.now (row c).1 c.index_mut.ensures.value)
+put : (c : goal.After-leave) → c.enter.new.self ≡ row_entered (row c).0 (call c).call (call c).regs (Held c.in_ok-head.head.drawing) answers.Ask
+put c = c.enter.ensures ∙ ap (λ (r : ThreadRow). row_entered r (call c).call (call c).regs (Held c.in_ok-head.head.drawing) answers.Ask) (read_is (old c).threads c.args.tid (row c).0 c.index_mut.result.now (row c).1 c.index_mut.ensures.value)
 
 -- the head is that of the law's machine
-head : (c : goal.After-leave) (st : State) → Refines (old c) st → head_of c.args.tid c.in_ok-head.head ≡ new_head (old c).input c.args.tid (st.threads c.args.tid).owner (st.processes (st.threads c.args.tid).owner) (call c).call (call c).regs
+head : (c : goal.After-leave) (st : State) → Refines (old c) st → head_of c.args.tid c.in_ok-head.head ≡ new_head (old c).input c.args.tid (st.threads c.args.tid).owner (st.processes (st.threads c.args.tid).owner) (st.versions (st.processes (st.threads c.args.tid).owner).policy) (call c).call (call c).regs
 head c st is =
     let process = ap (λ (k : Running). pid_of k.system.processes c.args.tid) c.self.view_is ∙ c.requires.step.can.process in
-    (posted c).law st c.args.tid is ∙ ap (λ (pid : ℕ). new_head (old c).input c.args.tid pid (st.processes pid) (call c).call (call c).regs) (sym (owner_is (old c) st is c.args.tid (call c).pid process))
+    (posted c).law st c.args.tid is ∙ ap (λ (pid : ℕ). new_head (old c).input c.args.tid pid (st.processes pid) (st.versions (st.processes pid).policy) (call c).call (call c).regs) (sym (owner_is (old c) st is c.args.tid (call c).pid process))
 
 step : (c : goal.After-leave) → IsDrawnStep (old c) (choice.Thread c.args.tid) (added c) (new c c.enter.new.self)
 step c = subst (λ (r : ThreadRow). IsDrawnStep (old c) (choice.Thread c.args.tid) (added c) (new c r)) (sym (put c))
-    (held_step (old c) c.args.tid (call c) (next c) (row c).0 (row c).1 c.in_ok-head.head.drawing (goes c) c.post.new.self c.in_ok-head.head (head c) c.in_ok-post.ensures.kept c.in_ok-post.ensures.numbers)
+    (held_step (old c) c.args.tid (call c) (next c) (row c).0 (row c).1 c.in_ok-head.head.drawing (goes c) answers.Ask c.post.new.self c.in_ok-head.head (head c) c.in_ok-post.ensures.kept c.in_ok-post.ensures.numbers)
 
 pub invariant_of-self-2 : goal.invariant_of-self-2
 invariant_of-self-2 c = running_step (old c) (new c c.enter.new.self) (choice.Thread c.args.tid) (added c) c.self.invariant (step c)

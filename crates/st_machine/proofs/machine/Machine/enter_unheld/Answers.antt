@@ -4,7 +4,7 @@ use Rattle.st_trace.specs.declared.entry.Choice.TheVariants as choice
 use Rattle.st_trace.specs.declared.entry.Entry.TheVariants as entry
 use Rattle.st_trace.specs.declared.entry.Way.{Way}
 use Rattle.st_workers.proofs.Turns.{read_is}
-use Rattle.st_decide.specs.Entering.{IsWayOf}
+use Rattle.st_decide.specs.Entering.{IsKeptAnswer, IsWayOf}
 use Rattle.st_decide.specs.Machine.{IsNextStep, IsDrawnStep, Running}
 use Rattle.st_threads.specs.Thread.{ThreadRow, row_entered}
 use Rattle.st_threads.specs.Ways.{drawn_way}
@@ -27,7 +27,7 @@ index_mut-requires c =
 
 -- the way of the call
 abbrev way : goal.After-leave → Way
-way c = drawn_way c.args.way
+way c = drawn_way c.args.chosen.way
 
 abbrev old : goal.After-leave → Running
 old c = running_of c.self.inside
@@ -41,11 +41,12 @@ row c = row_entering (old c) c.self.invariant c.args.tid c.args.new.now (next c)
 abbrev new : (c : goal.After-leave) → ThreadRow → Running
 new c row = with_parts (old c) (old c).system (old c).workers (set (old c).threads (c.args.tid - 1) row)
 
-put : (c : goal.After-leave) → c.enter.new.self ≡ row_entered (row c).0 c.args.new.now.call c.args.new.now.regs (way c)
-put c = c.enter.ensures ∙ ap (λ (r : ThreadRow). row_entered r c.args.new.now.call c.args.new.now.regs (way c)) (read_is (old c).threads c.args.tid (row c).0 c.index_mut.result.now (row c).1 c.index_mut.ensures.value)
+put : (c : goal.After-leave) → c.enter.new.self ≡ row_entered (row c).0 c.args.new.now.call c.args.new.now.regs (way c) c.args.chosen.answer
+put c = c.enter.ensures ∙ ap (λ (r : ThreadRow). row_entered r c.args.new.now.call c.args.new.now.regs (way c) c.args.chosen.answer) (read_is (old c).threads c.args.tid (row c).0 c.index_mut.result.now (row c).1 c.index_mut.ensures.value)
 
 step : (c : goal.After-leave) → IsDrawnStep (old c) (choice.Thread c.args.tid) (entry.Entered c.args.tid c.args.new.now.call c.args.new.now.regs (way c)) (new c c.enter.new.self)
-step c = subst (λ (r : ThreadRow). IsDrawnStep (old c) (choice.Thread c.args.tid) (entry.Entered c.args.tid c.args.new.now.call c.args.new.now.regs (way c)) (new c r)) (sym (put c)) (unheld_step (old c) c.args.tid c.args.new.now (next c) (row c).0 (row c).1 (way c) (subst (λ (k : Running). IsWayOf k c.args.tid c.args.new.now (way c)) (sym c.self.view_is) c.requires.way) c.requires.unposted)
+step c = subst (λ (r : ThreadRow). IsDrawnStep (old c) (choice.Thread c.args.tid) (entry.Entered c.args.tid c.args.new.now.call c.args.new.now.regs (way c)) (new c r)) (sym (put c)) (unheld_step (old c) c.args.tid c.args.new.now (next c) (row c).0 (row c).1 (way c) (subst (λ (k : Running). IsWayOf k c.args.tid c.args.new.now (way c)) (sym c.self.view_is) c.requires.way)
+    c.args.chosen.answer (subst (λ (k : Running). IsKeptAnswer k c.args.tid c.args.new.now (way c) c.args.chosen.answer) (sym c.self.view_is) c.requires.answer) c.requires.unposted)
 
 pub invariant_of-self : goal.invariant_of-self
 invariant_of-self c = running_step (old c) (new c c.enter.new.self) (choice.Thread c.args.tid) (entry.Entered c.args.tid c.args.new.now.call c.args.new.now.regs (way c)) c.self.invariant (step c)
