@@ -11,6 +11,7 @@ use Rattle.st_calls.specs.declared.argument.ArgText.{ArgText}
 use Rattle.st_calls.specs.declared.call.SysCall.{SysCall}
 use Rattle.st_calls.specs.declared.judged.Snapshot.{Snapshot}
 use Rattle.st_calls.specs.declared.judged.Verdict.{Verdict}
+use Rattle.st_filter.specs.Formula.{FilterValue}
 use Rattle.st_filter.specs.Judging.{verdict}
 use Rattle.st_model.specs.Tree.{is_number}
 use Rattle.st_trace.specs.declared.entry.CallResult.{CallResult}
@@ -19,25 +20,29 @@ use Rattle.st_trace.specs.declared.entry.Cause.{Cause}
 use Rattle.st_trace.specs.declared.entry.Cause.TheVariants.{Filter, NoFilter, Fault, Link}
 use Rattle.st_trace.specs.declared.entry.Change.{Change}
 use Rattle.st_trace.specs.declared.entry.Entry.{Entry}
-use Rattle.st_trace.specs.declared.entry.Entry.TheVariants.{Stored, Entered, Claimed, Copied, Looked, Faulted, Answered, Used, Denied, Ended, Replied, Learned}
+use Rattle.st_trace.specs.declared.entry.Entry.TheVariants.{Stored, Entered, Claimed, Copied, Looked, Faulted, Answered, Used, Denied, Ended, Replied, Learned, Reloaded}
 use Rattle.st_trace.specs.declared.entry.Way.TheVariants.{Fast, Barred, Held, Untraced}
 use Rattle.st_law.specs.declared.input.Input.{Input}
 use Rattle.st_law.specs.History.{looking_back, session_at}
 use Rattle.st_law.specs.Inputs.{IsStartable}
 use Rattle.st_law.specs.Lawful.{IsDeniedHeld, IsJudged, IsLawful, IsLawfulBack, IsUsedHeld, Lawful}
+use Rattle.st_law.specs.Meaning.{AreCopies}
 use Rattle.st_law.specs.Messages.{Head, is_answered_at, is_closed_at, is_renewed_by}
 use Rattle.st_law.specs.Numbers.{drawings_after_change, drawings_at, drawn, drawn_back, drawn_changes, drawn_entry}
-use Rattle.st_law.specs.Sessions.{SessionFilter}
-use Rattle.st_filter.specs.Policies.{read_filters}
-use Rattle.st_law.specs.State.{State, decision_in, is_live, is_live_by, snapshot_in}
+use Rattle.st_law.specs.Sessions.{SessionFilter, decision, session_filters}
+use Rattle.st_filter.specs.Policies.{filters_in_force}
+use Rattle.st_law.specs.State.{State, decision_in, is_live, is_live_by, read_at, snapshot_in}
 use Rattle.st_law.specs.Threads.{History}
+use Rattle.st_law.proofs.Asked.{copies}
 use Rattle.st_law.proofs.MessageHistory.{closed_stays}
 use Rattle.st_law.proofs.Standing.{Stands, answer_stands}
 use Rattle.st_law.proofs.Whole.{live_number}
-use Rattle.st_reached.proofs.Reached.{reached_back}
+use Rattle.st_reached.specs.Reached.{IsHolding}
+use Rattle.st_reached.proofs.Owning.{own_head}
+use Rattle.st_reached.proofs.Reached.{Reached, reached_back}
 use Rattle.st_audit.specs.AuditText.{audit_by_number, audit_back, call_line, denied_line, ending_text, audit_line}
 use Rattle.st_audit.specs.How.{Decided, decided_by, decided_in, decided_on, deciding_number, how_denied, how_used, is_logged, parts_of, seq_of_decision}
-use Rattle.st_audit.specs.FromHistory.{applied_answer, answer_with, audit_from_history, decided_after, decided_from_history, text_from_history, line_from_history}
+use Rattle.st_audit.specs.FromHistory.{applied_answer, answer_with, audit_from_history, decided_after, decided_from_history, filters_for_copies, text_from_history, line_from_history}
 use Rattle.st_audit.proofs.Deciding.{decided_alike}
 use Rattle.st_audit.proofs.LastDrawing.{AreLeft, IsRedrawn, answered_low, counted_back, redrawn_or_left}
 use Rattle.st_audit.proofs.Unnumbered.{same_decided, same_entered, same_owner, same_row}
@@ -131,6 +136,12 @@ module _ (h : History) (n q : ℕ) (answered : is_answered_at (drawn_back h) q �
       (left.1 (cond (is_number n seq) None (applied_answer h n))
       ∙ kept_open h n q meant seq (fold (is_renewed_by q) (is_closed_at (drawn_back h) q) (drawn_changes (drawings_at h).drawing_of (drawings_at h).count changes)) unclosed)
 
+  reloaded_over : (u policy : ℕ) (done : Bool) (changes : List Change) → ((drawings_at h).drawing_of n ≡ q → Found h n q) → (fold drawings_after_change (drawings_at h) changes).drawing_of n ≡ q
+      → IsRedrawn n (drawings_at h) changes ⊎ AreLeft n (drawings_at h) changes → Found (Reloaded u policy done changes ∷ h) n q
+  reloaded_over u policy done changes older means (inl high) = absurd (drawn_anew (omega (arith, high, means)))
+  reloaded_over u policy done changes older means (inr left) =
+      following (Reloaded u policy done changes) h n q (older (sym left.0 ∙ means)) (left.1 (applied_answer h n))
+
 found : (h : History) (n q : ℕ) → (drawings_at h).drawing_of n ≡ q → 1 ≤ q → is_answered_at (drawn_back h) q ≡ true → is_closed_at (drawn_back h) q ≡ false → Found h n q
 found [] n q means made answered unclosed = absurd (cc)
 found (Answered w s v applied ∷ h) n q means made answered unclosed =
@@ -145,6 +156,10 @@ found (Denied u seq errno cause ∷ h) n q means made answered unclosed =
     following (Denied u seq errno cause) h n q
     (found h n q means made answered (was_open q (drawn_entry (drawings_at h) (Denied u seq errno cause)) (drawn_back h) unclosed))
     (kept_open h n q means seq (is_closed_at (drawn_back h) q) unclosed)
+found (Reloaded u policy done changes ∷ h) n q means made answered unclosed =
+    reloaded_over h n q answered u policy done changes
+    (λ meant. found h n q meant made answered (was_open q (drawn_entry (drawings_at h) (Reloaded u policy done changes)) (drawn_back h) unclosed))
+    means (redrawn_or_left n (drawings_at h) changes)
 found (Entered u call regs Fast ∷ h) n q means made answered unclosed = following (Entered u call regs Fast) h n q (found h n q means made answered unclosed) refl
 found (Entered u call regs (Barred m) ∷ h) n q means made answered unclosed = following (Entered u call regs (Barred m)) h n q (found h n q means made answered unclosed) refl
 found (Entered u call regs Untraced ∷ h) n q means made answered unclosed = following (Entered u call regs Untraced) h n q (found h n q means made answered unclosed) refl
@@ -163,36 +178,48 @@ open_by None closed dying live = cc
 open_by (Some head) false dying live = refl
 open_by (Some head) true dying live = cc
 
-verdict_of_answer : (i : Input) (later earlier : History) (w : ℕ) (s : Snapshot) (v : Verdict) → IsLawfulBack i (later ++ Answered w s v true ∷ earlier) → v ≡ verdict (read_filters i.policies s.policy s.rule) s
+verdict_of_answer : (i : Input) (later earlier : History) (w : ℕ) (s : Snapshot) (v : Verdict) → IsLawfulBack i (later ++ Answered w s v true ∷ earlier) → v ≡ verdict (filters_for_copies i.policies s) s
 verdict_of_answer i [] earlier w s v lawful = lawful.0.verdict_is
 verdict_of_answer i (e ∷ later) earlier w s v lawful = verdict_of_answer i later earlier w s v lawful.1
 
 -- if the last drawing of a number is live and was answered, it has the copies of the newest answer to the number, whose verdict is that of the
--- filters that were read
+-- filters in force
 record IsRecordedOf (i : Input) (h : History) (n q : ℕ) : Type 0 where
   written : Snapshot
   given : Verdict
   newest : applied_answer h n ≡ Some (answer_with written given)
   there : snapshot_in (looking_back i (drawn_back h)) q ≡ Some (record written { seq = q })
-  says : given ≡ verdict (read_filters i.policies written.policy written.rule) (record written { seq = q })
+  says : given ≡ verdict (filters_for_copies i.policies written) (record written { seq = q })
+  version : written.version ≡ (looking_back i (drawn_back h)).versions written.policy
 
 module _ (i : Input) (startable : IsStartable i) where
   is_open : (u : History) (q : ℕ) → is_live (looking_back i u) q ≡ true → is_closed_at u q ≡ false
   is_open u q live = let st : State = looking_back i u in open_by (st.messages q).head (st.messages q).closed (λ t. (st.threads t).dying) live
 
+  -- live copies have the version of their policy that is in force
+  version_now : (st : State) → Reached i st → (q : ℕ) (s : Snapshot) → is_live st q ≡ true → snapshot_in st q ≡ Some s → s.version ≡ st.versions s.policy
+  version_now st reached q s live there =
+      let copy : AreCopies st q s = (copies st q s).0 there in
+      let x : IsHolding st copy.head.tid q = reached.owned.own q copy.head live copy.posted in
+      copy.version_is ∙ (own_head st reached.owned i reached.whole.calls q copy.head live copy.posted x.entered x.pending).version_is ∙ ap st.versions (sym copy.policy_is)
+
   printed : (h : History) (n q : ℕ) → (drawings_at h).drawing_of n ≡ q → IsLawfulBack i (drawn_back h) → is_answered_at (drawn_back h) q ≡ true → is_live (looking_back i (drawn_back h)) q ≡ true → IsRecordedOf i h n q
   printed h n q means lawful answered live =
-      let made : 1 ≤ q = live_number (looking_back i (drawn_back h)) (reached_back i startable (drawn_back h) lawful).whole.posted q live in
+      let st : State = looking_back i (drawn_back h) in
+      let reached : Reached i st = reached_back i startable (drawn_back h) lawful in
+      let made : 1 ≤ q = live_number st reached.whole.posted q live in
       let x : Found h n q = found h n q means made answered (is_open (drawn_back h) q live) in
-      let copies : Snapshot = record x.written { seq = q } in
-      let same : IsLawfulBack i (x.later ++ Answered x.worker copies x.verdict true ∷ x.earlier) = subst (IsLawfulBack i) x.split lawful in
-      let stands : Stands i (x.later ++ Answered x.worker copies x.verdict true ∷ x.earlier) copies = answer_stands i startable x.later x.earlier x.worker copies x.verdict same in
+      let own : Snapshot = record x.written { seq = q } in
+      let same : IsLawfulBack i (x.later ++ Answered x.worker own x.verdict true ∷ x.earlier) = subst (IsLawfulBack i) x.split lawful in
+      let stands : Stands i (x.later ++ Answered x.worker own x.verdict true ∷ x.earlier) own = answer_stands i startable x.later x.earlier x.worker own x.verdict same in
+      let there : snapshot_in st q ≡ Some own = ap (λ u. snapshot_in (looking_back i u) q) x.split ∙ stands.copies in
       record {
         written = x.written;
         given = x.verdict;
         newest = x.newest;
-        there = ap (λ u. snapshot_in (looking_back i u) q) x.split ∙ stands.copies;
-        says = verdict_of_answer i x.later x.earlier x.worker copies x.verdict same;
+        there = there;
+        says = verdict_of_answer i x.later x.earlier x.worker own x.verdict same;
+        version = version_now st reached q own live there;
       }
 
   -- ---- what decides
@@ -208,12 +235,14 @@ module _ (i : Input) (startable : IsStartable i) where
   decided_same h n q means lawful answered live =
       let x : IsRecordedOf i h n q = printed h n q means lawful answered live in
       let session : List SessionFilter = session_at i (drawn_back h) in
-      let copies : Snapshot = record x.written { seq = q } in
+      let own : Snapshot = record x.written { seq = q } in
       ap (decided_from_history i.policies session) x.newest
       ∙ ap Some (sym (same_decided i.policies session x.written q x.given))
-      ∙ (λ k. Some (decided_after i.policies session copies (x.says k)))
-      ∙ ap Some (decided_alike i.policies session copies)
-      ∙ sym (ap (option_map (λ s. decided_by i.policies session s (deciding_number (decision_in i (looking_back i (drawn_back h)) s)))) x.there)
+      ∙ (λ k. Some (decided_after i.policies session own (x.says k)))
+      ∙ ap Some (decided_alike i.policies session own)
+      ∙ (λ k. let those : List FilterValue = filters_in_force i.policies own.policy (x.version k) own.rule in
+      Some (decided_by those session own (deciding_number (decision those (session_filters session own.policy own.rule) own))))
+      ∙ sym (ap (option_map (λ s. decided_by (read_at i (looking_back i (drawn_back h)) s.policy s.rule) session s (deciding_number (decision_in i (looking_back i (drawn_back h)) s)))) x.there)
 
   -- ---- lines
 
@@ -279,6 +308,7 @@ module _ (i : Input) (startable : IsStartable i) where
       line_same (Ended u) y = refl
       line_same (Replied n reply k) y = refl
       line_same (Learned n k) y = refl
+      line_same (Reloaded u n done changes) y = refl
 
   audit_back_same : (h : History) → IsLawfulBack i (drawn_back h) → text_from_history i h ≡ audit_back i (drawn_back h)
   audit_back_same [] lawful = refl

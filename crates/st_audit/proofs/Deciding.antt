@@ -8,14 +8,13 @@ use Rattle.st_calls.specs.declared.judged.Verdict.{Verdict}
 use Rattle.st_calls.specs.declared.judged.Verdict.TheVariants.{Permit, Refuse, Unmatched}
 use Rattle.st_filter.specs.Formula.{FilterValue}
 use Rattle.st_filter.specs.Judging.{holds, verdict, verdict_by, verdict_from}
-use Rattle.st_filter.specs.Policies.{read_filters}
+use Rattle.st_filter.specs.Policies.{PoliciesValue}
 use Rattle.st_filter.specs.declared.filter.Action.{Action}
 use Rattle.st_filter.specs.declared.filter.Action.TheVariants as action
 use Rattle.st_filter.specs.declared.filter.Grant.{Grant}
-use Rattle.st_filter.specs.declared.set.BinaryPolicy.{BinaryPolicy}
 use Rattle.st_law.specs.Sessions.{SessionFilter, decision, session_filters, verdict_or}
 use Rattle.st_compile.proofs.Lists.{items_before}
-use Rattle.st_audit.specs.FromHistory.{decided_after}
+use Rattle.st_audit.specs.FromHistory.{decided_after, filters_for_copies}
 use Rattle.st_audit.specs.How.{decided_by, decided_with, deciding_number, marks_of}
 
 -- a verdict names one of these filters, which are numbered from n on
@@ -46,23 +45,23 @@ still_named fs more v x =
     let number : deciding_number v ≡ suc x.place = omega (arith, same) in
     ap (item_at_number fs) number ∙ x.there ∙ sym (items_before fs more x.place x.named x.there) ∙ sym (ap (item_at_number (fs ++ more)) number)
 
-module _ (policies : List BinaryPolicy) (session : List SessionFilter) (s : Snapshot) where
-  abbrev read : List FilterValue
-  read = read_filters policies s.policy s.rule
+module _ (policies : PoliciesValue) (session : List SessionFilter) (s : Snapshot) where
+  abbrev in_force : List FilterValue
+  in_force = filters_for_copies policies s
 
   abbrev more : List FilterValue
   more = session_filters session s.policy s.rule
 
-  -- a verdict of the filters that were read names one of them
+  -- a verdict of the filters in force names one of them
   abbrev MarksStay : Verdict → Type 0
-  MarksStay v = decided_with s.parts (deciding_number v) (marks_of (item_at_number read (deciding_number v))) ≡ decided_by policies session s (deciding_number v)
+  MarksStay v = decided_with s.parts (deciding_number v) (marks_of (item_at_number in_force (deciding_number v))) ≡ decided_by in_force session s (deciding_number v)
 
-  marks_stay : (v : Verdict) → verdict read s ≡ v → v ≢ Unmatched → MarksStay v
+  marks_stay : (v : Verdict) → verdict in_force s ≡ v → v ≢ Unmatched → MarksStay v
   marks_stay v is some =
-      let x = subst (λ (w : Verdict). w ≢ Unmatched → Names read 1 w) is (names 1 read s) some in
-      ap (λ o. decided_with s.parts (deciding_number v) (marks_of o)) (still_named read more v x)
+      let x = subst (λ (w : Verdict). w ≢ Unmatched → Names in_force 1 w) is (names 1 in_force s) some in
+      ap (λ o. decided_with s.parts (deciding_number v) (marks_of o)) (still_named in_force more v x)
 
-  alike : (v : Verdict) → verdict read s ≡ v → decided_after policies session s v ≡ decided_by policies session s (deciding_number (verdict_or v (verdict_from (suc (length read)) more s)))
+  alike : (v : Verdict) → verdict in_force s ≡ v → decided_after policies session s v ≡ decided_by in_force session s (deciding_number (verdict_or v (verdict_from (suc (length in_force)) more s)))
   alike (Permit n ids) is = marks_stay (Permit n ids) is permits where
     permits : Permit n ids ≢ Unmatched
     permits e = cc
@@ -71,6 +70,6 @@ module _ (policies : List BinaryPolicy) (session : List SessionFilter) (s : Snap
     refuses e = cc
   alike Unmatched is = refl
 
-  -- what is said of a call as the filters that were read say is what all filters decide
-  pub decided_alike : decided_after policies session s (verdict read s) ≡ decided_by policies session s (deciding_number (decision read more s))
-  decided_alike = alike (verdict read s) refl
+  -- what is said of a call as the filters in force say is what all filters decide
+  pub decided_alike : decided_after policies session s (verdict in_force s) ≡ decided_by in_force session s (deciding_number (decision in_force more s))
+  decided_alike = alike (verdict in_force s) refl

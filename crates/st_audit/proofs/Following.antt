@@ -1,12 +1,12 @@
 -- The ledger follows the entries.
-use Rattle.std.proofs.Common.{◌≡◌, ℕ, Bool, false, List, [], ◌∷◌, ◌++◌, Option, reverse, refl, ap, sym, subst, ◌∙◌}
+use Rattle.std.proofs.Common.{◌≡◌, ◌⊎◌, inl, inr, ℕ, Bool, false, List, [], ◌∷◌, ◌++◌, Option, reverse, refl, ap, sym, subst, ◌∙◌}
 use Rattle.std.specs.BTreeMap.{BTreeMap}
 use Rattle.std.proofs.lemmas.List.{append-nil, reverse-append, reverse-reverse}
 use Rattle.st_base.specs.declared.ids.Ids.{Ids}
 use Rattle.st_calls.specs.declared.argument.ArgText.{ArgText}
 use Rattle.st_calls.specs.declared.call.SysCall.{SysCall}
 use Rattle.st_effects.specs.Changes.{owner_after}
-use Rattle.st_filter.specs.declared.set.BinaryPolicy.{BinaryPolicy}
+use Rattle.st_filter.specs.Policies.{PoliciesValue}
 use Rattle.st_law.specs.declared.input.Input.{Input}
 use Rattle.st_law.specs.History.{session_at}
 use Rattle.st_law.specs.Numbers.{drawn, drawn_back}
@@ -16,7 +16,7 @@ use Rattle.st_law.specs.Threads.{History, changes_of, left_at, owner_at, pending
 use Rattle.st_trace.specs.declared.entry.CallResult.{CallResult}
 use Rattle.st_trace.specs.declared.entry.Change.{Change}
 use Rattle.st_trace.specs.declared.entry.Entry.{Entry}
-use Rattle.st_trace.specs.declared.entry.Entry.TheVariants.{Stored, Entered, Claimed, Copied, Looked, Faulted, Answered, Used, Denied, Ended, Replied, Learned}
+use Rattle.st_trace.specs.declared.entry.Entry.TheVariants.{Stored, Entered, Claimed, Copied, Looked, Faulted, Answered, Used, Denied, Ended, Replied, Learned, Reloaded}
 use Rattle.st_audit.specs.AuditText.{call_line, ending_text, line_by}
 use Rattle.st_audit.specs.How.{Decided, args_used, decided_on, how_used, is_logged}
 use Rattle.st_audit.specs.Ledger.{IsLedger, recorded_answer, entered_after, entered_in, kept_line, owner_in, row_in}
@@ -52,15 +52,21 @@ printing_adds_nothing i h (Learned n k) owners rows entered decided = refl
 printing_adds_nothing i h (Replied n reply k) owners rows entered decided = refl
 printing_adds_nothing i h _ owners rows entered decided = refl
 
--- what an entry prints by the filters that were read, by the session after the entry and by a ledger is what it prints by the entries
--- before it
-pub line_printed : (i : Input) (policies : List BinaryPolicy) (session : List SessionFilter) (ledger : Ledger) (h : History) (e : Entry) → policies ≡ i.policies → session ≡ session_at i (drawn_back (e ∷ h)) → IsLedger i ledger h
+-- what an entry prints by the policies of the run, by the session after the entry and by a ledger is what it prints by the entries before it
+pub line_printed : (i : Input) (policies : PoliciesValue) (session : List SessionFilter) (ledger : Ledger) (h : History) (e : Entry) → policies ≡ i.policies → session ≡ session_at i (drawn_back (e ∷ h)) → IsLedger i ledger h
     → kept_line i policies session ledger e ≡ line_from_history i h e
 line_printed i policies session ledger h e read same is =
     (λ k. line_by i (λ t. is.owners t k) (λ p. is.rows p k) (λ t. is.entered t k) (λ n. decided_from_history (read k) (same k) (is.answers n k)) e)
     ∙ printing_adds_nothing i h e (owner_at i h) (row_at i h) (entered_at i h) (λ session n. decided_from_history i.policies session (applied_answer h n))
 
--- the rows after the changes of a call, by its entry
+-- the thread and the changes of an entry that has some
+pub made_by : (e : Entry) (t : ℕ) (changes : List Change)
+    → ((seq : Option ℕ) × (call : SysCall) × (regs : List ℕ) × (args : List ArgText) × (ids : Ids) × (result : CallResult) × (e ≡ Used t seq call regs args ids result changes)) ⊎ ((policy : ℕ) × (done : Bool) × (e ≡ Reloaded t policy done changes))
+    → (thread_of e ≡ t) × (changes_of e ≡ changes)
+made_by e t changes (inl x) = (ap thread_of x.6, ap changes_of x.6)
+made_by e t changes (inr x) = (ap thread_of x.2, ap changes_of x.2)
+
+-- the rows after the changes of an entry
 pub rows_noted : (i : Input) (owners : BTreeMap ℕ ℕ) (old new : BTreeMap ℕ Row) (e : Entry) (t pid : ℕ) (changes : List Change) → thread_of e ≡ t → changes_of e ≡ changes → pid ≡ owner_in i owners t
     → ((p : ℕ) → row_in i new p ≡ row_after (row_in i old pid) pid p (row_in i old p) changes)
     → (p : ℕ) → row_in i new p ≡ row_after (row_in i old (owner_in i owners (thread_of e))) (owner_in i owners (thread_of e)) p (row_in i old p) (changes_of e)
@@ -86,8 +92,9 @@ module _ (i : Input) (ledger : Ledger) where
   kept_still h (Learned q n) none is = cc
   kept_still h (Used t seq call regs args ids result changes) none is = cc
   kept_still h (Denied t seq errno cause) none is = cc
+  kept_still h (Reloaded t n done changes) none is = cc
 
-module _ (i : Input) (policies : List BinaryPolicy) (session : List SessionFilter) (ledger : Ledger) where
+module _ (i : Input) (policies : PoliciesValue) (session : List SessionFilter) (ledger : Ledger) where
   -- a step in between prints nothing
   prints_nothing : (e : Entry) → concerns_call e ≡ false → kept_line i policies session ledger e ≡ []
   prints_nothing (Stored t place word) none = refl
@@ -102,6 +109,7 @@ module _ (i : Input) (policies : List BinaryPolicy) (session : List SessionFilte
   prints_nothing (Learned q n) none = cc
   prints_nothing (Used t seq call regs args ids result changes) none = cc
   prints_nothing (Denied t seq errno cause) none = cc
+  prints_nothing (Reloaded t n done changes) none = cc
 
   pub printed_still : (e : Entry) (text : List ℕ) → concerns_call e ≡ false → text ≡ text ++ kept_line i policies session ledger e
   printed_still e text none = sym (append-nil text) ∙ ap (λ line. text ++ line) (sym (prints_nothing e none))
@@ -118,14 +126,14 @@ module _ (i : Input) (trace : List Entry) (e : Entry) where
   pub kept_more : (old new : Ledger) → IsLedger i old (reverse trace) → ((h : History) → IsLedger i old h → IsLedger i new (e ∷ h)) → IsLedger i new (reverse (trace ++ e ∷ []))
   kept_more old new kept noted = subst (IsLedger i new) (sym newest_first) (noted (reverse trace) kept)
 
-  pub audit_more : (policies : List BinaryPolicy) (session : List SessionFilter) (ledger : Ledger) (text new : List ℕ) → policies ≡ i.policies → session ≡ session_at i (reverse (drawn (trace ++ e ∷ []))) → text ≡ audit_from_history i trace
+  pub audit_more : (policies : PoliciesValue) (session : List SessionFilter) (ledger : Ledger) (text new : List ℕ) → policies ≡ i.policies → session ≡ session_at i (reverse (drawn (trace ++ e ∷ []))) → text ≡ audit_from_history i trace
       → IsLedger i ledger (reverse trace) → new ≡ text ++ kept_line i policies session ledger e → new ≡ audit_from_history i (trace ++ e ∷ [])
   audit_more policies session ledger text new read same written kept more =
       more ∙ ap (λ line. text ++ line) (line_printed i policies session ledger (reverse trace) e read (same ∙ ap (session_at i) newest_drawn) kept)
       ∙ ap (λ front. front ++ line_from_history i (reverse trace) e) written ∙ sym (ap (text_from_history i) newest_first)
 
 -- what a call that was made prints, by what is known of it
-pub used_line : (i : Input) (policies : List BinaryPolicy) (session : List SessionFilter) (ledger : Ledger) (e : Entry) (t : ℕ) (seq : Option ℕ) (call : SysCall) (regs : List ℕ) (args : List ArgText) (ids : Ids) (result : CallResult) (changes : List Change)
+pub used_line : (i : Input) (policies : PoliciesValue) (session : List SessionFilter) (ledger : Ledger) (e : Entry) (t : ℕ) (seq : Option ℕ) (call : SysCall) (regs : List ℕ) (args : List ArgText) (ids : Ids) (result : CallResult) (changes : List Change)
     (text new : List ℕ) (slice printed : List ArgText) (how : How) (log : Bool) (decided : Option Decided)
     → e ≡ Used t seq call regs args ids result changes
     → decided ≡ decided_on (λ n. decided_from_history policies session (recorded_answer ledger.answers n)) seq

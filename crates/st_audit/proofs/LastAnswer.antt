@@ -7,7 +7,7 @@ use Rattle.st_calls.specs.declared.judged.Verdict.{Verdict}
 use Rattle.st_model.specs.Tree.{is_number}
 use Rattle.st_trace.specs.declared.entry.Change.{Change}
 use Rattle.st_trace.specs.declared.entry.Change.TheVariants.{Renewed}
-use Rattle.st_trace.specs.declared.entry.Entry.TheVariants.{Entered, Answered, Used, Denied}
+use Rattle.st_trace.specs.declared.entry.Entry.TheVariants.{Entered, Answered, Used, Denied, Reloaded}
 use Rattle.st_trace.specs.declared.entry.Way.TheVariants.{Held}
 use Rattle.st_law.specs.Numbers.{Drawings, counted, drawings_after_change, drawings_at, drawn_back, drawn_changes}
 use Rattle.st_law.specs.Threads.{History}
@@ -87,4 +87,7 @@ last_answer (Used u seq call regs args ids result changes ∷ h) n q means made 
     means
 last_answer (Denied u seq errno cause ∷ h) n q means made =
     closed n q (drawings_at h) (counted_back h) means made seq (applied_answer h n) (applied_answer (drawn_back h) q) (last_answer h n q means made)
+last_answer (Reloaded u policy done changes ∷ h) n q means made =
+    changed n q (drawings_at h).drawing_of (drawings_at h) changes (applied_answer h n) (applied_answer (drawn_back h) q) (counted_back h)
+    (λ meant. last_answer h n q meant made) means
 last_answer (_ ∷ h) n q means made = last_answer h n q means made

@@ -4,7 +4,7 @@ use Rattle.std.proofs.Common.{◌≡◌, ◌≤◌, ◌⊎◌, ℕ, suc, Bool, t
 use Rattle.std.proofs.lemmas.Bool.{and_parts, eqb-true, eqb-false, ne_eqb}
 use Rattle.st_trace.specs.declared.entry.Change.{Change}
 use Rattle.st_trace.specs.declared.entry.Change.TheVariants.{Renewed}
-use Rattle.st_trace.specs.declared.entry.Entry.TheVariants.{Entered, Answered, Used}
+use Rattle.st_trace.specs.declared.entry.Entry.TheVariants.{Entered, Answered, Used, Reloaded}
 use Rattle.st_trace.specs.declared.entry.Way.TheVariants.{Held}
 use Rattle.st_law.specs.Messages.{is_answered_at}
 use Rattle.st_law.specs.Numbers.{Drawings, counted, drawings_after_change, drawings_at, drawn_back}
@@ -76,6 +76,7 @@ pub counted_back : (h : History) → AreCounted (drawings_at h)
 counted_back [] = record { low = λ n. omega arith; apart = λ m n made same. absurd (omega (arith, made)) }
 counted_back (Entered t call regs (Held n) ∷ h) = one_more (drawings_at h) (counted_back h) n
 counted_back (Used t seq call regs args ids result changes ∷ h) = changes_counted (drawings_at h) changes (counted_back h)
+counted_back (Reloaded t policy done changes ∷ h) = changes_counted (drawings_at h) changes (counted_back h)
 counted_back (_ ∷ h) = counted_back h
 
 -- only drawings that were counted are answered
@@ -89,5 +90,7 @@ answered_low (Answered w s v applied ∷ h) q answered = by (((drawings_at h).dr
   by false e before older = older before
 answered_low (Entered t call regs (Held n) ∷ h) q answered = let low = answered_low h q answered in omega (arith, low)
 answered_low (Used t seq call regs args ids result changes ∷ h) q answered =
+    let low = answered_low h q answered in let more = count_grows (drawings_at h) changes in omega (arith, low, more)
+answered_low (Reloaded t policy done changes ∷ h) q answered =
     let low = answered_low h q answered in let more = count_grows (drawings_at h) changes in omega (arith, low, more)
 answered_low (_ ∷ h) q answered = answered_low h q answered

@@ -6,6 +6,7 @@ pub mod Growth
 pub mod LastAnswer
 pub mod LastDrawing
 mod NumberedRows
+mod ReloadRows
 pub mod Rows
 mod Summarized
 pub mod Unnumbered

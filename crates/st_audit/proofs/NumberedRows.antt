@@ -16,7 +16,7 @@ use Rattle.st_trace.specs.declared.entry.Cause.TheVariants.{NoFilter}
 use Rattle.st_trace.specs.declared.entry.Change.{Change}
 use Rattle.st_trace.specs.declared.entry.Change.TheVariants.{Renewed, SetIds}
 use Rattle.st_trace.specs.declared.entry.Entry.{Entry}
-use Rattle.st_trace.specs.declared.entry.Entry.TheVariants.{Entered, Claimed, Answered, Used, Denied}
+use Rattle.st_trace.specs.declared.entry.Entry.TheVariants.{Entered, Claimed, Answered, Used, Denied, Reloaded}
 use Rattle.st_trace.specs.declared.entry.Way.TheVariants.{Held}
 use Rattle.st_law.specs.declared.input.Input.{Input}
 use Rattle.st_law.specs.declared.input.Mode.TheVariants.{Enforce, Learn}
@@ -140,6 +140,11 @@ renewed_and_denied : audit_from_history opener (enters 2 2 ∷ permitted ++ sets
     codes "1.3 \"/bin/cat\" native-setuid fast = 0\n1.2 \"/bin/cat\" native-fsread nofilter = EPERM\n"
 unfolding digits
 renewed_and_denied = refl
+
+-- a reload draws number 1 again
+reloaded_and_denied : audit_from_history opener (enters 2 2 ∷ permitted ++ Reloaded 3 1 true (Renewed 2 1 ∷ []) ∷ denied 2 1 ∷ []) ≡ codes "1.2 \"/bin/cat\" native-fsread nofilter = EPERM\n"
+unfolding digits
+reloaded_and_denied = refl
 
 -- the answer of the other worker comes once number 1 means another call
 a_late_answer : audit_from_history opener (

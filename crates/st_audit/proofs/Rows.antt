@@ -7,7 +7,7 @@ use Rattle.st_model.specs.Process.{Process}
 use Rattle.st_trace.specs.declared.entry.Change.{Change}
 use Rattle.st_trace.specs.declared.entry.Change.TheVariants.{Made, Linked, Removed, Renamed, Written, Cut, Moded, Owned, Put, Forked, Execed, SetIds, Cwd, Dying, Renewed, Policy}
 use Rattle.st_trace.specs.declared.entry.Entry.{Entry}
-use Rattle.st_trace.specs.declared.entry.Entry.TheVariants.{Stored, Entered, Claimed, Copied, Looked, Faulted, Answered, Used, Denied, Ended, Replied, Learned}
+use Rattle.st_trace.specs.declared.entry.Entry.TheVariants.{Stored, Entered, Claimed, Copied, Looked, Faulted, Answered, Used, Denied, Ended, Replied, Learned, Reloaded}
 use Rattle.st_trace.specs.declared.start.Instr.{Instr}
 use Rattle.st_law.specs.Threads.{PendingCall, pending_after}
 use Rattle.st_audit.specs.Ledger.{entered_after}
@@ -94,3 +94,4 @@ entered_changed (Answered w s v applied) t left before = refl
 entered_changed (Ended u) t left before = refl
 entered_changed (Replied q reply n) t left before = refl
 entered_changed (Learned q n) t left before = refl
+entered_changed (Reloaded u policy done changes) t left before = refl

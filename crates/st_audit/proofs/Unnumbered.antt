@@ -7,20 +7,19 @@ use Rattle.st_calls.specs.declared.judged.Verdict.TheVariants.{Permit, Refuse, U
 use Rattle.st_effects.specs.Changes.{owner_after, owner_after_change, process_after, process_after_change}
 use Rattle.st_filter.specs.Formula.{FilterValue}
 use Rattle.st_filter.specs.Judging.{holds, verdict_by, verdict_from}
-use Rattle.st_filter.specs.Policies.{read_filters}
-use Rattle.st_filter.specs.declared.set.BinaryPolicy.{BinaryPolicy}
+use Rattle.st_filter.specs.Policies.{PoliciesValue}
 use Rattle.st_model.specs.Process.{Process}
 use Rattle.st_trace.specs.declared.entry.Change.{Change}
 use Rattle.st_trace.specs.declared.entry.Change.TheVariants.{Renewed}
 use Rattle.st_trace.specs.declared.entry.Entry.{Entry}
-use Rattle.st_trace.specs.declared.entry.Entry.TheVariants.{Stored, Used}
+use Rattle.st_trace.specs.declared.entry.Entry.TheVariants.{Stored, Used, Reloaded}
 use Rattle.st_law.specs.declared.input.Input.{Input}
 use Rattle.st_law.specs.Numbers.{Drawings, drawings_at, drawn_back, drawn_changes, drawn_entry}
 use Rattle.st_law.specs.Processes.{process_at}
 use Rattle.st_law.specs.Sessions.{SessionFilter, session_filters}
 use Rattle.st_law.specs.Threads.{History, changes_of, left_at, owner_at, pending_at, thread_of}
 use Rattle.st_audit.specs.declared.entered.EnteredCall.{EnteredCall}
-use Rattle.st_audit.specs.FromHistory.{decided_after}
+use Rattle.st_audit.specs.FromHistory.{decided_after, filters_for_copies}
 use Rattle.st_audit.specs.How.{decided_by, deciding_number}
 use Rattle.st_audit.specs.Ledger.{entered_after}
 use Rattle.st_audit.specs.Rows.{entered_at, printed_row, row_at}
@@ -43,16 +42,19 @@ module _ (drawing_of : ℕ → ℕ) where
 module _ (drawings : Drawings) where
   changes_drawn : (e : Entry) → changes_of (drawn_entry drawings e) ≡ drawn_changes drawings.drawing_of drawings.count (changes_of e)
   changes_drawn (Used t seq call regs args ids result changes) = refl
+  changes_drawn (Reloaded t policy done changes) = refl
   changes_drawn (Stored t place word) = refl
   changes_drawn _ = refl
 
   thread_drawn : (e : Entry) → thread_of (drawn_entry drawings e) ≡ thread_of e
   thread_drawn (Used t seq call regs args ids result changes) = refl
+  thread_drawn (Reloaded t policy done changes) = refl
   thread_drawn (Stored t place word) = refl
   thread_drawn _ = refl
 
   entered_drawn : (e : Entry) (t : ℕ) (before : Option EnteredCall) → entered_after (drawn_entry drawings e) t before ≡ entered_after e t before
   entered_drawn (Used u seq call regs args ids result changes) t before = refl
+  entered_drawn (Reloaded u policy done changes) t before = refl
   entered_drawn (Stored u place word) t before = refl
   entered_drawn _ t before = refl
 
@@ -91,8 +93,8 @@ verdict_same : (n : ℕ) (fs : List FilterValue) (s : Snapshot) (q : ℕ) → ve
 verdict_same n [] s q = refl
 verdict_same n (f ∷ fs) s q = ap (λ v. cond (holds f s) (verdict_by n f.grant s.ids f.action) v) (verdict_same (suc n) fs s q)
 
-pub same_decided : (policies : List BinaryPolicy) (session : List SessionFilter) (s : Snapshot) (q : ℕ) (v : Verdict) → decided_after policies session (record s { seq = q }) v ≡ decided_after policies session s v
+pub same_decided : (policies : PoliciesValue) (session : List SessionFilter) (s : Snapshot) (q : ℕ) (v : Verdict) → decided_after policies session (record s { seq = q }) v ≡ decided_after policies session s v
 same_decided policies session s q (Permit n ids) = refl
 same_decided policies session s q (Refuse n errno) = refl
 same_decided policies session s q Unmatched =
-    ap (λ v. decided_by policies session s (deciding_number v)) (verdict_same (suc (length (read_filters policies s.policy s.rule))) (session_filters session s.policy s.rule) s q)
+    ap (λ v. decided_by (filters_for_copies policies s) session s (deciding_number v)) (verdict_same (suc (length (filters_for_copies policies s))) (session_filters session s.policy s.rule) s q)

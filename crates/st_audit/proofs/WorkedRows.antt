@@ -28,7 +28,7 @@ abbrev audit_of : Input → Option (List Entry) → List ℕ
 audit_of i None = []
 audit_of i (Some entries) = audit i entries
 
-abbrev audited : Input → List ScheduleLine → List ℕ
+abbrev pub audited : Input → List ScheduleLine → List ℕ
 audited i lines = audit_of i (trace i lines)
 
 -- ---- calls that the kernel answers by itself
@@ -43,7 +43,7 @@ a_barred_call = refl
 
 -- ---- held calls
 
-abbrev passwd_line : List ℕ
+abbrev pub passwd_line : List ℕ
 passwd_line = codes "1.1 \"/bin/cat\" native-fsread filename=\"/etc/passwd\" permit#1 = 3\n"
 
 a_held_open : audited passwd_reader (rest ∷ []) ≡ passwd_line
@@ -150,7 +150,7 @@ a_logged_reply = refl
 
 -- the filters of the session are numbered after those that were read, and have their own marks
 abbrev asker_with_a_policy : Input
-asker_with_a_policy = record (asker (reply "/bin/cat" passwd_only ∷ [])) { policies = policy "/bin/cat" (logged (granting (Some 7) None (reads_only "/etc/motd")) ∷ []) ∷ [] }
+asker_with_a_policy = record (asker (reply "/bin/cat" passwd_only ∷ [])) { policies = record { read = policy "/bin/cat" (logged (granting (Some 7) None (reads_only "/etc/motd")) ∷ []) ∷ []; blocks = [] } }
 
 after_those_read : audited asker_with_a_policy (rest ∷ []) ≡ codes "1.1 \"/bin/cat\" native-fsread filename=\"/etc/passwd\" permit#2 = 3\n"
 unfolding digits
@@ -171,7 +171,7 @@ a_logged_denial = refl
 
 -- a link is in the way, and the filter that permits asks for a mark
 abbrev logged_linker : Input
-logged_linker = record linker { policies = policy "/bin/cat" (logged (reads_only "/tmp/f") ∷ []) ∷ [] }
+logged_linker = record linker { policies = record { read = policy "/bin/cat" (logged (reads_only "/tmp/f") ∷ []) ∷ []; blocks = [] } }
 
 a_logged_link : audited logged_linker (thread 1 2 ∷ worker 1 5 ∷ thread 2 7 ∷ rest ∷ []) ≡ codes "1.1 \"/bin/cat\" native-fsread filename=\"/tmp/f\" link \"/tmp/f\" = ELOOP log\n"
 unfolding digits

@@ -6,14 +6,14 @@ use Rattle.st_base.specs.Numbered.{item_at_number}
 use Rattle.st_calls.specs.declared.judged.Snapshot.{Snapshot}
 use Rattle.st_calls.specs.declared.judged.Verdict.{Verdict}
 use Rattle.st_calls.specs.declared.judged.Verdict.TheVariants.{Permit, Refuse, Unmatched}
+use Rattle.st_filter.specs.Formula.{FilterValue}
 use Rattle.st_filter.specs.Judging.{verdict_from}
-use Rattle.st_filter.specs.Policies.{read_filters}
-use Rattle.st_filter.specs.declared.set.BinaryPolicy.{BinaryPolicy}
+use Rattle.st_filter.specs.Policies.{PoliciesValue, filters_in_force}
 use Rattle.st_model.specs.Tree.{is_number}
 use Rattle.st_trace.specs.declared.entry.Change.{Change}
 use Rattle.st_trace.specs.declared.entry.Change.TheVariants.{Renewed}
 use Rattle.st_trace.specs.declared.entry.Entry.{Entry}
-use Rattle.st_trace.specs.declared.entry.Entry.TheVariants.{Stored, Entered, Claimed, Copied, Looked, Faulted, Answered, Used, Denied, Ended, Replied, Learned}
+use Rattle.st_trace.specs.declared.entry.Entry.TheVariants.{Stored, Entered, Claimed, Copied, Looked, Faulted, Answered, Used, Denied, Ended, Replied, Learned, Reloaded}
 use Rattle.st_trace.specs.declared.entry.Way.TheVariants.{Held}
 use Rattle.st_law.specs.declared.input.Input.{Input}
 use Rattle.st_law.specs.History.{session_at}
@@ -24,8 +24,8 @@ use Rattle.st_audit.specs.How.{Decided, decided_by, decided_with, deciding_numbe
 use Rattle.st_audit.specs.AuditText.{line_by}
 use Rattle.st_audit.specs.Rows.{entered_at, row_at}
 
--- whether an entry says how a call goes on: that it is entered, answered, made or denied, or that a filter for it is replied or
--- learnt; the others are steps in between
+-- whether an entry says how a call goes on: that it is entered, answered, made or denied, that a filter for it is replied or learnt, or
+-- that its policy is reloaded; the others are steps in between
 abbrev pub concerns_call : Entry → Bool
 concerns_call (Entered t call regs way) = true
 concerns_call (Answered w s verdict applied) = true
@@ -33,6 +33,7 @@ concerns_call (Replied q reply n) = true
 concerns_call (Learned q n) = true
 concerns_call (Used t seq call regs args ids result changes) = true
 concerns_call (Denied t seq errno cause) = true
+concerns_call (Reloaded t n done changes) = true
 concerns_call (Stored t place word) = false
 concerns_call (Claimed w q) = false
 concerns_call (Copied q part place word) = false
@@ -42,7 +43,7 @@ concerns_call (Ended t) = false
 
 -- ---- answers
 
--- an answer: the held call that was judged, and what the filters that were read say of the call
+-- an answer: the held call that was judged, and what the filters in force say of the call
 pub record Answer : Type 0 where
   pub snapshot : Snapshot
   pub verdict : Verdict
@@ -67,6 +68,7 @@ answer_after (Answered w snapshot verdict applied) n before =
     if (snapshot.seq == n) && applied then Some (answer_with snapshot verdict) else before
 answer_after (Used t seq call regs args ids result changes) n before = fold (answer_after_change n) (if is_number n seq then None else before) changes
 answer_after (Denied t seq errno cause) n before = if is_number n seq then None else before
+answer_after (Reloaded t policy done changes) n before = fold (answer_after_change n) before changes
 answer_after _ n before = before
 
 -- the newest applied answer to a number since it was drawn last, if the call is neither made nor denied
@@ -76,23 +78,27 @@ applied_answer (e ∷ h) n = answer_after e n (applied_answer h n)
 
 -- ---- what decided
 
--- a held call with these copies, decided by the filter with this number among those that were read
-abbrev pub decided_by_read : List BinaryPolicy → Snapshot → ℕ → Decided
-decided_by_read policies s n = decided_with s.parts n (marks_of (item_at_number (read_filters policies s.policy s.rule) n))
+-- the filters in force for a held call with these copies, at the version of its policy that judges it
+abbrev pub filters_for_copies : PoliciesValue → Snapshot → List FilterValue
+filters_for_copies policies s = filters_in_force policies s.policy s.version s.rule
 
--- a held call with these copies, decided by the session's filters, which are numbered after those that were read
-abbrev pub decided_by_session : List BinaryPolicy → List SessionFilter → Snapshot → Decided
+-- a held call with these copies, decided by the filter with this number among those in force
+abbrev pub decided_by_policy : PoliciesValue → Snapshot → ℕ → Decided
+decided_by_policy policies s n = decided_with s.parts n (marks_of (item_at_number (filters_for_copies policies s) n))
+
+-- a held call with these copies, decided by the session's filters, which are numbered after those in force
+abbrev pub decided_by_session : PoliciesValue → List SessionFilter → Snapshot → Decided
 decided_by_session policies session s =
-    decided_by policies session s (deciding_number (verdict_from (suc (length (read_filters policies s.policy s.rule))) (session_filters session s.policy s.rule) s))
+    decided_by (filters_for_copies policies s) session s (deciding_number (verdict_from (suc (length (filters_for_copies policies s))) (session_filters session s.policy s.rule) s))
 
--- a held call with these copies, decided as the filters that were read say, otherwise by those of the session
-abbrev pub decided_after : List BinaryPolicy → List SessionFilter → Snapshot → Verdict → Decided
-decided_after policies session s (Permit n ids) = decided_by_read policies s n
-decided_after policies session s (Refuse n errno) = decided_by_read policies s n
+-- a held call with these copies, decided as the filters in force say, otherwise by those of the session
+abbrev pub decided_after : PoliciesValue → List SessionFilter → Snapshot → Verdict → Decided
+decided_after policies session s (Permit n ids) = decided_by_policy policies s n
+decided_after policies session s (Refuse n errno) = decided_by_policy policies s n
 decided_after policies session s Unmatched = decided_by_session policies session s
 
 -- what an audit says of the held call of an answer
-abbrev pub decided_from_history : List BinaryPolicy → List SessionFilter → Option Answer → Option Decided
+abbrev pub decided_from_history : PoliciesValue → List SessionFilter → Option Answer → Option Decided
 decided_from_history policies session answer = option_map (λ a. decided_after policies session a.snapshot a.verdict) answer
 
 -- what an entry prints, by what the entries before it record under the numbers of messages, and by the session after their drawings

@@ -8,15 +8,13 @@ use Rattle.st_calls.specs.declared.judged.Verdict.{Verdict}
 use Rattle.st_calls.specs.declared.judged.Verdict.TheVariants as verdicts
 use Rattle.st_calls.specs.declared.rule.Rule.{Rule}
 use Rattle.st_filter.specs.Formula.{FilterValue}
-use Rattle.st_filter.specs.Policies.{read_filters}
-use Rattle.st_filter.specs.declared.set.BinaryPolicy.{BinaryPolicy}
 use Rattle.st_lex.specs.Quote.{quoted}
 use Rattle.st_names.specs.Name.{printed_name}
 use Rattle.st_trace.specs.declared.entry.Cause.{Cause}
 use Rattle.st_trace.specs.declared.entry.Cause.TheVariants as cause
 use Rattle.st_law.specs.declared.input.Input.{Input}
 use Rattle.st_law.specs.Sessions.{SessionFilter, session_filters}
-use Rattle.st_law.specs.State.{State, decision_in, snapshot_in}
+use Rattle.st_law.specs.State.{State, decision_in, read_at, snapshot_in}
 use Rattle.st_audit.specs.declared.how.How.{How}
 use Rattle.st_audit.specs.declared.marks.Marks.{Marks}
 use Rattle.st_audit.specs.declared.how.How.TheVariants.{Fast, Barred, Permit, PermitAs, Deny, NoFilter, Fault, Link}
@@ -46,9 +44,9 @@ deciding_number (verdicts.Permit n ids) = n
 deciding_number (verdicts.Refuse n errno) = n
 deciding_number verdicts.Unmatched = 0
 
--- the filter with a number, among those read for a policy and a rule and, after them, those of the session
-abbrev pub filter_numbered : List BinaryPolicy → List SessionFilter → List ℕ → Rule → ℕ → Option FilterValue
-filter_numbered policies session policy rule n = item_at_number (read_filters policies policy rule ++ session_filters session policy rule) n
+-- the filter with a number, among those in force for a policy and a rule and, after them, those of the session
+abbrev pub filter_numbered : List FilterValue → List SessionFilter → List ℕ → Rule → ℕ → Option FilterValue
+filter_numbered in_force session policy rule n = item_at_number (in_force ++ session_filters session policy rule) n
 
 -- what an audit says of a filter, if there is one: whether it grants ids, and whether it asks for a mark
 abbrev pub marks_of : Option FilterValue → Marks
@@ -65,13 +63,13 @@ pub record Decided : Type 0 where
 abbrev pub decided_with : List ArgText → ℕ → Marks → Decided
 decided_with parts number marks = record { parts = parts; number = number; marks = marks }
 
--- a held call with these copies, decided by the filter with this number
-abbrev pub decided_by : List BinaryPolicy → List SessionFilter → Snapshot → ℕ → Decided
-decided_by policies session s n = decided_with s.parts n (marks_of (filter_numbered policies session s.policy s.rule n))
+-- a held call with these copies, decided by the filter with this number, by the filters in force and those of the session
+abbrev pub decided_by : List FilterValue → List SessionFilter → Snapshot → ℕ → Decided
+decided_by in_force session s n = decided_with s.parts n (marks_of (filter_numbered in_force session s.policy s.rule n))
 
 -- the held call with a number, and what its filters decide now
 abbrev pub decided_in : Input → State → ℕ → Option Decided
-decided_in i st q = option_map (λ s. decided_by i.policies st.session s (deciding_number (decision_in i st s))) (snapshot_in st q)
+decided_in i st q = option_map (λ s. decided_by (read_at i st s.policy s.rule) st.session s (deciding_number (decision_in i st s))) (snapshot_in st q)
 
 -- the held call with a number, if there is one
 abbrev pub decided_on : (ℕ → Option Decided) → Option ℕ → Option Decided

@@ -34,7 +34,7 @@ impl Answer {
         self.copies.get()
     }
 
-    /// What the filters that were read say of the copies.
+    /// What the filters in force say of the copies.
     pub fn verdict(&self) -> Verdict
         ensures { result ≡ self.now.verdict }
     {
@@ -102,6 +102,7 @@ pub fn note_answer(
             forget_drawn(answers, changes.as_slice());
         }
         Entry::Denied { seq, .. } => forget(answers, *seq),
+        Entry::Reloaded { changes, .. } => forget_drawn(answers, changes.as_slice()),
         _ => {}
     }
     Ok(())

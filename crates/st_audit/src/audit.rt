@@ -100,7 +100,7 @@ fn append_line(
     ledger: &Ledger,
     entry: &Entry,
 ) -> Result<(), AllocError>
-    ensures { OnOk result (text.new ≡ text.old ++ kept_line input.now filters.now.read.now filters.now.session.now.filters ledger.now entry.now) }
+    ensures { OnOk result (text.new ≡ text.old ++ kept_line input.now filters.now.policies.now filters.now.session.now.filters ledger.now entry.now) }
 {
     match entry {
         Entry::Used {
@@ -192,7 +192,7 @@ impl Recorder for AuditRecorder {
             return Ok(());
         }
         let filters = RunFilters {
-            read: &*compiled,
+            policies: &*compiled,
             session: &*session,
         };
         append_line(alloc, &mut self.text, input, &filters, &self.ledger, entry)?;

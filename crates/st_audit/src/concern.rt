@@ -3,8 +3,8 @@ ghost use Rattle.st_audit.specs.FromHistory.{concerns_call};
 
 use st_trace::Entry;
 
-/// Whether an entry says how a call goes on: that it is entered, answered, made or denied, or that a filter for it is replied or
-/// learnt. The others are steps in between. Most entries are such: the words that workers copy and the names that they look at.
+/// Whether an entry says how a call goes on: that it is entered, answered, made or denied, that a filter for it is replied or learnt,
+/// or that its policy is reloaded. The others are steps in between. Most entries are such: the words that workers copy and the names that they look at.
 pub fn concerns_call(entry: &Entry) -> bool
     ensures { result ≡ concerns_call entry.now }
 {
@@ -14,7 +14,8 @@ pub fn concerns_call(entry: &Entry) -> bool
         | Entry::Replied { .. }
         | Entry::Learned { .. }
         | Entry::Used { .. }
-        | Entry::Denied { .. } => true,
+        | Entry::Denied { .. }
+        | Entry::Reloaded { .. } => true,
         Entry::Stored { .. }
         | Entry::Claimed { .. }
         | Entry::Copied { .. }

@@ -1,6 +1,6 @@
 // What decided on a held call.
 ghost use Rattle.std.specs.Prelude.{◌≡◌, option_copied};
-ghost use Rattle.st_audit.specs.FromHistory.{decided_after, decided_by_read, decided_by_session};
+ghost use Rattle.st_audit.specs.FromHistory.{decided_after, decided_by_policy, decided_by_session};
 ghost use Rattle.st_audit.specs.How.{decided_with, marks_of};
 
 use crate::marks::Marks;
@@ -63,49 +63,51 @@ impl<'a> Decided<'a> {
 /// The filters of a run.
 #[derive(Clone, Copy)]
 pub struct RunFilters<'a, 'p, 's> {
-    /// Those that were read.
-    pub read: &'a Compiled<'p>,
+    /// Those of its policies.
+    pub policies: &'a Compiled<'p>,
     /// Those that the run has added.
     pub session: &'a Session<'s>,
 }
 
-// What an audit says of a held call with these copies, if the filter with this number among those that were read decides.
-fn decided_by_read<'c>(read: &Compiled<'_>, copies: &'c Snapshot, number: u32) -> Decided<'c>
-    ensures { result ≡ decided_by_read read.now copies.now number }
+// What an audit says of a held call with these copies, if the filter with this number among those in force decides.
+fn decided_by_policy<'c>(policies: &Compiled<'_>, copies: &'c Snapshot, number: u32) -> Decided<'c>
+    ensures { result ≡ decided_by_policy policies.now copies.now number }
 {
-    let filter = read.filter(copies.policy.get().bytes(), copies.rule, number);
+    let binary = copies.policy.get().bytes();
+    let filter = policies.filter(binary, copies.version, copies.rule, number);
     Decided::by(copies, u64::from(number), filter)
 }
 
-// What an audit says of a held call with these copies, if no filter that was read decides.
+// What an audit says of a held call with these copies, if no filter in force decides.
 fn decided_by_session<'c>(filters: &RunFilters<'_, '_, '_>, copies: &'c Snapshot) -> Decided<'c>
-    ensures { result ≡ decided_by_session filters.now.read.now filters.now.session.now.filters copies.now }
+    ensures { result ≡ decided_by_session filters.now.policies.now filters.now.session.now.filters copies.now }
 {
     let Some((number, filter)) = filters.session.deciding(copies) else {
         return Decided::by(copies, 0, None);
     };
     match filter.action() {
         Action::Permit | Action::Deny(_) => {
-            let read = filters
-                .read
-                .filter_count(copies.policy.get().bytes(), copies.rule);
-            Decided::by(copies, u64::from(read) + u64::from(number), Some(filter))
+            let binary = copies.policy.get().bytes();
+            let before = filters
+                .policies
+                .filter_count(binary, copies.version, copies.rule);
+            Decided::by(copies, u64::from(before) + u64::from(number), Some(filter))
         }
         Action::Ask => Decided::by(copies, 0, None),
     }
 }
 
-/// What an audit says of a held call with these copies, if the filters that were read say this of it.
+/// What an audit says of a held call with these copies, if the filters in force say this of it.
 pub fn decided_after<'c>(
     filters: &RunFilters<'_, '_, '_>,
     copies: &'c Snapshot,
     verdict: Verdict,
 ) -> Decided<'c>
-    ensures { result ≡ decided_after filters.now.read.now filters.now.session.now.filters copies.now verdict }
+    ensures { result ≡ decided_after filters.now.policies.now filters.now.session.now.filters copies.now verdict }
 {
     match verdict {
         Verdict::Permit(number, _) | Verdict::Refuse(number, _) => {
-            decided_by_read(filters.read, copies, number)
+            decided_by_policy(filters.policies, copies, number)
         }
         Verdict::Unmatched => decided_by_session(filters, copies),
     }

@@ -41,12 +41,14 @@ fn note_processes(
     ensures owners { OnOk result ((t : ℕ) → owner_in input.now owners.new t ≡ owner_after t (owner_in input.now owners.old t) (changes_of entry.now)) }
     ensures rows { OnOk result ((p : ℕ) → row_in input.now rows.new p ≡ row_after (row_in input.now rows.old (owner_in input.now owners.old (thread_of entry.now))) (owner_in input.now owners.old (thread_of entry.now)) p (row_in input.now rows.old p) (changes_of entry.now)) }
 {
-    if let Entry::Used { tid, changes, .. } = entry {
-        let pid = owner_of(input, owners, *tid);
-        note_rows(alloc, input, rows, pid, changes.as_slice())?;
-        note_owners(input, owners, changes.as_slice())?;
+    match entry {
+        Entry::Used { tid, changes, .. } | Entry::Reloaded { tid, changes, .. } => {
+            let pid = owner_of(input, owners, *tid);
+            note_rows(alloc, input, rows, pid, changes.as_slice())?;
+            note_owners(input, owners, changes.as_slice())
+        }
+        _ => Ok(()),
     }
-    Ok(())
 }
 
 impl Ledger {
@@ -64,7 +66,7 @@ impl Ledger {
 
     /// What an audit says of a held call under the filters of a run, if the call has this number and was answered.
     pub fn decided(&self, filters: &RunFilters<'_, '_, '_>, seq: Option<Seq>) -> Option<Decided<'_>>
-        ensures { result ≡ decided_on (λ q. decided_from_history filters.now.read.now filters.now.session.now.filters (recorded_answer self.now.answers q)) seq }
+        ensures { result ≡ decided_on (λ q. decided_from_history filters.now.policies.now filters.now.session.now.filters (recorded_answer self.now.answers q)) seq }
     {
         let answer = self.answers.get(&seq?)?;
         Some(decided_after(filters, answer.copies(), answer.verdict()))

@@ -19,7 +19,7 @@ use Rattle.st_effects.specs.Progress.{Progress, Word, Look, Stuck, Ready as Whol
 use Rattle.st_law.specs.Meaning.{IsWorker}
 use Rattle.st_law.specs.Messages.{Head}
 use Rattle.st_law.specs.State.{State, is_live, is_ready, progress_in, seq_at_work, snapshot_in, snapshot_of_progress, worker_at}
-use Rattle.st_filter.specs.Policies.{read_filters}
+use Rattle.st_filter.specs.Policies.{filters_in_force}
 use Rattle.st_workers.specs.Refinement.{drawn_copies}
 use Rattle.st_workers.specs.UnderWay.{turn_of_worker}
 use Rattle.st_workers.specs.declared.turn.Turn.{Turn}
@@ -155,7 +155,7 @@ module _ (m : Running) (made : List Repeat) (first : ℕ) (asleep : List Bool) (
   adds_answer =
       let own = ready_answers m.input st w ready.there (drawn_copies q s) drawn_kept in
       own.3 ∙ ap (λ (n : ℕ). Some (Answered w (drawn_copies q s) (verdict_under m.input.policies (drawn_copies q s)) (is_live st n))) (sym (drawing_is st own.0 (drawn_copies q s) own.2))
-      ∙ ap (λ (v : Verdict). Some (Answered w (drawn_copies q s) v (is_live st q))) (same_verdict q s 1 (read_filters m.input.policies s.policy s.rule))
+      ∙ ap (λ (v : Verdict). Some (Answered w (drawn_copies q s) v (is_live st q))) (same_verdict q s 1 (filters_in_force m.input.policies s.policy s.version s.rule))
 
   pub one_ready_less : ready_workers st m.input.options.workers ≡ suc (ready_workers new m.input.options.workers)
   one_ready_less =

@@ -9,7 +9,7 @@ use Rattle.st_trace.specs.declared.entry.Choice.{Choice}
 use Rattle.st_trace.specs.declared.entry.Entry.{Entry}
 use Rattle.st_law.proofs.Ties.{state-is}
 use Rattle.st_law.proofs.Laws.{run_lawful}
-use Rattle.st_law.specs.History.{session_at}
+use Rattle.st_law.specs.History.{looking_back}
 use Rattle.st_law.specs.Inputs.{IsStartable}
 use Rattle.st_law.specs.Machine.{entry_of, history, history_with, run, state_after, state_at, state_of_run, thread_entry}
 use Rattle.st_law.specs.Numbers.{Numbers, in_use_now, is_in_use, is_kept, largest_number, drawn, numbered_back, numbered_entry, numbers_after, numbers_at}
@@ -70,11 +70,11 @@ module _ (i : Input) (choices : List Choice) (c : Choice) (e : Entry) (adds : en
       (λ k. in_use_now i (state_more k) (numbers_at largest_number i (one_more k)))
       ∙ (λ k. in_use_now i (state_after i (state_of_run i choices) e) (numbers_after largest_number (is_kept i (sym (state-is i before) k)) (in_use_now i (sym (state-is i before) k) (numbers_at largest_number i before)) e))
 
--- the session is that of the state after the run
-pub session_later : (i : Input) (choices : List Choice) → (state_of_run i choices).session ≡ session_at i (reverse (run i choices))
-session_later i choices =
+-- the state after the run is that of its entries
+pub state_later : (i : Input) (choices : List Choice) → state_of_run i choices ≡ looking_back i (reverse (run i choices))
+state_later i choices =
     let h : History = history i (reverse choices) in
-    ap (λ (st : State). st.session) (state-is i h) ∙ ap (session_at i) (sym (reverse-reverse h))
+    state-is i h ∙ ap (looking_back i) (sym (reverse-reverse h))
 
 -- a drawing in use has its number
 pub number_has : (m : Running) (kept : List Repeat) (first : ℕ) (asleep : List Bool) → IsRunSoFar m kept first asleep → (q : ℕ) → is_in_use m.input (state_of_run m.input (spelled_choices kept)) q ≡ true

@@ -6,7 +6,8 @@ use Rattle.std.specs.Prelude.{is_some}
 use Rattle.st_calls.specs.declared.judged.Snapshot.{Snapshot}
 use Rattle.st_calls.specs.declared.judged.Verdict.{Verdict}
 use Rattle.st_effects.specs.Progress.{Progress, Word, Look, Stuck, Ready as Whole}
-use Rattle.st_filter.specs.Judging.{verdict}
+use Rattle.st_filter.specs.Judged.{verdict_under}
+use Rattle.st_filter.specs.Policies.{filters_in_force}
 use Rattle.st_messages.specs.Messages.{seq_of, HasWorker}
 use Rattle.st_reached.proofs.InUse.{used_served}
 use Rattle.st_report.specs.ScheduleText.{spelled_choices}
@@ -17,7 +18,7 @@ use Rattle.st_law.specs.declared.input.Input.{Input}
 use Rattle.st_law.specs.Machine.{answer_entry, turn_entry, worker_entry, working_entry, IsEnabled}
 use Rattle.st_law.specs.Meaning.{IsWorker}
 use Rattle.st_law.specs.Messages.{Head}
-use Rattle.st_law.specs.State.{State, is_live, is_ready, progress_in, read_at, seq_at_work, snapshot_in, snapshot_of_progress, worker_at}
+use Rattle.st_law.specs.State.{State, is_live, is_ready, progress_in, seq_at_work, snapshot_in, snapshot_of_progress, worker_at}
 use Rattle.st_law.proofs.Asked.{workers}
 use Rattle.st_law.proofs.Turns.{at_live}
 use Rattle.st_workers.proofs.Copies.{same_verdict}
@@ -99,7 +100,7 @@ module _ (i : Input) (st : State) (w : ℕ) (there : IsWorker i w) (s : Snapshot
 
   -- a ready worker is at a number, and answers it with the verdict of the filters on its copies
   abbrev pub Answers : Type 0
-  Answers = (q : ℕ) × (worker_at st w ≡ Some q) × (snapshot_in st q ≡ Some s) × (worker_entry i st w ≡ Some (Answered w s (verdict (read_at i st s.policy s.rule) s) (is_live st q)))
+  Answers = (q : ℕ) × (worker_at st w ≡ Some q) × (snapshot_in st q ≡ Some s) × (worker_entry i st w ≡ Some (Answered w s (verdict_under i.policies s) (is_live st q)))
 
   by_number : (o : Option ℕ) → worker_at st w ≡ o → copies_at st o ≡ Some s → Answers
   by_number None at e = absurd (none-some s e)
@@ -122,7 +123,7 @@ module _ (kept : UnderWay) (w q : ℕ) (s : Snapshot) (there : HasWorker kept.ca
   is_to_answer i st is =
       let worker : IsWorker i w = (there.0, subst (λ (n : ℕ). w ≤ n) is.workers there.1) in
       let own = by_number i st w worker (drawn_copies q s) (Some q) (ready_at i st kept w is q s turn_is) (turn_ready i st kept w is q s turn_is).1 in
-      (q, s, turn_is, own.3 ∙ ap (λ (v : Verdict). Some (Answered w (drawn_copies q s) v (is_live st q))) (same_verdict q s 1 (read_at i st s.policy s.rule)))
+      (q, s, turn_is, own.3 ∙ ap (λ (v : Verdict). Some (Answered w (drawn_copies q s) v (is_live st q))) (same_verdict q s 1 (filters_in_force i.policies s.policy s.version s.rule)))
 
 -- a ready worker has to answer
 pub answer_task : (m : Running) (w q : ℕ) (s : Snapshot) → HasWorker m.workers.calls w → turn_of_worker m.workers w ≡ Some (Ready q s) → HasTask m w Answer
@@ -211,4 +212,4 @@ pub ready_enabled : (now : RunSoFar) (w : ℕ) → IsWorker now.input w → (s :
 ready_enabled now w there s kept =
     let drawn = drawn_kept now (copies_at (state_in now) (worker_at (state_in now) w)) s kept in
     let own = ready_answers now.input (state_in now) w there drawn.0 drawn.1 in
-    (Answered w drawn.0 (verdict (read_at now.input (state_in now) drawn.0.policy drawn.0.rule) drawn.0) (is_live (state_in now) own.0), own.3)
+    (Answered w drawn.0 (verdict_under now.input.policies drawn.0) (is_live (state_in now) own.0), own.3)

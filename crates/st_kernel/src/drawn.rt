@@ -1,7 +1,7 @@
 // How many drawings a run makes, the number of a drawing, and whether a number is live.
 ghost use Rattle.std.specs.Prelude.{◌≡◌, ◌↔◌, true, ◌≤◌, ◌+◌, ◌*◌, length, sum_by, count_by};
 ghost use Rattle.st_law.specs.Inputs.{IsStartable};
-ghost use Rattle.st_law.specs.Schedules.{is_set_id_instruction};
+ghost use Rattle.st_law.specs.Schedules.{is_renewing_instruction};
 ghost use Rattle.st_reached.specs.Reached.{most_numbers};
 ghost use Rattle.st_kernel.specs.Kernel.{live_number, state_in, IsLiveNumber};
 
@@ -9,31 +9,32 @@ use crate::kernel::Kernel;
 use st_base::{Drawing, Seq};
 use st_trace::{Instr, ThreadRow};
 
-// Whether an instruction is a call that sets ids.
-fn sets_ids(instr: &Instr) -> bool
-    ensures { result ≡ is_set_id_instruction instr.now }
+// Whether an instruction renews messages: a call that sets ids, or a reload.
+fn renews(instr: &Instr) -> bool
+    ensures { result ≡ is_renewing_instruction instr.now }
 {
     match instr {
         Instr::Call(call, _) => call.sets_ids(),
         Instr::Store(_, _) => false,
         Instr::Fork(_) => false,
+        Instr::Reload(_) => true,
     }
 }
 
-// The most drawings that the instructions of a body draw: one each, and 64 more for each call that sets ids.
+// The most drawings that the instructions of a body draw: one each, and 64 more for each call that sets ids and each reload.
 fn most_of_body(body: &[Instr]) -> u32
     requires { length body.now ≤ 4096 }
-    ensures most { result ≡ length body.now + 64 * count_by is_set_id_instruction body.now }
+    ensures most { result ≡ length body.now + 64 * count_by is_renewing_instruction body.now }
     ensures few { result ≤ 65 * length body.now }
 {
-    let calls = body.iter().filter(|instr| sets_ids(instr)).count();
-    body.len() as u32 + 64 * calls as u32
+    let renewing = body.iter().filter(|instr| renews(instr)).count();
+    body.len() as u32 + 64 * renewing as u32
 }
 
 // The most drawings that all instructions of a script draw.
 fn most_of_script(threads: &[ThreadRow]) -> u32
     requires { sum_by (λ row. length row.body) threads.now ≤ 4096 }
-    ensures { result ≡ sum_by (λ row. length row.body) threads.now + 64 * sum_by (λ row. count_by is_set_id_instruction row.body) threads.now }
+    ensures { result ≡ sum_by (λ row. length row.body) threads.now + 64 * sum_by (λ row. count_by is_renewing_instruction row.body) threads.now }
 {
     let mut most = 0;
     for row in threads {

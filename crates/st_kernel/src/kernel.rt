@@ -1,9 +1,10 @@
 ghost use Rattle.std.specs.Prelude.{◌≡◌, ◌↔◌, ◌≤◌, [], reverse, None, Some, is_some, IfOk, IfSome, ℕ, true, OnOk, OnErr};
-ghost use Rattle.st_law.specs.History.{session_at};
+ghost use Rattle.st_law.specs.History.{looking_back};
 ghost use Rattle.st_law.specs.Lawful.{Lawful};
 ghost use Rattle.st_law.specs.Machine.{entry_of, IsEnabled, IsSettled};
 ghost use Rattle.st_law.specs.Numbers.{drawn, IsLawfulByNumber};
 ghost use Rattle.st_law.specs.State.{State, is_live, thread_count};
+ghost use Rattle.st_learn.specs.SessionIn.{IsSessionIn};
 ghost use Rattle.st_decide.specs.Machine.{Refines};
 ghost use Rattle.st_reached.specs.Runnable.{CanRun};
 ghost use Rattle.st_reached.specs.Waiting.{is_message_by};
@@ -127,9 +128,9 @@ impl<'a> Kernel<'a> {
         self.machine.compiled()
     }
 
-    /// The session after the drawings of the trace.
+    /// The session after the drawings of the trace, with the versions of policies in force.
     pub fn session(&self) -> &Session<'a>
-        ensures { result.now.filters ≡ session_at self.now.input (reverse (drawn (trace_of self.now))) }
+        ensures { IsSessionIn (looking_back self.now.input (reverse (drawn (trace_of self.now)))) result.now }
     {
         self.machine.session()
     }

@@ -13,6 +13,7 @@ use Rattle.st_filter.proofs.filter.Expr.TheLaws.TheKnot as expr
 use Rattle.st_filter.specs.contracts.filter.Expr as Expr
 use Rattle.st_filter.specs.contracts.filter.Filter as Filter
 use Rattle.st_filter.specs.contracts.judged.Judged as Judged
+use Rattle.st_filter.specs.contracts.policies.Policies as Policies
 use Rattle.st_filter.specs.contracts.set.BinaryPolicy as BinaryPolicy
 use Rattle.st_filter.specs.contracts.set.PolicySet as PolicySet
 use Rattle.st_filter.specs.contracts.set.Reply as Reply
@@ -63,11 +64,17 @@ binary_policy_sync = search (filter_sync, sequence.the_sync, crosses, sendable) 
 pub binary_policy_send : IsSend BinaryPolicy.the_row
 binary_policy_send = search (filter_send, sequence.the_send, crosses, sendable) depth 60 fits 2000
 
-pub policies_sync : IsSync PolicySet.the_row
-policies_sync = search (filter_sync, sequence.the_sync, crosses, sendable) depth 60 fits 2000
+pub policy_set_sync : IsSync PolicySet.the_row
+policy_set_sync = search (filter_sync, sequence.the_sync, crosses, sendable) depth 60 fits 2000
 
-pub policies_send : IsSend PolicySet.the_row
-policies_send = search (filter_send, sequence.the_send, crosses, sendable) depth 60 fits 2000
+pub policy_set_send : IsSend PolicySet.the_row
+policy_set_send = search (filter_send, sequence.the_send, crosses, sendable) depth 60 fits 2000
+
+pub policies_sync : IsSync Policies.the_row
+policies_sync = search (policy_set_sync, binary_policy_sync, filter_sync, sequence.the_sync, crosses, sendable) depth 60 fits 2000
+
+pub policies_send : IsSend Policies.the_row
+policies_send = search (policy_set_send, binary_policy_send, filter_send, sequence.the_send, crosses, sendable) depth 60 fits 2000
 
 pub input_sync : IsSync Input.the_row
 input_sync = search (policies_sync, reply_sync, start.the_field_sync, options.the_field_sync, sequence.the_sync, crosses, sendable) depth 60 fits 2000

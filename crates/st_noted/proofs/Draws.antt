@@ -5,7 +5,7 @@ use Rattle.std.proofs.Math.Nat.{le_refl}
 use Rattle.std.proofs.lemmas.List.{reverse-append}
 use Rattle.st_trace.specs.declared.entry.Choice.{Choice}
 use Rattle.st_trace.specs.declared.entry.Entry.{Entry}
-use Rattle.st_trace.specs.declared.entry.Entry.TheVariants.{Entered, Used}
+use Rattle.st_trace.specs.declared.entry.Entry.TheVariants.{Entered, Reloaded, Used}
 use Rattle.st_trace.specs.declared.entry.Way.TheVariants.{Held}
 use Rattle.st_law.specs.Machine.{entry_of, history, history_with, state_at}
 use Rattle.st_law.specs.Messages.{posted_after}
@@ -19,6 +19,7 @@ use Rattle.st_noted.specs.Steps.{MayHaveMade}
 entry_draws : (e : Entry) (n : ℕ) → n ≤ posted_after e n
 entry_draws (Entered t call regs (Held q)) n = omega arith
 entry_draws (Used t seq call regs args ids result changes) n = let all = posted_changes n changes in omega (arith, all)
+entry_draws (Reloaded t policy done changes) n = let all = posted_changes n changes in omega (arith, all)
 entry_draws _ n = le_refl n
 
 drawn_after : (i : Input) (h : History) (added : Option Entry) → (state_at i h).posted ≤ (state_at i (history_with h added)).posted

@@ -36,7 +36,9 @@ pub fn news_of(entry: &Entry) -> News {
     match entry {
         Entry::Ended { .. } => news.ended = true,
         Entry::Faulted { seq, .. } => news.faulted = Some(*seq),
-        Entry::Used { changes, .. } => add_changes(&mut news, changes.as_slice()),
+        Entry::Used { changes, .. } | Entry::Reloaded { changes, .. } => {
+            add_changes(&mut news, changes.as_slice());
+        }
         _ => {}
     }
     news

@@ -1,10 +1,10 @@
 -- The texts of traces and schedules that were worked out from the rules.
-use Rattle.std.proofs.Common.{◌≡◌, ℕ, true, List, [], ◌∷◌, ◌++◌, Some, None, refl, codes, replicate}
+use Rattle.std.proofs.Common.{◌≡◌, ℕ, true, false, List, [], ◌∷◌, ◌++◌, Some, None, refl, codes, replicate}
 use Rattle.std.specs.Fmt.{digits}
 use Rattle.std.specs.Prelude.{Option}
 use Rattle.st_base.specs.declared.errno.Errno.TheVariants.{EPERM, ENOENT, EBADF}
 use Rattle.st_calls.specs.declared.call.SysCall.TheVariants.{Close, GetPid}
-use Rattle.st_calls.specs.declared.judged.Verdict.TheVariants.{Refuse}
+use Rattle.st_calls.specs.declared.judged.Verdict.TheVariants.{Refuse, Unmatched}
 use Rattle.st_calls.specs.declared.rule.Rule.TheVariants as Rule
 use Rattle.st_model.specs.declared.object.NewKind.TheVariants as kind
 use Rattle.st_names.specs.declared.seen.SeenText.TheVariants.{Missing, NotDir}
@@ -14,7 +14,7 @@ use Rattle.st_trace.specs.declared.entry.Cause.TheVariants as cause
 use Rattle.st_trace.specs.declared.entry.Change.TheVariants as change
 use Rattle.st_trace.specs.declared.entry.Choice.TheVariants as choice
 use Rattle.st_trace.specs.declared.entry.Entry.{Entry}
-use Rattle.st_trace.specs.declared.entry.Entry.TheVariants.{Answered, Denied, Entered, Faulted, Learned, Looked, Replied, Used}
+use Rattle.st_trace.specs.declared.entry.Entry.TheVariants.{Answered, Denied, Entered, Faulted, Learned, Looked, Reloaded, Replied, Used}
 use Rattle.st_trace.specs.declared.entry.Way.TheVariants.{Barred}
 use Rattle.st_law.specs.declared.input.Input.{Input}
 use Rattle.st_law.specs.declared.input.ScheduleLine.{ScheduleLine}
@@ -22,7 +22,7 @@ use Rattle.st_law.proofs.HeldRuns.{maker, passwd_reader}
 use Rattle.st_law.proofs.LinkRuns.{linker}
 use Rattle.st_law.proofs.ProcessRuns.{killer, setter}
 use Rattle.st_law.proofs.SessionRuns.{learner}
-use Rattle.st_law.proofs.Writing.{copies, ids, name, permits, regs, rest, thread, trace, worker}
+use Rattle.st_law.proofs.Writing.{at_version, copies, ids, name, permits, regs, rest, thread, trace, worker}
 use Rattle.st_report.specs.ChangeText.{changes_fields}
 use Rattle.st_report.specs.ScheduleText.{schedule_text}
 use Rattle.st_report.specs.TraceText.{trace_text}
@@ -94,10 +94,14 @@ a_fault = refl
 each_entry : trace_text (
     Entered 2 Close (regs 3 0 0) (Barred 1) ∷ Looked 1 1 (name "/a/b") Missing ∷ Looked 1 0 (name "/a/b") NotDir ∷ Looked 1 0 (name "/a/b") (seen.Link (codes "../\"")) ∷
     Answered 2 (copies 9 3 (ids 1 2 3 4) "/bin/b" (Rule.Call Close) Close (regs 3 0 0) []) (Refuse 2 EBADF) true ∷
+    Answered 1 (at_version 12 (copies 9 3 (ids 1 2 3 4) "/bin/b" (Rule.Call Close) Close (regs 3 0 0) [])) Unmatched false ∷
+    Reloaded 2 12 true (change.Renewed 8 10 ∷ change.Renewed 9 11 ∷ []) ∷ Reloaded 2 1 true [] ∷ Reloaded 2 1 false [] ∷
     Replied 9 2 4 ∷ Learned 8 3 ∷ Used 2 None Close (regs 3 0 0) [] (ids 1 2 3 4) (Failed EBADF) [] ∷
     Denied 2 None EPERM (cause.Filter 1) ∷ Denied 2 (Some 9) ENOENT cause.Fault ∷ []) ≡
     codes "entered 2 close 3 0 0 0 0 0 barred 1\nlooked 1 1 \"/a/b\" missing\nlooked 1 0 \"/a/b\" notdir\nlooked 1 0 \"/a/b\" link \"../\\\"\"\n" ++
     codes "answered 2 9 pid 3 ids 1 2 3 4 policy \"/bin/b\" rule native-close close 3 0 0 0 0 0 refuse 2 EBADF applied\n" ++
+    codes "answered 1 9 pid 3 ids 1 2 3 4 policy \"/bin/b\" version 12 rule native-close close 3 0 0 0 0 0 unmatched stale\n" ++
+    codes "reloaded 2 12 done, renewed 8 10, renewed 9 11\nreloaded 2 1 done\nreloaded 2 1 refused\n" ++
     codes "replied 9 2 4\nlearned 8 3\nused 2 - close 3 0 0 0 0 0 ids 1 2 3 4 = EBADF\ndenied 2 - EPERM filter 1\ndenied 2 9 ENOENT fault\n"
 unfolding digits
 each_entry = refl

@@ -1,5 +1,5 @@
 -- What is printed of a trace: a line for each entry.
-use Rattle.std.specs.Prelude.{ℕ, Bool, true, false, List, [], ◌∷◌, ◌++◌, codes, decimal, Option, Some, None}
+use Rattle.std.specs.Prelude.{ℕ, ◌==◌, if◌then◌else◌, Bool, true, false, List, [], ◌∷◌, ◌++◌, codes, decimal, Option, Some, None}
 use Rattle.std.specs.List.{flat_map}
 use Rattle.st_base.specs.Errno.{name_of_error}
 use Rattle.st_calls.specs.Argument.{name_of_label}
@@ -17,7 +17,7 @@ use Rattle.st_trace.specs.declared.entry.CallResult.TheVariants.{Value, Failed}
 use Rattle.st_trace.specs.declared.entry.Cause.{Cause}
 use Rattle.st_trace.specs.declared.entry.Cause.TheVariants as cause
 use Rattle.st_trace.specs.declared.entry.Entry.{Entry}
-use Rattle.st_trace.specs.declared.entry.Entry.TheVariants.{Stored, Entered, Claimed, Copied, Looked, Faulted, Answered, Replied, Learned, Used, Denied, Ended}
+use Rattle.st_trace.specs.declared.entry.Entry.TheVariants.{Stored, Entered, Claimed, Copied, Looked, Faulted, Answered, Replied, Learned, Used, Denied, Ended, Reloaded}
 use Rattle.st_trace.specs.declared.entry.Way.{Way}
 use Rattle.st_trace.specs.declared.entry.Way.TheVariants.{Fast, Barred, Held, Untraced}
 use Rattle.st_report.specs.Fields.{word_field, number_fields, text_field, name_field, ids_fields}
@@ -80,13 +80,22 @@ cause_fields cause.NoFilter = codes " nofilter"
 cause_fields cause.Fault = codes " fault"
 cause_fields (cause.Link name) = codes " link" ++ name_field name
 
+-- the version of a policy; it is omitted for the policy that was read
+abbrev pub version_field : ℕ → List ℕ
+version_field version = if version == 0 then [] else codes " version" ++ number_fields (version ∷ [])
+
 -- who makes the held call, and the policy that judges it
 abbrev pub judged_fields : Snapshot → List ℕ
-judged_fields s = codes " pid" ++ number_fields (s.pid ∷ []) ++ ids_fields s.ids ++ codes " policy" ++ text_field s.policy
+judged_fields s = codes " pid" ++ number_fields (s.pid ∷ []) ++ ids_fields s.ids ++ codes " policy" ++ text_field s.policy ++ version_field s.version
 
 -- the held call, by the copies of its arguments
 abbrev pub asked_fields : Snapshot → List ℕ
 asked_fields s = codes " rule " ++ emulation_prefix ++ name_of_rule s.rule ++ call_fields s.call s.regs ++ args_fields s.parts
+
+-- whether a reload was done
+abbrev pub done_field : Bool → List ℕ
+done_field true = codes " done"
+done_field false = codes " refused"
 
 -- ---- lines
 
@@ -106,15 +115,14 @@ entry_text (Used t seq call regs args ids result changes) =
     codes "used" ++ number_fields (t ∷ []) ++ seq_field seq ++ call_fields call regs ++ ids_fields ids ++ args_fields args ++ codes " = " ++ result_text result ++ changes_fields changes
 entry_text (Denied t seq errno cause) = codes "denied" ++ number_fields (t ∷ []) ++ seq_field seq ++ word_field (name_of_error errno) ++ cause_fields cause
 entry_text (Ended t) = codes "ended" ++ number_fields (t ∷ [])
+entry_text (Reloaded t n done changes) = codes "reloaded" ++ number_fields (t ∷ n ∷ []) ++ done_field done ++ changes_fields changes
 
--- an entry that a thread adds
-abbrev pub IsOfThread : Entry → Type 0
-IsOfThread (Stored t place word) = Unit {0}
-IsOfThread (Entered t call regs way) = Unit {0}
-IsOfThread (Used t seq call regs args ids result changes) = Unit {0}
-IsOfThread (Denied t seq errno cause) = Unit {0}
-IsOfThread (Ended t) = Unit {0}
-IsOfThread _ = ⊥
+-- an entry by which a thread enters a call, makes it, or is denied it
+abbrev pub IsOfCall : Entry → Type 0
+IsOfCall (Entered t call regs way) = Unit {0}
+IsOfCall (Used t seq call regs args ids result changes) = Unit {0}
+IsOfCall (Denied t seq errno cause) = Unit {0}
+IsOfCall _ = ⊥
 
 -- an entry that a worker adds
 abbrev pub IsOfWorker : Entry → Type 0

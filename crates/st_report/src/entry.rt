@@ -2,7 +2,7 @@ ghost use Rattle.std.specs.Prelude.{◌≡◌, [], ◌∷◌, ◌++◌, codes, O
 ghost use Rattle.st_base.specs.Errno.{name_of_error};
 ghost use Rattle.st_report.specs.ChangeText.{changes_fields};
 ghost use Rattle.st_report.specs.Fields.{ids_fields, name_field, number_fields, word_field};
-ghost use Rattle.st_report.specs.TraceText.{call_fields, way_fields, seen_fields, args_fields, arg_fields, verdict_fields, applied_field, seq_field, result_text, cause_fields, judged_fields, asked_fields, entry_text, IsOfThread, IsOfWorker};
+ghost use Rattle.st_report.specs.TraceText.{call_fields, way_fields, seen_fields, args_fields, arg_fields, verdict_fields, applied_field, seq_field, result_text, cause_fields, version_field, judged_fields, asked_fields, done_field, entry_text, IsOfCall, IsOfWorker};
 
 use crate::change::append_changes;
 use crate::fields::{
@@ -129,6 +129,16 @@ fn append_cause(alloc: Global, text: &mut Text, cause: &Cause) -> Result<(), All
     }
 }
 
+// Appends the version of a policy, unless it is the policy as it was read.
+fn append_version(text: &mut Text, version: u32) -> Result<(), AllocError>
+    ensures { OnOk result (text.new ≡ text.old ++ version_field version) }
+{
+    if version != 0 {
+        append_numbered(text, b" version", &[u64::from(version)])?;
+    }
+    Ok(())
+}
+
 // Appends who makes the held call, and the policy that judges it.
 fn append_judged(text: &mut Text, copies: &Snapshot) -> Result<(), AllocError>
     ensures { OnOk result (text.new ≡ text.old ++ judged_fields copies.now) }
@@ -136,7 +146,8 @@ fn append_judged(text: &mut Text, copies: &Snapshot) -> Result<(), AllocError>
     append_numbered(text, b" pid", &[u64::from(copies.pid)])?;
     append_ids(text, b" ids", copies.ids)?;
     text.append(b" policy")?;
-    append_text(text, copies.policy.get().bytes())
+    append_text(text, copies.policy.get().bytes())?;
+    append_version(text, copies.version)
 }
 
 // Appends the held call, by the copies of its arguments.
@@ -215,17 +226,12 @@ fn append_denied(
     append_cause(alloc, text, cause)
 }
 
-// Appends an entry of a thread.
-fn append_thread_entry(alloc: Global, text: &mut Text, entry: &Entry) -> Result<(), AllocError>
-    requires { IsOfThread entry.now }
+// Appends an entry by which a thread enters a call, makes it, or is denied it.
+fn append_call_entry(alloc: Global, text: &mut Text, entry: &Entry) -> Result<(), AllocError>
+    requires { IsOfCall entry.now }
     ensures { OnOk result (text.new ≡ text.old ++ entry_text entry.now) }
 {
     match entry {
-        Entry::Stored { tid, place, word } => append_numbered(
-            text,
-            b"stored",
-            &[u64::from(*tid), u64::from(*place), *word],
-        ),
         Entry::Entered {
             tid,
             call,
@@ -252,9 +258,23 @@ fn append_thread_entry(alloc: Global, text: &mut Text, entry: &Entry) -> Result<
             errno,
             cause,
         } => append_denied(alloc, text, *tid, *seq, *errno, cause),
-        Entry::Ended { tid } => append_numbered(text, b"ended", &[u64::from(*tid)]),
         _ => unreachable!(),
     }
+}
+
+// Whether a reload was done, as a word.
+fn done_word(done: bool) -> &'static [u8]
+    ensures { result.now ≡ done_field done }
+{
+    if done { b" done" } else { b" refused" }
+}
+
+// Appends which policy a thread reloads, and whether this is done.
+fn append_reloaded(text: &mut Text, tid: Tid, policy: u32, done: bool) -> Result<(), AllocError>
+    ensures { OnOk result (text.new ≡ text.old ++ codes "reloaded" ++ number_fields (tid ∷ policy ∷ []) ++ done_field done) }
+{
+    append_numbered(text, b"reloaded", &[u64::from(tid), u64::from(policy)])?;
+    text.append(done_word(done))
 }
 
 // Appends which word a worker copied.
@@ -350,11 +370,14 @@ pub fn append_entry(alloc: Global, text: &mut Text, entry: &Entry) -> Result<(),
     ensures { OnOk result (text.new ≡ text.old ++ entry_text entry.now) }
 {
     match entry {
-        Entry::Stored { .. }
-        | Entry::Entered { .. }
-        | Entry::Used { .. }
-        | Entry::Denied { .. }
-        | Entry::Ended { .. } => append_thread_entry(alloc, text, entry),
+        Entry::Stored { tid, place, word } => append_numbered(
+            text,
+            b"stored",
+            &[u64::from(*tid), u64::from(*place), *word],
+        ),
+        Entry::Entered { .. } | Entry::Used { .. } | Entry::Denied { .. } => {
+            append_call_entry(alloc, text, entry)
+        }
         Entry::Claimed { .. }
         | Entry::Copied { .. }
         | Entry::Looked { .. }
@@ -368,5 +391,15 @@ pub fn append_entry(alloc: Global, text: &mut Text, entry: &Entry) -> Result<(),
         Entry::Learned { seq, number } => {
             append_numbered(text, b"learned", &[u64::from(*seq), u64::from(*number)])
         }
+        Entry::Reloaded {
+            tid,
+            policy,
+            done,
+            changes,
+        } => {
+            append_reloaded(text, *tid, *policy, *done)?;
+            append_changes(alloc, text, changes.as_slice())
+        }
+        Entry::Ended { tid } => append_numbered(text, b"ended", &[u64::from(*tid)]),
     }
 }

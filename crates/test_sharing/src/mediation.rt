@@ -1,11 +1,11 @@
 //! Calls under way, and the threads that make them.
 
 use crate::is_shareable;
-use st_lookaside::{Head, Next, Slot, Slots};
+use st_lookaside::{Head, Next, Renewal, Slot, Slots};
 use st_messages::message::Message;
 use st_messages::{Delivered, Messages, MsgState, Poster, Taker, Ticket};
 use st_report::{NoRecorder, Repeat, TraceRecorder};
-use st_threads::{CallingThread, NewIds, PendingCall, RenewalPlan, Thread};
+use st_threads::{CallingThread, PendingCall, RenewalPlan, RenewedCalls, Thread, WhichCalls};
 use st_workers::{Task, Turn, Workers};
 use std::sync::Mutex;
 
@@ -18,6 +18,7 @@ pub fn messages_are_shareable() {
     is_shareable::<Slots>();
     is_shareable::<Slot>();
     is_shareable::<Head>();
+    is_shareable::<Renewal>();
     is_shareable::<Next>();
     is_shareable::<Workers>();
     is_shareable::<Task>();
@@ -36,7 +37,8 @@ pub fn threads_are_shareable() {
     is_shareable::<Thread<'_>>();
     is_shareable::<PendingCall>();
     is_shareable::<CallingThread>();
-    is_shareable::<NewIds>();
+    is_shareable::<WhichCalls<'_>>();
+    is_shareable::<RenewedCalls<'_>>();
     is_shareable::<RenewalPlan>();
     is_shareable::<TraceRecorder>();
     is_shareable::<Repeat>();

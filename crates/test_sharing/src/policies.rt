@@ -1,10 +1,10 @@
 //! Policies, and what is judged and answered by them.
 
 use crate::is_shareable;
-use st_compile::{Compiled, FastTable, Places};
+use st_compile::{Compiled, FastTable, OwnAnswers, Places};
 use st_filter::{
-    Action, BinaryPolicy, Cmp, Expr, Filter, FilterName, Grant, Judged, Op, Policy, PolicySet,
-    Predicate, Reply, Who,
+    Action, BinaryPolicy, Cmp, Expr, Filter, FilterName, Grant, Judged, Op, Policies, Policy,
+    PolicySet, Predicate, Reply, Who,
 };
 use st_law::Input;
 use st_learn::{AddedFilter, Answers, KeptFilter, Operator, Session};
@@ -19,6 +19,7 @@ pub fn parts_of_filters_are_shareable() {
     is_shareable::<Who>();
     is_shareable::<Cmp>();
     is_shareable::<FastTable>();
+    is_shareable::<OwnAnswers>();
     is_shareable::<Places>();
 }
 
@@ -29,6 +30,7 @@ pub fn policies_are_shareable() {
     is_shareable::<Policy>();
     is_shareable::<BinaryPolicy>();
     is_shareable::<PolicySet>();
+    is_shareable::<Policies>();
     is_shareable::<Reply>();
     is_shareable::<Input>();
     is_shareable::<Judged<'_>>();

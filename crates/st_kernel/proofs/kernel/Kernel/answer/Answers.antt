@@ -2,7 +2,7 @@ use Rattle.std.proofs.Common.{◌≡◌, ◌∙◌, List, length, Bool, true, Op
 use Rattle.std.specs.Prelude.{vec_capacity, vec_len}
 use Rattle.std.proofs.lemmas.List.{with_items_is}
 use Rattle.st_filter.specs.Judged.{verdict_under}
-use Rattle.st_filter.specs.declared.set.BinaryPolicy.{BinaryPolicy}
+use Rattle.st_filter.specs.Policies.{PoliciesValue}
 use Rattle.st_trace.specs.declared.entry.Choice.TheVariants.{Worker}
 use Rattle.st_trace.specs.declared.entry.Entry.{Entry}
 use Rattle.st_report.specs.declared.schedule.Repeat.{Repeat}
@@ -94,7 +94,7 @@ answered_here c =
     let step : IsStep c.self.inside.machine (Worker c.args.worker) (Some c.in-Some.entry) c.answer.new.self = subst (λ (o : Option Entry). IsStep c.self.inside.machine (Worker c.args.worker) o c.answer.new.self) c.in-Some.is c.answer.ensures.step in
     let same_s : c.in-Ready.copies ≡ c.args.judged.snapshot = sym c.get.ensures ∙ c.is_same.ensures.0 c.if-not-is_same.false ∙ c.snapshot.ensures in
     let verdict_is : c.args.judged.verdict ≡ verdict_under c.self.inside.machine.input.policies c.args.judged.snapshot =
-    sym c.verdict.ensures.is ∙ c.verdict.ensures.under ∙ ap (λ (policies : List BinaryPolicy). verdict_under policies c.args.judged.snapshot) (c.requires.policies ∙ sym (ap (λ (k : RunSoFar). k.input.policies) c.self.view_is)) in
+    sym c.verdict.ensures.is ∙ c.verdict.ensures.under ∙ ap (λ (policies : PoliciesValue). verdict_under policies c.args.judged.snapshot) (c.requires.policies ∙ sym (ap (λ (k : RunSoFar). k.input.policies) c.self.view_is)) in
     has_answered c.self.inside.machine c.self.inside.made.items c.self.inside.first c.self.inside.asleep.items c.args.worker c.in-Ready.field-0 c.in-Ready.copies ready c.answer.new.self.input c.answer.ensures.input c.note_choice.new.repeats.items c.note_choice.ensures.made
     c.args.self.now c.self.view_is c.args.judged same_s verdict_is c.in-Some.entry (its_entry c.self.inside.machine c.self.inside.made.items c.self.inside.first c.self.inside.asleep.items c.args.worker c.in-Ready.field-0 c.in-Ready.copies ready c.in-Some.entry c.answer.new.self step) c.answer.new.added c.in-Some.is
 

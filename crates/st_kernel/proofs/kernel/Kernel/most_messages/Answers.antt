@@ -1,7 +1,7 @@
 use Rattle.std.proofs.Common.{◌≡◌, ◌+◌, ◌*◌, ◌≤◌, ◌∙◌, List, length, sum_by, count_by, ap, subst, sym}
 use Rattle.st_trace.specs.declared.start.ThreadRow.{ThreadRow}
 use Rattle.st_law.specs.declared.input.Input.{Input}
-use Rattle.st_law.specs.Schedules.{is_set_id_instruction}
+use Rattle.st_law.specs.Schedules.{is_renewing_instruction}
 use Rattle.st_reached.specs.Reached.{most_numbers}
 use Rattle.st_kernel.specs.Kernel.{RunSoFar}
 use Rattle.st_kernel.proofs.kernel.Kernel.most_messages.Goals.{After-as_slice}
@@ -17,5 +17,5 @@ most_of_script-requires c =
 pub returns : goal.returns
 returns c =
     c.most_of_script.ensures
-    ∙ ap (λ (rows : List ThreadRow). sum_by (λ (row : ThreadRow). length row.body) rows + 64 * sum_by (λ (row : ThreadRow). count_by is_set_id_instruction row.body) rows) (rows_are c.before)
+    ∙ ap (λ (rows : List ThreadRow). sum_by (λ (row : ThreadRow). length row.body) rows + 64 * sum_by (λ (row : ThreadRow). count_by is_renewing_instruction row.body) rows) (rows_are c.before)
     ∙ ap (λ (so_far : RunSoFar). most_numbers so_far.input) c.self.view_is

@@ -29,6 +29,6 @@ loop-preserved g c =
     record {
       made = continues_on c.args.self.now c.loop.self c.advance.new.self c.loop.invariant.made (continues_by c.loop.self c.args.repeat.choice c.advance.new.self end.ok);
       input = ap (λ (so_far : RunSoFar). so_far.input) end.ok ∙ c.loop.invariant.input;
-      noted = λ x. noted_on (g.R.Recorder.has_noted c.loop.recorder) (g.R.Recorder.has_noted c.note.new.self) c.loop.self c.args.repeat.choice e c.in-Some.entry c.advance.new.self c.input.result.now c.session.result.now.filters end.ok c.input.ensures c.session.ensures adds its c.in_ok-note.ensures (c.loop.invariant.noted x);
+      noted = λ x. noted_on (g.R.Recorder.has_noted c.loop.recorder) (g.R.Recorder.has_noted c.note.new.self) c.loop.self c.args.repeat.choice e c.in-Some.entry c.advance.new.self c.input.result.now c.session.result.now.filters end.ok c.input.ensures c.session.ensures.filters adds its c.in_ok-note.ensures (c.loop.invariant.noted x);
       left = round_further c.loop.self c.args.repeat.choice c.args.repeat.times c.loop.counter c.loop-test.true c.args.self.now.input c.loop.invariant.input c.advance.new.self e end.ok adds ∙ c.loop.invariant.left;
     }

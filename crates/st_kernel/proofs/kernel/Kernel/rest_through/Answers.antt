@@ -26,7 +26,7 @@ loop-added-preserved g c =
     record {
       on_the_way = goes.on_the_way ∙ c.loop-added.invariant.on_the_way;
       made = made_on _ c.loop-added.self c.make_next.new.self c.loop-added.invariant.made goes;
-      noted = λ x. noted_on (g.R.Recorder.has_noted c.loop-added.recorder) (g.R.Recorder.has_noted c.note.new.self) c.loop-added.self made.1 made.0 c.in-Some.entry c.make_next.new.self c.input.result.now c.session.result.now.filters made.4 c.input.ensures c.session.ensures adds same
+      noted = λ x. noted_on (g.R.Recorder.has_noted c.loop-added.recorder) (g.R.Recorder.has_noted c.note.new.self) c.loop-added.self made.1 made.0 c.in-Some.entry c.make_next.new.self c.input.result.now c.session.result.now.filters made.4 c.input.ensures c.session.ensures.filters adds same
           c.in_ok-note.ensures (c.loop-added.invariant.noted x);
     }
 
