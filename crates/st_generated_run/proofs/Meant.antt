@@ -11,12 +11,12 @@ use Rattle.st_generated_run.specs.Generated.{generated_options}
 pub none_granted : SetIdsUngranted []
 none_granted = λ k policy within. absurd (omega (arith, within))
 
-pub meant_can_run : (script : ReadScript) (policies : List BinaryPolicy) → IsRunnableScript script → SetIdsUngranted policies → RepliesUngranted script.replies →
+pub meant_can_run : (script : ReadScript) (policies : List BinaryPolicy) → IsRunnableScript script → SetIdsUngranted policies → SetIdsUngranted script.blocks → RepliesUngranted script.replies →
     CanRun (input_with policies generated_options script)
-meant_can_run script policies can_start ungranted replies = record {
-  startable = can_start.startable policies generated_options (omega arith) (omega arith);
+meant_can_run script policies can_start ungranted blocks replies = record {
+  startable = can_start.startable policies generated_options (λ learns. absurd (cc)) (omega arith) (omega arith);
   system = can_start.system policies generated_options;
   bounded = can_start.bounded;
-  ungranted = ungranted;
+  ungranted = (ungranted, blocks);
   replies = replies;
 }

@@ -1,5 +1,7 @@
 // Reads the generated policy and script, as the files of a command are read.
 ghost use Rattle.std.specs.Prelude.{◌≡◌, ◌<◌, ◌≤◌, ◌^◌, [], length, Ok, IfOk, IfErr};
+ghost use Rattle.st_filter.specs.Policies.{filters_in};
+ghost use Rattle.st_filter.specs.declared.set.TheConstants.{MOST_FILTERS};
 ghost use Rattle.st_grammar.specs.Grammar.{Reads};
 ghost use Rattle.st_generator.specs.Policy.{generated_policy};
 ghost use Rattle.st_generator.specs.Script.{generated_script};
@@ -14,9 +16,10 @@ use st_generator::{gen_script, generated_policy};
 use st_grammar::{Env, PolicyFault};
 use st_law::{Input, Mode, Options};
 use st_policy::read_policies;
-use st_reading::Refusal;
+use st_reading::{Refusal, input_with};
 use st_script::policies::{
-    what_is_read_grants_no_ids_for_setting, what_is_replied_grants_no_ids_for_setting,
+    what_is_read_grants_no_ids_for_setting, what_is_reloaded_grants_no_ids_for_setting,
+    what_is_replied_grants_no_ids_for_setting,
 };
 use st_script::{ReadScript, read_script};
 use st_script_faults::ScriptFault;
@@ -39,6 +42,8 @@ fn generated_options() -> Options
 fn script_of(alloc: Global, text: &[u8]) -> Result<ReadScript, Refusal>
     requires { length text.now < 2 ^ 32 }
     ensures script { IfOk result (λ script. script_in text.now generated_options ≡ Ok script) }
+    ensures few_filters { IfOk result (λ script. filters_in script.blocks ≤ MOST_FILTERS) }
+    ensures few_policies { IfOk result (λ script. length script.blocks < 2 ^ 31) }
     ensures can_start { IfOk result IsRunnableScript }
     ensures refused { IfErr result (RefusesScript text.now) }
 {
@@ -75,15 +80,10 @@ fn input_of(alloc: Global, policy: &[u8], text: &[u8]) -> Result<Input, Refusal>
 {
     what_is_read_grants_no_ids_for_setting();
     what_is_replied_grants_no_ids_for_setting();
+    what_is_reloaded_grants_no_ids_for_setting();
     let script = script_of(alloc, text)?;
-    let policies = policies_of(alloc, policy, &script.env)?;
-    let ReadScript { start, replies, .. } = script;
-    Ok(Input {
-        policies,
-        start,
-        replies,
-        options: generated_options(),
-    })
+    let read = policies_of(alloc, policy, &script.env)?;
+    Ok(input_with(alloc, read, generated_options(), script))
 }
 
 /// The input that the generated policy and script mean.

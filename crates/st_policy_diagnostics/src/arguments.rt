@@ -1,4 +1,4 @@
-use crate::refusal::Refusal;
+use crate::refusal::{FilterSource, Refusal};
 use st_base::Text;
 use st_calls::{ArgSpec, Rule, args_of};
 use st_grammar::Place;
@@ -42,7 +42,7 @@ fn beside_label(refusal: &Refusal<'_>) -> &'static str {
         return "";
     }
     match refusal.row().last() {
-        Some(token) if token.kind.is_colon() && refusal.in_reply => {
+        Some(token) if token.kind.is_colon() && refusal.source == FilterSource::Reply => {
             "'permit', 'deny', 'not', 'true', '(' or "
         }
         Some(token) if token.kind.is_colon() => "'permit', 'deny', 'ask', 'not', 'true', '(' or ",

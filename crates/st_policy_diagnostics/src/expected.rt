@@ -1,3 +1,4 @@
+use crate::refusal::FilterSource;
 use crate::shown::token_for;
 use st_filter::Who;
 use st_grammar::{Place, PolicyFault, Unsupported};
@@ -91,8 +92,24 @@ pub fn expected_of(fault: PolicyFault, place: Place) -> &'static str {
     }
 }
 
-/// What was expected in the filter of a reply, where this isn't what a policy may have: a reply doesn't ask, and has no header.
-pub fn expected_in_reply(fault: PolicyFault, place: Place) -> Option<&'static str> {
+/// What was expected in a filter of a script, where this isn't what a policy file may have: there is no header, and a reply doesn't ask.
+pub fn expected_in_script(
+    source: FilterSource,
+    fault: PolicyFault,
+    place: Place,
+) -> Option<&'static str> {
+    match source {
+        FilterSource::PolicyFile => None,
+        FilterSource::Reply => expected_in_reply(fault, place),
+        FilterSource::ScriptPolicy => match (fault, place) {
+            (PolicyFault::Expected(_), Place::Row) => Some("a filter 'native-CALL: ...' or 'end'"),
+            _ => None,
+        },
+    }
+}
+
+// What was expected in the filter of a reply, where this isn't what a policy file may have.
+fn expected_in_reply(fault: PolicyFault, place: Place) -> Option<&'static str> {
     match (fault, place) {
         (PolicyFault::AskWithLearn(_), _) => Some("'permit' or 'deny': a reply doesn't ask"),
         (PolicyFault::Expected(_), Place::Row) => Some("a filter 'native-CALL: ...'"),

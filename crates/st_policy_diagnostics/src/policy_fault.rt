@@ -4,9 +4,9 @@ ghost use Rattle.st_outside.specs.declared.files.TheConstants.{FILE_LIMIT};
 use crate::arguments::append_expected_argument;
 use crate::caret::append_line_with_caret;
 use crate::details::{append_first_policy, append_known, append_open_bracket, open_bracket};
-use crate::expected::{expected_at, expected_in_reply, expected_of};
+use crate::expected::{expected_at, expected_in_script, expected_of};
 use crate::position::position_in;
-use crate::refusal::{Found, Refusal};
+use crate::refusal::{FilterSource, Found, Refusal};
 use crate::shown::found_at;
 use st_base::Text;
 use st_grammar::{Env, Place, PolicyFault, PolicyRefusal};
@@ -34,9 +34,7 @@ fn append_expected(
     if let Found::ByteOrderMark = found {
         return line.append(expected_at(Place::Start).as_bytes());
     }
-    if refusal.in_reply
-        && let Some(expected) = expected_in_reply(refusal.fault, refusal.place)
-    {
+    if let Some(expected) = expected_in_script(refusal.source, refusal.fault, refusal.place) {
         return line.append(expected.as_bytes());
     }
     match (refusal.fault, refusal.place) {
@@ -85,7 +83,7 @@ pub fn policy_message(
         env,
         fault: refused.fault,
         place: refused.place,
-        in_reply: false,
+        source: FilterSource::PolicyFile,
     };
     refusal_message(alloc, name, &refusal)
 }

@@ -5,7 +5,18 @@ use st_grammar::{Env, Place, PolicyFault};
 use st_lex::{LexFault, Token, TokenKind};
 use std::alloc::AllocError;
 
-/// A policy file that is refused: its text and tokens, what it was read with, its fault, and where in the grammar the fault stands.
+/// Where a filter stands.
+#[derive(Clone, Copy, Debug, PartialEq, Eq)]
+pub enum FilterSource {
+    PolicyFile,
+    /// A policy of a script, in whose text it stands.
+    ScriptPolicy,
+    /// A reply of a script, in whose text it stands.
+    Reply,
+}
+
+/// A policy file that is refused, or a filter of a script: its text and tokens, what it was read with, its fault, and where in the grammar
+/// the fault stands.
 #[derive(Clone, Copy)]
 pub struct Refusal<'a> {
     pub text: &'a [u8],
@@ -13,8 +24,7 @@ pub struct Refusal<'a> {
     pub env: &'a Env,
     pub fault: PolicyFault,
     pub place: Place,
-    /// Whether it is the filter of a reply, and the text is that of a script.
-    pub in_reply: bool,
+    pub source: FilterSource,
 }
 
 /// What stands at a fault.

@@ -11,16 +11,18 @@ pub enum Row {
     Process,
     Thread,
     Reply,
+    Policy,
     Store,
     Put,
     Call,
     Fork,
+    Reload,
     End,
     /// No row of a script begins so.
     Unknown,
 }
 
-const ROWS: [(&[u8], Row); 13] = [
+const ROWS: [(&[u8], Row); 15] = [
     (b"user", Row::User),
     (b"group", Row::Group),
     (b"dir", Row::Dir),
@@ -29,10 +31,12 @@ const ROWS: [(&[u8], Row); 13] = [
     (b"process", Row::Process),
     (b"thread", Row::Thread),
     (b"reply", Row::Reply),
+    (b"policy", Row::Policy),
     (b"store", Row::Store),
     (b"put", Row::Put),
     (b"call", Row::Call),
     (b"fork", Row::Fork),
+    (b"reload", Row::Reload),
     (b"end", Row::End),
 ];
 
@@ -71,7 +75,7 @@ impl Row {
     pub fn is_instruction(self) -> bool {
         matches!(
             self,
-            Row::Store | Row::Put | Row::Call | Row::Fork | Row::End
+            Row::Store | Row::Put | Row::Call | Row::Fork | Row::Reload | Row::End
         )
     }
 }

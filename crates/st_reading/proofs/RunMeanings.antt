@@ -26,7 +26,7 @@ use Rattle.st_reading.proofs.Leads.{leads_policies, leads_script}
 use Rattle.st_reading.proofs.Meanings.{HasOne, IsOne, fetches_one, fetches_some, is_one, is_some_one, policies_one, policies_some, script_one, script_some}
 use Rattle.st_reading.proofs.ReadFiles.{IsRead, fetched, input_or, policies_read, script_read, text_read}
 use Rattle.st_reading.proofs.Refusals.{append_nil, policies_refused, script_refused}
-use Rattle.st_reading.proofs.Runnable.{AreClean, RepliesAreUngranted, all_clean, none_clean}
+use Rattle.st_reading.proofs.Runnable.{BlocksAreUngranted, script_learns, AreClean, RepliesAreUngranted, all_clean, none_clean}
 
 -- ---- how its reading ends
 
@@ -113,16 +113,16 @@ run_prints_nothing contents run text meant = let x = run_read contents run (Prin
 pub run_has_no_lines : (contents : Contents) (run : RunWords) (input : Input) (schedule : ReadSchedule) → MeansRun contents run (Runs input schedule) → schedule ≡ no_lines
 run_has_no_lines contents run input schedule meant = let x = run_read contents run (Runs input schedule) tt meant in ap (schedule_or schedule) x.outcome_is
 
-pub run_can_run : RepliesAreUngranted → (contents : Contents) (run : RunWords) (input : Input) → IsRunWithinLimits run → MeansRun contents run (starts input) → CanRun input
-run_can_run replies contents run input limits meant =
+pub run_can_run : RepliesAreUngranted → BlocksAreUngranted → (contents : Contents) (run : RunWords) (input : Input) → IsRunWithinLimits run → MeansRun contents run (starts input) → CanRun input
+run_can_run replies blocks contents run input limits meant =
     let x = run_read contents run (starts input) tt meant in
     let input_is : input ≡ input_with x.policies run.options x.script = ap (input_or input) x.outcome_is in
     let can_start = script_can_start x.script_text run.options x.script x.script_is in
     subst CanRun (sym input_is) (record {
-      startable = can_start.startable x.policies run.options limits.1 limits.2;
+      startable = can_start.startable x.policies run.options (script_learns x.script_text run.options x.script x.script_is) limits.1 limits.2;
       system = can_start.system x.policies run.options;
       bounded = can_start.bounded;
-      ungranted = x.clean.ungranted;
+      ungranted = (x.clean.ungranted, blocks x.script_text run.options x.script x.script_is);
       replies = replies x.script_text run.options x.script x.script_is;
     })
 

@@ -69,27 +69,34 @@ clean_step contents step outcome read meant = step_read AreClean none_clean cont
 abbrev pub RepliesAreUngranted : Type 0
 RepliesAreUngranted = (text : List ℕ) (options : Options) (script : ReadScript) → script_in text options ≡ Ok script → RepliesUngranted script.replies
 
-pub runnable : RepliesAreUngranted → (contents : Contents) (step : StepWords) (input : Input) (schedule : ReadSchedule) → MeansStep contents step (Runs input schedule) → IsRunnable step input
-runnable replies contents step input schedule meant =
+-- and so do its policies
+abbrev pub BlocksAreUngranted : Type 0
+BlocksAreUngranted = (text : List ℕ) (options : Options) (script : ReadScript) → script_in text options ≡ Ok script → SetIdsUngranted script.blocks
+
+pub runnable : RepliesAreUngranted → BlocksAreUngranted → (contents : Contents) (step : StepWords) (input : Input) (schedule : ReadSchedule) → MeansStep contents step (Runs input schedule) → IsRunnable step input
+runnable replies blocks contents step input schedule meant =
     let x = clean_step contents step (Runs input schedule) tt meant in
     let input_is : input ≡ input_with x.policies step.options x.script = ap (input_or input) x.outcome_is in
     let can_start = script_can_start x.script_text step.options x.script x.script_is in
     let ungranted_replies = replies x.script_text step.options x.script x.script_is in
+    let ungranted_blocks = blocks x.script_text step.options x.script x.script_is in
+    let learns = script_learns x.script_text step.options x.script x.script_is in
     record {
       script = x.script;
       policies = x.policies;
       input_is = input_is;
       can_start = can_start;
       ungranted = x.kept.ungranted;
+      blocks = ungranted_blocks;
       replies = ungranted_replies;
       can_run = λ some few. subst CanRun (sym input_is) (record {
-        startable = can_start.startable x.policies step.options some few;
+        startable = can_start.startable x.policies step.options learns some few;
         system = can_start.system x.policies step.options;
         bounded = can_start.bounded;
-        ungranted = x.kept.ungranted;
+        ungranted = (x.kept.ungranted, ungranted_blocks);
         replies = ungranted_replies;
       });
-      unasked = λ learning. x.kept.unasked (script_learns x.script_text step.options x.script x.script_is learning);
+      unasked = λ learning. x.kept.unasked (learns learning);
     }
 
 -- a text that is printed without a run

@@ -10,14 +10,15 @@ use Rattle.st_script.specs.Startable.{IsRunnableScript, input_with}
 use Rattle.st_script.specs.declared.reading.ReadScript.{ReadScript}
 use Rattle.st_command.specs.Command.{StepWords}
 
--- an input consists of a script that a run can start with, of policies and replies that grant no ids for setting ids, and of the options of
--- the words; with one to eight workers it can be run; if the run learns, no filter asks
+-- an input consists of a script that a run can start with, of policies and replies that grant no ids for setting ids, those of the script
+-- included, and of the options of the words; with one to eight workers it can be run; if the run learns, no filter that was read asks
 pub record IsRunnable (step : StepWords) (input : Input) : Type 0 where
   pub script : ReadScript
   pub policies : List BinaryPolicy
   pub input_is : input ≡ input_with policies step.options script
   pub can_start : IsRunnableScript script
   pub ungranted : SetIdsUngranted policies
+  pub blocks : SetIdsUngranted script.blocks
   pub replies : RepliesUngranted script.replies
   pub can_run : 1 ≤ step.options.workers → step.options.workers ≤ 8 → CanRun input
   pub unasked : step.options.mode ≡ Learn → NoneAsks policies

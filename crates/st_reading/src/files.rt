@@ -1,6 +1,8 @@
 ghost use Rattle.std.specs.Prelude.{◌≡◌, ◌≢◌, ◌≤◌, ◌<◌, ◌+◌, ◌^◌, [], ◌∷◌, ◌++◌, length, map, IfOk, IfErr, OnErr};
 ghost use Rattle.st_outside.specs.Files.{CanHold};
 ghost use Rattle.st_outside.specs.declared.files.TheConstants.{FILE_LIMIT};
+ghost use Rattle.st_filter.specs.Policies.{filters_in};
+ghost use Rattle.st_filter.specs.declared.set.TheConstants.{MOST_FILTERS};
 ghost use Rattle.st_reading.specs.Files.{FetchRefused, ScriptEnds, PolicyEnds, PoliciesEnd, ScheduleEnds};
 
 use crate::refusal::{Refusal, Which};
@@ -43,6 +45,8 @@ pub(crate) fn read_script_file<F: Files>(
     ensures contents { F.contents files.new ≡ F.contents files.old }
     ensures asked { F.asked files.new ≡ F.asked files.old ++ name.now ∷ [] }
     ensures ends { ScriptEnds (F.contents files.old name.now) options.now (F.faults files.old) (F.faults files.new) result }
+    ensures few_filters { IfOk result (λ script. filters_in script.blocks ≤ MOST_FILTERS) }
+    ensures few_policies { IfOk result (λ script. length script.blocks < 2 ^ 31) }
     ensures quiet { result ≢ Err Refusal.ReadFault → F.faults files.new ≡ F.faults files.old }
 {
     let text = fetch(alloc, files, name, Which::Script)?;

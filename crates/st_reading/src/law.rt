@@ -14,7 +14,9 @@ ghost use Rattle.st_outside.specs.declared.files.TheConstants.{FILE_LIMIT};
 ghost use Rattle.st_reached.specs.Runnable.{CanRun};
 ghost use Rattle.st_schedule.specs.Schedule.{schedule_in};
 
-use st_script::policies::what_is_replied_grants_no_ids_for_setting;
+use st_script::policies::{
+    what_is_reloaded_grants_no_ids_for_setting, what_is_replied_grants_no_ids_for_setting,
+};
 
 /// A command over known files has exactly one meaning, besides the files at which reading may stop.
 pub fn a_command_has_one_meaning()
@@ -29,6 +31,7 @@ pub fn what_is_meant_to_run_can_run()
     ensures { (contents : Contents) (step : StepWords) (input : Input) (schedule : ReadSchedule) → Means contents (command.Step step) (Runs input schedule) → IsRunnable step input }
 {
     what_is_replied_grants_no_ids_for_setting();
+    what_is_reloaded_grants_no_ids_for_setting();
 }
 
 /// `step` never means a text without a run, and `check` never means a run.
@@ -51,6 +54,7 @@ pub fn what_run_means_can_run()
     ensures text { (contents : Contents) (run : RunWords) (text : List ℕ) → MeansRun contents run (Prints text) → ⊥ }
 {
     what_is_replied_grants_no_ids_for_setting();
+    what_is_reloaded_grants_no_ids_for_setting();
 }
 
 /// `step` with the options and the script of a `run`, and with any schedule that can be fetched, means to run the input that the `run` means.

@@ -8,6 +8,7 @@ ghost use Rattle.st_reading.specs.Ends.{EndsReading, ending};
 
 use crate::environment::bare_env;
 use crate::files::{read_policy_files, read_schedule_file, read_script_file};
+use crate::input::input_with;
 use crate::refusal::Refusal;
 use st_base::Text;
 use st_command::{CheckWords, Command, StepWords};
@@ -15,7 +16,6 @@ use st_grammar::Env;
 use st_law::{Input, ReadSchedule};
 use st_outside::Files;
 use st_printing::print_policies;
-use st_script::ReadScript;
 use std::alloc::Global;
 
 /// What a command means, once it and its files are read.
@@ -41,13 +41,7 @@ fn read_step<F: Files>(
     let script = read_script_file(alloc, files, step.script, &step.options)?;
     let policies = read_policy_files(alloc, files, &script.env, step.policies.as_slice())?;
     let schedule = read_schedule_file(alloc, files, step.schedule)?;
-    let ReadScript { start, replies, .. } = script;
-    let input = Input {
-        policies,
-        start,
-        replies,
-        options: step.options,
-    };
+    let input = input_with(alloc, policies, step.options, script);
     Ok(Reading::Run(input, schedule))
 }
 

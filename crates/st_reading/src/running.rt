@@ -4,11 +4,11 @@ ghost use Rattle.st_command.specs.Reading.{IsRunWithinLimits};
 ghost use Rattle.st_reading.specs.RunMeaning.{EndsReadingRun};
 
 use crate::files::{read_policy_files, read_script_file};
+use crate::input::input_with;
 use crate::refusal::Refusal;
 use st_command::RunWords;
 use st_law::Input;
 use st_outside::Files;
-use st_script::ReadScript;
 use std::alloc::Global;
 
 /// Fetches the files that `run` names and reads them as `step` does: the script, then each policy file.
@@ -28,11 +28,5 @@ pub fn read_run<F: Files>(
 {
     let script = read_script_file(alloc, files, run.script, &run.options)?;
     let policies = read_policy_files(alloc, files, &script.env, run.policies.as_slice())?;
-    let ReadScript { start, replies, .. } = script;
-    Ok(Input {
-        policies,
-        start,
-        replies,
-        options: run.options,
-    })
+    Ok(input_with(alloc, policies, run.options, script))
 }

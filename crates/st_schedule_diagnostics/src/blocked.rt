@@ -17,7 +17,7 @@ fn append_numbered(line: &mut Text, word: &str, number: u64, text: &str) -> Resu
 fn is_fork_of(instr: &Instr, tid: Tid) -> bool {
     match instr {
         Instr::Fork(child) => *child == tid,
-        Instr::Store(..) | Instr::Call(..) => false,
+        Instr::Store(..) | Instr::Call(..) | Instr::Reload(_) => false,
     }
 }
 

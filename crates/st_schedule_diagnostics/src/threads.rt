@@ -111,7 +111,7 @@ fn renew(threads: &mut [Progress], old: Seq, new: Seq) {
     set_holder(threads, old, Progress::Posted(new));
 }
 
-// Notes what a call changes.
+// Notes what a call or a reload changes.
 fn note_changes(threads: &mut [Progress], changes: &[Change]) {
     for change in changes {
         match change {
@@ -144,6 +144,9 @@ impl Threads {
             }
             Entry::Used { tid, changes, .. } => {
                 set(&mut self.items, *tid, Progress::Running);
+                note_changes(&mut self.items, changes.as_slice());
+            }
+            Entry::Reloaded { changes, .. } => {
                 note_changes(&mut self.items, changes.as_slice());
             }
             Entry::Denied { tid, .. } => set(&mut self.items, *tid, Progress::Running),

@@ -11,9 +11,10 @@ use Rattle.st_script_faults.specs.Names.{no_names}
 use Rattle.st_script_faults.specs.declared.limits.TheConstants.{MOST_THREADS}
 use Rattle.st_statements.specs.Lines.{tokens_before_fault_line}
 use Rattle.st_statements.specs.Statements.{lines_in}
+use Rattle.st_statements.specs.declared.statement.OpenBody.TheVariants.{NoBody}
 use Rattle.st_statements.specs.declared.statement.ScriptLine.{ScriptLine}
 use Rattle.st_trace.specs.declared.start.ThreadRow.{ThreadRow}
-use Rattle.st_script.specs.Reading.{processes_after, script_in, script_with, start_of, threads_in}
+use Rattle.st_script.specs.Reading.{body_names, processes_after, script_in, script_with, start_of, threads_in}
 use Rattle.st_script.specs.declared.reading.ReadScript.{ReadScript}
 use Rattle.st_script.proofs.Counted.{none_has, threads_within, within_bounds}
 use Rattle.st_script.proofs.FewInstructions.{few_instructions}
@@ -26,15 +27,15 @@ use Rattle.st_script.proofs.StartedOnce.{starts_once}
 abbrev pub IsBoundedScript : ReadScript → Type 0
 IsBoundedScript script = IsBounded script.start
 
-pub bounded : (whole : WholeScript) (lines : List ScriptLine) → whole.is_cut ≡ false → whole.threads ≡ threads_after [] lines → whole.started ≡ started_after [] lines → first_fault whole no_names lines ≡ None → AreSaid lines → ArePlaced false lines → IsBounded (start_of lines)
+pub bounded : (whole : WholeScript) (lines : List ScriptLine) → whole.is_cut ≡ false → whole.threads ≡ threads_after [] lines → whole.started ≡ started_after [] lines → first_fault whole no_names lines ≡ None → AreSaid lines → ArePlaced NoBody lines → IsBounded (start_of lines)
 bounded whole lines uncut threads_are started_are none said placed =
     let ok = none_has whole no_names lines none in
     let ps = processes_after [] lines in
-    let ts = threads_after [] lines in
+    let ts = body_names lines in
     let bounds = within_bounds whole whole.env lines none in
     let names = threads_within ps ts [] lines in
     let rows_few : length (threads_in ps ts lines) ≤ MOST_THREADS = bounds.few_threads in
-    let few : length ts ≤ MOST_THREADS = omega (arith, names, rows_few) in
+    let few : length ts.threads ≤ MOST_THREADS = omega (arith, names, rows_few) in
     let instructions = few_instructions whole ts no_names lines ok (omega arith) in
     let lengths = length-flat_map (λ (row : ThreadRow). row.body) (threads_in ps ts lines) in
     let same = ap length (bodies_are_said ps ts lines placed) in
@@ -49,4 +50,4 @@ bounded whole lines uncut threads_are started_are none said placed =
 pub script_is_bounded : (text : List ℕ) (options : Options) (script : ReadScript) → script_in text options ≡ Ok script → IsBounded script.start
 script_is_bounded text options = read_has IsBoundedScript text options (λ uncut none.
     let lines_rows = rows (tokens_before_fault_line (lexed_text text)) in
-    bounded (whole_in text options) (lines_in text) uncut refl refl none (lines_said text false lines_rows) (lines_placed text false lines_rows))
+    bounded (whole_in text options) (lines_in text) uncut refl refl none (lines_said text NoBody lines_rows) (lines_placed text NoBody lines_rows))

@@ -6,10 +6,15 @@ use Rattle.std.proofs.lemmas.List.{length-append}
 use Rattle.std.specs.List.{AllByRecursion, cons_option, filter_map, position_or_len}
 use Rattle.std.specs.Prelude.{option_map}
 use Rattle.std.specs.Str.{bytes_eq}
+use Rattle.st_filter.proofs.Counts.{filters_in_first}
 use Rattle.st_filter.specs.Formula.{FilterValue}
 use Rattle.st_filter.specs.declared.filter.Action.{Action}
 use Rattle.st_filter.specs.declared.filter.Action.TheVariants as action
+use Rattle.st_filter.specs.Policies.{filters_in}
+use Rattle.st_filter.specs.declared.set.BinaryPolicy.{BinaryPolicy}
 use Rattle.st_filter.specs.declared.set.Reply.{Reply}
+use Rattle.st_filter.specs.declared.set.TheConstants.{MOST_FILTERS}
+use Rattle.st_script_faults.specs.declared.row_value.RowValue.TheVariants as value
 use Rattle.st_law.specs.Inputs.{HasProcess, HasShortTarget}
 use Rattle.st_law.specs.declared.input.Options.{Options}
 use Rattle.st_lex.specs.Unquote.{unquoted}
@@ -18,13 +23,13 @@ use Rattle.st_model.specs.declared.object.NewKind.{NewKind}
 use Rattle.st_model.specs.declared.object.NewKind.TheVariants as kind
 use Rattle.st_grammar.specs.OneFilter.{FilterResult, filter_in}
 use Rattle.st_grammar.specs.declared.env.Env.{Env}
-use Rattle.st_script_faults.specs.Faults.{WholeScript, expects_other, is_unknown, is_duplicate, is_too_many, is_large, row_fault, statement_fault, first_fault, line_fault, unless_ask, reply_filter, reply_in, reply_said, threads_after, with_thread_name}
+use Rattle.st_script_faults.specs.Faults.{WholeScript, expects_other, filter_read, is_invalid, is_left_open, is_unknown, is_duplicate, is_too_many, is_large, or_invalid, policy_binary, reloads_while_learning, row_value, row_fault, statement_fault, first_fault, line_fault, unless_ask, reply_filter, reply_in, reply_said, threads_after, with_thread_name}
 use Rattle.st_script.specs.Bounds.{IsWithinBounds}
 use Rattle.st_script_faults.specs.Names.{Name, Names, no_names, is_name_among, with_new_name, name_number, with_says}
 use Rattle.st_statements.specs.Parts.{is_long, is_normal}
 use Rattle.st_statements.specs.Statements.{lines_in}
 use Rattle.st_trace.specs.declared.start.ThreadRow.{ThreadRow}
-use Rattle.st_script.specs.Reading.{body_in, object_said, process_said, processes_after, script_in, script_with, thread_said, thread_with, threads_in, with_process_name}
+use Rattle.st_script.specs.Reading.{BodyNames, blocks_in, body_in, body_names, filters_below, policy_names_after, unless_begun, with_block, with_policy_name, object_said, process_said, processes_after, script_in, script_with, thread_said, thread_with, threads_in, with_process_name}
 use Rattle.st_script_faults.specs.declared.fault.ScriptFault.{ScriptFault}
 use Rattle.st_script_faults.specs.declared.limits.TheConstants.{MOST_PROCESSES, MOST_THREADS, MOST_TREE_ROWS}
 use Rattle.st_script.specs.declared.reading.ReadScript.{ReadScript}
@@ -40,17 +45,27 @@ pub record IsFaultless (whole : WholeScript) (above : Names) (statement : Statem
   pub known : is_unknown whole above statement ≡ false
   pub new : is_duplicate whole above statement ≡ false
   pub few : is_too_many whole above statement ≡ false
+  pub may_reload : reloads_while_learning whole statement ≡ false
+  pub valid : is_invalid (row_value whole.env statement) ≡ false
 
-faultless_by : (whole : WholeScript) (above : Names) (s : Statement) (a b c d : Bool) (w x y z : ScriptFault) → is_unknown whole above s ≡ b → is_duplicate whole above s ≡ c → is_too_many whole above s ≡ d →
-    (if a then Some w else if b then Some x else if c then Some y else if d then Some z else None) ≡ None → IsFaultless whole above s
-faultless_by whole above s true b c d w x y z p q r e = absurd (cc)
-faultless_by whole above s false true c d w x y z p q r e = absurd (cc)
-faultless_by whole above s false false true d w x y z p q r e = absurd (cc)
-faultless_by whole above s false false false true w x y z p q r e = absurd (cc)
-faultless_by whole above s false false false false w x y z p q r e = record { known = p; new = q; few = r }
+valid_by : (unclosed invalid : Bool) → (unclosed || invalid) ≡ false → invalid ≡ false
+valid_by true invalid e = absurd (cc)
+valid_by false invalid e = e
+
+faultless_by : (whole : WholeScript) (above : Names) (s : Statement) (a b c d e : Bool) (v w x y z : ScriptFault) →
+    (a ≡ false → is_invalid (row_value whole.env s) ≡ false) → is_unknown whole above s ≡ b → is_duplicate whole above s ≡ c → is_too_many whole above s ≡ d → reloads_while_learning whole s ≡ e →
+    (if a then Some v else if b then Some w else if c then Some x else if d then Some y else if e then Some z else None) ≡ None → IsFaultless whole above s
+faultless_by whole above s true b c d e v w x y z valid p q r m none = absurd (cc)
+faultless_by whole above s false true c d e v w x y z valid p q r m none = absurd (cc)
+faultless_by whole above s false false true d e v w x y z valid p q r m none = absurd (cc)
+faultless_by whole above s false false false true e v w x y z valid p q r m none = absurd (cc)
+faultless_by whole above s false false false false true v w x y z valid p q r m none = absurd (cc)
+faultless_by whole above s false false false false false v w x y z valid p q r m none = record { known = p; new = q; few = r; may_reload = m; valid = valid refl }
 
 faultless : (whole : WholeScript) (above : Names) (below : List ScriptLine) (line : ℕ) (s : Statement) → row_fault whole above below line s ≡ None → IsFaultless whole above s
-faultless whole above below line s e = faultless_by whole above s (expects_other whole below s) (is_unknown whole above s) (is_duplicate whole above s) (is_too_many whole above s) _ _ _ _ refl refl refl e
+faultless whole above below line s none =
+    faultless_by whole above s (expects_other whole below s) (is_unknown whole above s) (is_duplicate whole above s) (is_too_many whole above s) (reloads_while_learning whole s) _ _ _ _ _
+    (valid_by (is_left_open whole below s) (is_invalid (row_value whole.env s))) refl refl refl refl none
 
 -- the fault of a line, or of those below it
 abbrev either : Option ScriptFault → Option ScriptFault → Option ScriptFault
@@ -89,7 +104,7 @@ pub or_right : (a b : Bool) → (a || b) ≡ false → b ≡ false
 or_right true b e = absurd (cc)
 or_right false b e = e
 
-pub few_threads : (whole : WholeScript) (ps ts : List Name) (above : Names) (lines : List ScriptLine) → NoFault whole above lines → length above.threads ≤ MOST_THREADS → length above.threads + length (threads_in ps ts lines) ≤ MOST_THREADS
+pub few_threads : (whole : WholeScript) (ps : List Name) (ts : BodyNames) (above : Names) (lines : List ScriptLine) → NoFault whole above lines → length above.threads ≤ MOST_THREADS → length above.threads + length (threads_in ps ts lines) ≤ MOST_THREADS
 few_threads whole ps ts above _ (AtEnd _) few = omega (arith, few)
 few_threads whole ps ts above _ (After _ n (says.Thread name process) lines ok rest) few =
     let more : length (with_new_name above.threads name) ≡ length above.threads + 1 = added above.threads name (is_name_among above.threads name) ok.new in
@@ -242,7 +257,7 @@ later_is : (above : Names) (s : Statement) → (with_says above (Some s)).proces
 later_is above (says.Process process) = refl
 later_is above s = refl
 
-pub threads_have_processes : (whole : WholeScript) (ps ts : List Name) (count : ℕ) → length ps ≤ count → (above : Names) (lines : List ScriptLine) → NoFault whole above lines → processes_after above.processes lines ≡ ps →
+pub threads_have_processes : (whole : WholeScript) (ps : List Name) (ts : BodyNames) (count : ℕ) → length ps ≤ count → (above : Names) (lines : List ScriptLine) → NoFault whole above lines → processes_after above.processes lines ≡ ps →
     AllByRecursion (λ row. HasProcess count row.process) (threads_in ps ts lines)
 threads_have_processes whole ps ts count few above _ (AtEnd _) is = tt
 threads_have_processes whole ps ts count few above _ (After _ n (says.Thread name None) lines ok rest) is =
@@ -260,19 +275,82 @@ processes_within lines = let e = names_within [] lines in omega (arith, e)
 -- ---- names of threads
 
 -- the threads of a line and of those after it, given where the line's thread starts, if it has one
-abbrev pub threads_with : List Name → List Name → List ScriptLine → Option (Option Name) → List ThreadRow
+abbrev pub threads_with : List Name → BodyNames → List ScriptLine → Option (Option Name) → List ThreadRow
 threads_with ps ts lines (Some process) = thread_with ps process (body_in ts lines) ∷ threads_in ps ts lines
 threads_with ps ts lines None = threads_in ps ts lines
 
-threads_by : (ps ts names : List Name) (o : Option Statement) (lines : List ScriptLine) → length (threads_after (with_thread_name names o) lines) ≤ length (with_thread_name names o) + length (threads_in ps ts lines) →
+threads_by : (ps : List Name) (ts : BodyNames) (names : List Name) (o : Option Statement) (lines : List ScriptLine) → length (threads_after (with_thread_name names o) lines) ≤ length (with_thread_name names o) + length (threads_in ps ts lines) →
     length (threads_after (with_thread_name names o) lines) ≤ length names + length (threads_with ps ts lines (thread_said o))
 threads_by ps ts names None lines ih = ih
 threads_by ps ts names (Some (says.Thread name process)) lines ih = let one = at_most_one names name (is_name_among names name) in omega (arith, ih, one)
 threads_by ps ts names (Some s) lines ih = ih
 
-pub threads_within : (ps ts names : List Name) (lines : List ScriptLine) → length (threads_after names lines) ≤ length names + length (threads_in ps ts lines)
+pub threads_within : (ps : List Name) (ts : BodyNames) (names : List Name) (lines : List ScriptLine) → length (threads_after names lines) ≤ length names + length (threads_in ps ts lines)
 threads_within ps ts names [] = omega arith
 threads_within ps ts names (line ∷ lines) = threads_by ps ts names line.says lines (threads_within ps ts (with_thread_name names line.says) lines)
+
+-- ---- policies
+
+more_filters : (o : Option FilterValue) (filters : List FilterValue) → length (cons_option o filters) ≤ 1 + length filters
+more_filters None filters = omega arith
+more_filters (Some filter) filters = omega arith
+
+-- the filters that lines add to the policy above them, and those of their own policies
+abbrev filter_count : Env → List ScriptLine → ℕ
+filter_count env lines = length (filters_below env lines) + filters_in (blocks_in env lines)
+
+policy_counts : (o : Option Name) (filters : List FilterValue) (blocks : List BinaryPolicy) → length (unless_begun o filters) + filters_in (with_block o filters blocks) ≡ length filters + filters_in blocks
+policy_counts None filters blocks = refl
+policy_counts (Some found) filters blocks =
+    let all : ℕ = filters_in (record { binary = found; filters = filters } ∷ blocks) in
+    let none : 0 + all ≡ all = omega arith in
+    none ∙ filters_in_first (record { binary = found; filters = filters }) blocks
+
+filters_counted : (whole : WholeScript) (env : Env) (above : Names) (lines : List ScriptLine) → NoFault whole above lines → above.filters ≤ MOST_FILTERS → above.filters + filter_count env lines ≤ MOST_FILTERS
+filters_counted whole env above _ (AtEnd _) few = omega (arith, few)
+filters_counted whole env above _ (After _ n (says.Filter text) lines ok rest) few =
+    let room : above.filters < MOST_FILTERS = leb-false MOST_FILTERS above.filters ok.few in
+    let ih = filters_counted whole env (with_says above (Some (says.Filter text))) lines rest (omega (arith, room)) in
+    let one = more_filters (filter_read (filter_in text env)) (filters_below env lines) in
+    omega (arith, ih, one)
+filters_counted whole env above _ (After _ n (says.Policy name binary) lines ok rest) few =
+    let ih = filters_counted whole env (with_says above (Some (says.Policy name binary))) lines rest few in
+    let same = policy_counts (policy_binary env binary) (filters_below env lines) (blocks_in env lines) in
+    omega (arith, ih, same)
+filters_counted whole env above _ (After _ n s lines ok rest) few = filters_counted whole env (with_says above (Some s)) lines rest few
+
+-- the policies of lines without a fault have no more filters than a script may have
+pub few_filters : (whole : WholeScript) (env : Env) (lines : List ScriptLine) → first_fault whole no_names lines ≡ None → filters_in (blocks_in env lines) ≤ MOST_FILTERS
+few_filters whole env lines none = let all = filters_counted whole env no_names lines (none_has whole no_names lines none) (omega arith) in omega (arith, all)
+
+block_there : (o : Option Name) (filters : List FilterValue) (blocks : List BinaryPolicy) → is_invalid (or_invalid value.Policy o) ≡ false → length (with_block o filters blocks) ≡ 1 + length blocks
+block_there None filters blocks valid = absurd (cc)
+block_there (Some found) filters blocks valid = omega arith
+
+-- there are no more names of policies than policies
+pub policies_within : (whole : WholeScript) (above : Names) (names : List Name) (lines : List ScriptLine) → NoFault whole above lines → length (policy_names_after names lines) ≤ length names + length (blocks_in whole.env lines)
+policies_within whole above names _ (AtEnd _) = omega arith
+policies_within whole above names _ (After _ n (says.Policy name binary) lines ok rest) =
+    let ih = policies_within whole (with_says above (Some (says.Policy name binary))) (with_new_name names name) lines rest in
+    let one = at_most_one names name (is_name_among names name) in
+    let there = block_there (policy_binary whole.env binary) (filters_below whole.env lines) (blocks_in whole.env lines) ok.valid in
+    omega (arith, ih, one, there)
+policies_within whole above names _ (After _ n s lines ok rest) = policies_within whole (with_says above (Some s)) names lines rest
+
+kept_policy : (names : List Name) (o : Option Statement) (name : Name) → is_name_among names name ≡ true → is_name_among (with_policy_name names o) name ≡ true
+kept_policy names None name h = h
+kept_policy names (Some (says.Policy other binary)) name h = kept_in names other name (is_name_among names other) h
+kept_policy names (Some s) name h = h
+
+-- a policy stays among those of more lines
+pub policy_still_there : (names : List Name) (lines : List ScriptLine) (name : Name) → is_name_among names name ≡ true → is_name_among (policy_names_after names lines) name ≡ true
+policy_still_there names [] name h = h
+policy_still_there names (line ∷ lines) name h = policy_still_there (with_policy_name names line.says) lines name (kept_policy names line.says name h)
+
+-- the policies above a row, with the row's
+pub policies_are : (above : Names) (s : Statement) → (with_says above (Some s)).policies ≡ with_policy_name above.policies (Some s)
+policies_are above (says.Policy name binary) = refl
+policies_are above s = refl
 
 -- ---- all bounds together
 
@@ -280,14 +358,14 @@ pub within_bounds : (whole : WholeScript) (env : Env) (lines : List ScriptLine) 
 within_bounds whole env lines none =
     let ok = none_has whole no_names lines none in
     let ps = processes_after [] lines in
-    let threads = few_threads whole ps (threads_after [] lines) no_names lines ok (omega arith) in
+    let threads = few_threads whole ps (body_names lines) no_names lines ok (omega arith) in
     let processes = few_processes whole no_names lines ok (omega arith) in
     let objects = few_objects whole no_names lines ok (omega arith) in
     record {
       few_threads = omega (arith, threads);
       few_processes = omega (arith, processes);
       few_objects = omega (arith, objects);
-      processes = threads_have_processes whole ps (threads_after [] lines) (length (filter_map (λ line. process_said line.says) lines)) (processes_within lines) no_names lines ok refl;
+      processes = threads_have_processes whole ps (body_names lines) (length (filter_map (λ line. process_said line.says) lines)) (processes_within lines) no_names lines ok refl;
       targets = short_targets whole no_names lines ok;
       replies = no_reply_asks env lines;
     }

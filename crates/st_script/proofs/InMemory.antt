@@ -14,7 +14,7 @@ use Rattle.st_statements.specs.declared.statement.Statement.{Statement}
 use Rattle.st_statements.specs.declared.statement.Statement.TheVariants as says
 use Rattle.st_trace.specs.declared.start.Instr.{Instr}
 use Rattle.st_trace.specs.declared.start.ThreadRow.{ThreadRow}
-use Rattle.st_script.specs.Reading.{body_in, instructions_said, store_of, stores, thread_said, threads_in}
+use Rattle.st_script.specs.Reading.{BodyNames, body_in, instructions_said, store_of, stores, thread_said, threads_in}
 use Rattle.st_script.proofs.Counted.{threads_with}
 use Rattle.st_script.proofs.Said.{AreSaid, IsSaid}
 
@@ -29,19 +29,20 @@ stores_from first bytes within from (suc count) few = (store_within first from b
 stores_within : (first : ℕ) (bytes : List ℕ) → 8 * first + length bytes < SPACE_BYTES → AllByRecursion IsInMemory (stores first bytes)
 stores_within first bytes within = stores_from first bytes within 0 (store_count bytes) (omega arith)
 
-said_within : (threads : List Name) (o : Option Statement) → IfSome o IsSaid → AllByRecursion IsInMemory (instructions_said threads o)
+said_within : (threads : BodyNames) (o : Option Statement) → IfSome o IsSaid → AllByRecursion IsInMemory (instructions_said threads o)
 said_within threads None said = tt
 said_within threads (Some (says.Store place word)) said = (said, tt)
 said_within threads (Some (says.Put place bytes)) said = stores_within place bytes said
 said_within threads (Some (says.Call call regs)) said = (tt, tt)
 said_within threads (Some (says.Fork name)) said = (tt, tt)
+said_within threads (Some (says.Reload name)) said = (tt, tt)
 said_within threads (Some s) said = tt
 
 body_by : (b : Bool) (here below : List Instr) → All IsInMemory here → All IsInMemory below → All IsInMemory (if b then [] else here ++ below)
 body_by true here below first rest = All-from_recursion IsInMemory [] tt
 body_by false here below first rest = All-append IsInMemory here below first rest
 
-body_within : (threads : List Name) (lines : List ScriptLine) → AreSaid lines → All IsInMemory (body_in threads lines)
+body_within : (threads : BodyNames) (lines : List ScriptLine) → AreSaid lines → All IsInMemory (body_in threads lines)
 body_within threads [] said = All-from_recursion IsInMemory [] tt
 body_within threads (line ∷ lines) said =
     body_by (ends_body line) (instructions_said threads line.says) (body_in threads lines) (All-from_recursion IsInMemory (instructions_said threads line.says) (said_within threads line.says said.0)) (body_within threads lines said.1)
@@ -49,11 +50,11 @@ body_within threads (line ∷ lines) said =
 abbrev StoresWithin : ThreadRow → Type 0
 StoresWithin row = All IsInMemory row.body
 
-threads_by : (ps ts : List Name) (lines : List ScriptLine) (o : Option (Option Name)) → All IsInMemory (body_in ts lines) → AllByRecursion StoresWithin (threads_in ps ts lines) → AllByRecursion StoresWithin (threads_with ps ts lines o)
+threads_by : (ps : List Name) (ts : BodyNames) (lines : List ScriptLine) (o : Option (Option Name)) → All IsInMemory (body_in ts lines) → AllByRecursion StoresWithin (threads_in ps ts lines) → AllByRecursion StoresWithin (threads_with ps ts lines o)
 threads_by ps ts lines None body rest = rest
 threads_by ps ts lines (Some process) body rest = (body, rest)
 
 -- the stores of a script's threads are in memory
-pub stores_in_memory : (ps ts : List Name) (lines : List ScriptLine) → AreSaid lines → AllByRecursion StoresWithin (threads_in ps ts lines)
+pub stores_in_memory : (ps : List Name) (ts : BodyNames) (lines : List ScriptLine) → AreSaid lines → AllByRecursion StoresWithin (threads_in ps ts lines)
 stores_in_memory ps ts [] said = tt
 stores_in_memory ps ts (line ∷ lines) said = threads_by ps ts lines (thread_said line.says) (body_within ts lines said.1) (stores_in_memory ps ts lines said.1)

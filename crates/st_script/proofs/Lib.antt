@@ -1,12 +1,14 @@
 pub mod Bounded
 mod Counted
+mod Examples
 mod FewInstructions
+mod FewPolicies
+mod FiltersRead
 mod InMemory
 mod Placed
 mod PutTexts
 pub mod ReadTexts
 mod Replied
-mod RepliesSaid
 mod Said
 mod Slashes
 mod Standing

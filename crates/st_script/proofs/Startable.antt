@@ -1,5 +1,5 @@
 -- A run can start with what lines without a fault say: it is startable, its system can be built, and it is bounded.
-use Rattle.std.proofs.Common.{◌≡◌, ℕ, zero, suc, ◌≤◌, true, false, ◌||◌, nat_lt, List, [], ◌∷◌, length, map, slice_get, Option, Some, None, Ok, refl, sym, ap, ◌∙◌, arith}
+use Rattle.std.proofs.Common.{◌≡◌, ◌≢◌, ℕ, zero, suc, ◌≤◌, true, false, ◌||◌, nat_lt, List, [], ◌∷◌, length, map, slice_get, Option, Some, None, Ok, refl, sym, ap, ◌∙◌, arith}
 use Rattle.std.proofs.lemmas.Bool.{ltb-false}
 use Rattle.std.proofs.lemmas.List.Elements.{All-from_recursion}
 use Rattle.std.specs.List.{All, AllByRecursion, filter_map}
@@ -11,6 +11,7 @@ use Rattle.st_law.specs.Processes.{process_count}
 use Rattle.st_law.specs.State.{thread_count}
 use Rattle.st_law.specs.Threads.{owner_of_row}
 use Rattle.st_law.specs.declared.input.Input.{Input}
+use Rattle.st_law.specs.declared.input.Mode.TheVariants.{Learn}
 use Rattle.st_law.specs.declared.input.Options.{Options}
 use Rattle.st_names.specs.Name.{printed_name}
 use Rattle.st_names.specs.declared.limits.TheConstants.{LONGEST_NAME}
@@ -22,15 +23,16 @@ use Rattle.st_script_faults.specs.Names.{Name, Names, is_name_among, no_names, w
 use Rattle.st_statements.specs.Lines.{tokens_before_fault_line}
 use Rattle.st_statements.specs.Parts.{is_long}
 use Rattle.st_statements.specs.Statements.{lines_in}
+use Rattle.st_statements.specs.declared.statement.OpenBody.TheVariants.{NoBody}
 use Rattle.st_statements.specs.declared.statement.ScriptLine.{ScriptLine}
 use Rattle.st_statements.specs.declared.statement.Statement.TheVariants as says
 use Rattle.st_trace.specs.declared.start.ThreadRow.{ThreadRow}
 use Rattle.st_script.specs.Bounds.{IsWithinBounds}
-use Rattle.st_script.specs.Reading.{body_in, process_said, processes_after, script_in, script_with, store_of, stores, threads_in}
+use Rattle.st_script.specs.Reading.{BodyNames, body_in, body_names, policy_names_after, process_said, processes_after, script_in, script_with, store_of, stores, threads_in}
 use Rattle.st_script.specs.Startable.{IsRunnableScript, input_with}
 use Rattle.st_script.specs.declared.reading.ReadScript.{ReadScript}
 use Rattle.st_script.proofs.Bounded.{bounded}
-use Rattle.st_script.proofs.Counted.{NoFault, AtEnd, After, known_by, none_has, numbered_within, or_left, or_right, threads_within, within_bounds}
+use Rattle.st_script.proofs.Counted.{NoFault, AtEnd, After, known_by, none_has, not_false, numbered_within, or_left, or_right, policies_are, policies_within, policy_still_there, threads_within, within_bounds}
 use Rattle.st_script.proofs.ReadTexts.{read_has, whole_in}
 use Rattle.st_script.proofs.Said.{ArePlaced, AreSaid, lines_placed, lines_said}
 use Rattle.st_script.proofs.Slashes.{normal_slashed, printed_short}
@@ -42,27 +44,33 @@ all_map : {A B : Type 0} (P : B → Type 0) (f : A → B) (xs : List A) → ((x 
 all_map P f [] all = tt
 all_map P f (x ∷ xs) all = (all x, all_map P f xs all)
 
-module _ (i : Input) (whole : WholeScript) (threads : List Name) (uncut : whole.is_cut ≡ false) (threads_are : whole.threads ≡ threads) (few : length threads ≤ length i.start.threads) where
-  bodies_are : (above : Names) (lines : List ScriptLine) → NoFault whole above lines → AreSaid lines → AllByRecursion (IsInstruction i) (body_in threads lines)
-  bodies_are above _ (AtEnd _) said = tt
-  bodies_are above _ (After _ n (says.Store place word) lines ok rest) said = (tt, bodies_are (with_says above (Some (says.Store place word))) lines rest said.1)
-  bodies_are above _ (After _ n (says.Call call regs) lines ok rest) said = (said.0, bodies_are (with_says above (Some (says.Call call regs))) lines rest said.1)
-  bodies_are above _ (After _ n (says.Fork name) lines ok rest) said =
+module _ (i : Input) (whole : WholeScript) (ts : BodyNames) (uncut : whole.is_cut ≡ false) (threads_are : whole.threads ≡ ts.threads) (few : length ts.threads ≤ length i.start.threads)
+    (few_policies : length ts.policies ≤ length i.policies.blocks) (learning : i.options.mode ≡ Learn → whole.env.learn ≡ true) where
+  bodies_are : (above : Names) (lines : List ScriptLine) → NoFault whole above lines → AreSaid lines → policy_names_after above.policies lines ≡ ts.policies → AllByRecursion (IsInstruction i) (body_in ts lines)
+  bodies_are above _ (AtEnd _) said is = tt
+  bodies_are above _ (After _ n (says.Store place word) lines ok rest) said is = (tt, bodies_are (with_says above (Some (says.Store place word))) lines rest said.1 is)
+  bodies_are above _ (After _ n (says.Call call regs) lines ok rest) said is = (said.0, bodies_are (with_says above (Some (says.Call call regs))) lines rest said.1 is)
+  bodies_are above _ (After _ n (says.Fork name) lines ok rest) said is =
       let there : is_name_among whole.threads name ≡ true = known_by whole.is_cut (is_name_among whole.threads name) uncut ok.known in
-      let among : is_name_among threads name ≡ true = ap (λ names. is_name_among names name) (sym threads_are) ∙ there in
-      (numbered_within threads name (length i.start.threads) among few, bodies_are (with_says above (Some (says.Fork name))) lines rest said.1)
-  bodies_are above _ (After _ n (says.Put place bytes) lines ok rest) said =
-      each-append (IsInstruction i) (stores place bytes) (body_in threads lines) (all_map (IsInstruction i) (store_of place bytes) _ (λ k. tt)) (bodies_are (with_says above (Some (says.Put place bytes))) lines rest said.1)
-  bodies_are above _ (After _ n says.End lines ok rest) said = tt
-  bodies_are above _ (After _ n s lines ok rest) said = bodies_are (with_says above (Some s)) lines rest said.1
+      let among : is_name_among ts.threads name ≡ true = ap (λ names. is_name_among names name) (sym threads_are) ∙ there in
+      (numbered_within ts.threads name (length i.start.threads) among few, bodies_are (with_says above (Some (says.Fork name))) lines rest said.1 is)
+  bodies_are above _ (After _ n (says.Reload name) lines ok rest) said is =
+      let there : is_name_among above.policies name ≡ true = not_false (is_name_among above.policies name) ok.known in
+      let among : is_name_among ts.policies name ≡ true = ap (λ names. is_name_among names name) (sym is) ∙ policy_still_there above.policies lines name there in
+      let other : i.options.mode ≢ Learn = λ learns. let clash : true ≡ false = sym (learning learns) ∙ ok.may_reload in cc in
+      ((numbered_within ts.policies name (length i.policies.blocks) among few_policies, other), bodies_are (with_says above (Some (says.Reload name))) lines rest said.1 is)
+  bodies_are above _ (After _ n (says.Put place bytes) lines ok rest) said is =
+      each-append (IsInstruction i) (stores place bytes) (body_in ts lines) (all_map (IsInstruction i) (store_of place bytes) _ (λ k. tt)) (bodies_are (with_says above (Some (says.Put place bytes))) lines rest said.1 is)
+  bodies_are above _ (After _ n says.End lines ok rest) said is = tt
+  bodies_are above _ (After _ n s lines ok rest) said is = bodies_are (with_says above (Some s)) lines rest said.1 (ap (λ names. policy_names_after names lines) (policies_are above s) ∙ is)
 
-  threads_have_bodies : (processes : List Name) (above : Names) (lines : List ScriptLine) → NoFault whole above lines → AreSaid lines → AllByRecursion (λ row. All (IsInstruction i) row.body) (threads_in processes threads lines)
-  threads_have_bodies processes above _ (AtEnd _) said = tt
-  threads_have_bodies processes above _ (After _ n (says.Thread name process) lines ok rest) said = (
-    All-from_recursion (IsInstruction i) (body_in threads lines) (bodies_are (with_says above (Some (says.Thread name process))) lines rest said.1),
-    threads_have_bodies processes (with_says above (Some (says.Thread name process))) lines rest said.1,
+  threads_have_bodies : (processes : List Name) (above : Names) (lines : List ScriptLine) → NoFault whole above lines → AreSaid lines → policy_names_after above.policies lines ≡ ts.policies → AllByRecursion (λ row. All (IsInstruction i) row.body) (threads_in processes ts lines)
+  threads_have_bodies processes above _ (AtEnd _) said is = tt
+  threads_have_bodies processes above _ (After _ n (says.Thread name process) lines ok rest) said is = (
+    All-from_recursion (IsInstruction i) (body_in ts lines) (bodies_are (with_says above (Some (says.Thread name process))) lines rest said.1 is),
+    threads_have_bodies processes (with_says above (Some (says.Thread name process))) lines rest said.1 is,
   )
-  threads_have_bodies processes above _ (After _ n s lines ok rest) said = threads_have_bodies processes (with_says above (Some s)) lines rest said.1
+  threads_have_bodies processes above _ (After _ n s lines ok rest) said is = threads_have_bodies processes (with_says above (Some s)) lines rest said.1 (ap (λ names. policy_names_after names lines) (policies_are above s) ∙ is)
 
 -- ---- owners
 
@@ -92,23 +100,24 @@ directories_short whole above _ (After _ n s lines ok rest) said = directories_s
 -- ---- all conditions together
 
 startable : (whole : WholeScript) (lines : List ScriptLine) → whole.is_cut ≡ false → whole.threads ≡ threads_after [] lines → NoFault whole no_names lines → AreSaid lines → IsWithinBounds (script_with whole.env lines) →
-    (policies : List BinaryPolicy) (options : Options) → 1 ≤ options.workers → options.workers ≤ 8 → IsStartable (input_with policies options (script_with whole.env lines))
-startable whole lines uncut threads_are ok said bounds policies options some few =
+    (policies : List BinaryPolicy) (options : Options) → (options.mode ≡ Learn → whole.env.learn ≡ true) → 1 ≤ options.workers → options.workers ≤ 8 → IsStartable (input_with policies options (script_with whole.env lines))
+startable whole lines uncut threads_are ok said bounds policies options learning some few =
     let i = input_with policies options (script_with whole.env lines) in
     let processes = processes_after [] lines in
-    let threads = threads_after [] lines in
-    let among : length threads ≤ length i.start.threads = let within = threads_within processes threads [] lines in omega (arith, within) in
+    let ts = body_names lines in
+    let among : length ts.threads ≤ length i.start.threads = let within = threads_within processes ts [] lines in omega (arith, within) in
+    let policies_few : length ts.policies ≤ length i.policies.blocks = let within = policies_within whole no_names [] lines ok in omega (arith, within) in
     record {
       some_worker = some;
       few_workers = few;
       few_threads = bounds.few_threads;
       processes = All-from_recursion _ _ bounds.processes;
-      bodies = All-from_recursion _ _ (threads_have_bodies i whole threads uncut threads_are among processes no_names lines ok said);
+      bodies = All-from_recursion _ _ (threads_have_bodies i whole ts uncut threads_are among policies_few learning processes no_names lines ok said refl);
       replies = All-from_recursion _ _ bounds.replies;
       targets = All-from_recursion _ _ bounds.targets;
     }
 
-can_start : (whole : WholeScript) (lines : List ScriptLine) → whole.is_cut ≡ false → whole.threads ≡ threads_after [] lines → whole.started ≡ started_after [] lines → first_fault whole no_names lines ≡ None → AreSaid lines → ArePlaced false lines → IsRunnableScript (script_with whole.env lines)
+can_start : (whole : WholeScript) (lines : List ScriptLine) → whole.is_cut ≡ false → whole.threads ≡ threads_after [] lines → whole.started ≡ started_after [] lines → first_fault whole no_names lines ≡ None → AreSaid lines → ArePlaced NoBody lines → IsRunnableScript (script_with whole.env lines)
 can_start whole lines uncut threads_are started_are none said placed =
     let ok = none_has whole no_names lines none in
     let bounds = within_bounds whole whole.env lines none in
@@ -132,4 +141,4 @@ can_start whole lines uncut threads_are started_are none said placed =
 pub script_can_start : (text : List ℕ) (options : Options) (script : ReadScript) → script_in text options ≡ Ok script → IsRunnableScript script
 script_can_start text options = read_has IsRunnableScript text options (λ uncut none.
     let lines_rows = rows (tokens_before_fault_line (lexed_text text)) in
-    can_start (whole_in text options) (lines_in text) uncut refl refl none (lines_said text false lines_rows) (lines_placed text false lines_rows))
+    can_start (whole_in text options) (lines_in text) uncut refl refl none (lines_said text NoBody lines_rows) (lines_placed text NoBody lines_rows))

@@ -13,13 +13,14 @@ use Rattle.st_reached.specs.Scripts.{is_start_of, starts_by_row}
 use Rattle.st_script_faults.specs.Faults.{WholeScript, is_started, started_after, threads_after, with_started, with_thread_name}
 use Rattle.st_script_faults.specs.Names.{Name, Names, is_name_among, no_names, name_number, store_count, with_new_name, with_says}
 use Rattle.st_script_faults.specs.declared.limits.TheConstants.{MOST_THREADS}
+use Rattle.st_statements.specs.declared.statement.OpenBody.TheVariants.{NoBody}
 use Rattle.st_statements.specs.declared.statement.ScriptLine.{ScriptLine}
 use Rattle.st_statements.specs.declared.statement.Statement.{Statement}
 use Rattle.st_statements.specs.declared.statement.Statement.TheVariants as says
 use Rattle.st_trace.specs.declared.start.Instr.{Instr}
 use Rattle.st_trace.specs.declared.start.Instr.TheVariants.{Fork}
 use Rattle.st_trace.specs.declared.start.ThreadRow.{ThreadRow}
-use Rattle.st_script.specs.Reading.{body_in, store_of, stores, thread_with, threads_in}
+use Rattle.st_script.specs.Reading.{BodyNames, body_in, body_names, store_of, stores, thread_with, threads_in}
 use Rattle.st_script.proofs.Counted.{NoFault, AtEnd, After, added, kept_in, known_by, or_true, place_within}
 use Rattle.st_script.proofs.Placed.{all_bodies, all_said, bodies_are_said}
 use Rattle.st_script.proofs.Said.{ArePlaced}
@@ -91,34 +92,34 @@ no_store_starts t first bytes from (suc count) = no_store_starts t first bytes (
 abbrev named : List Name → ℕ → Name
 named ts t = unwrap_or (item_at_number ts t) []
 
-module _ (whole : WholeScript) (ts : List Name) (uncut : whole.is_cut ≡ false) (threads_are : whole.threads ≡ ts) (few : length ts ≤ MOST_THREADS) (t : ℕ) where
-  its_name : (name : Name) → is_name_among ts name ≡ true → (name_number ts name == t) ≡ true → named ts t ≡ name
+module _ (whole : WholeScript) (ts : BodyNames) (uncut : whole.is_cut ≡ false) (threads_are : whole.threads ≡ ts.threads) (few : length ts.threads ≤ MOST_THREADS) (t : ℕ) where
+  its_name : (name : Name) → is_name_among ts.threads name ≡ true → (name_number ts.threads name == t) ≡ true → named ts.threads t ≡ name
   its_name name has is =
-      let number : name_number ts name ≡ t = eqb-true (name_number ts name) t is in
-      let at : item_at_number ts t ≡ Some name = ap (item_at_number ts) (sym number) ∙ name_of_number ts name few has in
+      let number : name_number ts.threads name ≡ t = eqb-true (name_number ts.threads name) t is in
+      let at : item_at_number ts.threads t ≡ Some name = ap (item_at_number ts.threads) (sym number) ∙ name_of_number ts.threads name few has in
       ap (λ o. unwrap_or o []) at
 
-  fork_by : (above : Names) (name : Name) (below : List Instr) (b : Bool) → (b ≡ true → named ts t ≡ name) → is_started whole above name ≡ false →
-      starts t below ≤ room (is_name_among whole.started (named ts t) || is_name_among (with_new_name above.forked name) (named ts t)) →
-      cond b 1 0 + starts t below ≤ room (is_name_among whole.started (named ts t) || is_name_among above.forked (named ts t))
+  fork_by : (above : Names) (name : Name) (below : List Instr) (b : Bool) → (b ≡ true → named ts.threads t ≡ name) → is_started whole above name ≡ false →
+      starts t below ≤ room (is_name_among whole.started (named ts.threads t) || is_name_among (with_new_name above.forked name) (named ts.threads t)) →
+      cond b 1 0 + starts t below ≤ room (is_name_among whole.started (named ts.threads t) || is_name_among above.forked (named ts.threads t))
   fork_by above name below false same new ih =
-      let less = room_less (is_name_among whole.started (named ts t)) (is_name_among above.forked (named ts t)) (is_name_among (with_new_name above.forked name) (named ts t)) (kept_in above.forked name (named ts t) (is_name_among above.forked name)) in
+      let less = room_less (is_name_among whole.started (named ts.threads t)) (is_name_among above.forked (named ts.threads t)) (is_name_among (with_new_name above.forked name) (named ts.threads t)) (kept_in above.forked name (named ts.threads t) (is_name_among above.forked name)) in
       omega (arith, ih, less)
   fork_by above name below true same new ih =
-      let unstarted : (is_name_among whole.started (named ts t) || is_name_among above.forked (named ts t)) ≡ false = ap (λ (n : Name). is_name_among whole.started n || is_name_among above.forked n) (same refl) ∙ new in
-      let now : is_name_among (with_new_name above.forked name) (named ts t) ≡ true = ap (is_name_among (with_new_name above.forked name)) (same refl) ∙ recorded above.forked name (is_name_among above.forked name) refl in
-      let none = ap (λ b. room (is_name_among whole.started (named ts t) || b)) now ∙ room_none (is_name_among whole.started (named ts t)) in
+      let unstarted : (is_name_among whole.started (named ts.threads t) || is_name_among above.forked (named ts.threads t)) ≡ false = ap (λ (n : Name). is_name_among whole.started n || is_name_among above.forked n) (same refl) ∙ new in
+      let now : is_name_among (with_new_name above.forked name) (named ts.threads t) ≡ true = ap (is_name_among (with_new_name above.forked name)) (same refl) ∙ recorded above.forked name (is_name_among above.forked name) refl in
+      let none = ap (λ b. room (is_name_among whole.started (named ts.threads t) || b)) now ∙ room_none (is_name_among whole.started (named ts.threads t)) in
       let one = ap room unstarted in
       omega (arith, ih, none, one)
 
-  forks_once : (above : Names) (lines : List ScriptLine) → NoFault whole above lines → starts t (all_said ts lines) ≤ room (is_name_among whole.started (named ts t) || is_name_among above.forked (named ts t))
+  forks_once : (above : Names) (lines : List ScriptLine) → NoFault whole above lines → starts t (all_said ts lines) ≤ room (is_name_among whole.started (named ts.threads t) || is_name_among above.forked (named ts.threads t))
   forks_once above _ (AtEnd _) = omega arith
   forks_once above _ (After _ n (says.Fork name) lines ok rest) =
       let there : is_name_among whole.threads name ≡ true = known_by whole.is_cut (is_name_among whole.threads name) uncut ok.known in
-      let among : is_name_among ts name ≡ true = ap (λ names. is_name_among names name) (sym threads_are) ∙ there in
+      let among : is_name_among ts.threads name ≡ true = ap (λ names. is_name_among names name) (sym threads_are) ∙ there in
       let ih = forks_once (with_says above (Some (says.Fork name))) lines rest in
-      let first = sum_by-cons (λ x. cond (is_start_of t x) 1 0) (Fork (name_number ts name)) (all_said ts lines) in
-      let few_more = fork_by above name (all_said ts lines) (name_number ts name == t) (its_name name among) ok.new ih in
+      let first = sum_by-cons (λ x. cond (is_start_of t x) 1 0) (Fork (name_number ts.threads name)) (all_said ts lines) in
+      let few_more = fork_by above name (all_said ts lines) (name_number ts.threads name == t) (its_name name among) ok.new ih in
       omega (arith, first, few_more)
   forks_once above _ (After _ n (says.Put place bytes) lines ok rest) =
       let ih = forks_once (with_says above (Some (says.Put place bytes))) lines rest in
@@ -163,7 +164,7 @@ name_last names name true new = absurd (cc)
 name_last names name false new = let place : length names + 0 ≡ length names = omega arith in ap (slice_get (names ++ name ∷ [])) place ∙ get_last names name
 
 -- a row that has its thread start in a process is such a thread's
-rows_started : (whole : WholeScript) (ps ts : List Name) (above : Names) (lines : List ScriptLine) → NoFault whole above lines → (started : List Name) (k : ℕ) (row : ThreadRow) → slice_get (threads_in ps ts lines) k ≡ Some row → is_some row.process ≡ true →
+rows_started : (whole : WholeScript) (ps : List Name) (ts : BodyNames) (above : Names) (lines : List ScriptLine) → NoFault whole above lines → (started : List Name) (k : ℕ) (row : ThreadRow) → slice_get (threads_in ps ts lines) k ≡ Some row → is_some row.process ≡ true →
     IsStartedAt (threads_after above.threads lines) (started_after started lines) (length above.threads + k)
 rows_started whole ps ts above _ (AtEnd _) started k row is starts_it = absurd (cc)
 rows_started whole ps ts above _ (After _ n (says.Thread name None) lines ok rest) started zero row is starts_it =
@@ -189,33 +190,33 @@ total f [] = refl
 total f (row ∷ rows) = sum_by-cons (λ (r : ThreadRow). sum_by f r.body) row rows ∙ ap (λ n. sum_by f row.body + n) (total f rows) ∙ sym (sum_by-append f row.body (all_bodies rows))
 
 module _ (whole : WholeScript) (ps : List Name) (lines : List ScriptLine) (uncut : whole.is_cut ≡ false) (threads_are : whole.threads ≡ threads_after [] lines) (started_are : whole.started ≡ started_after [] lines) (few : length (threads_after [] lines) ≤ MOST_THREADS) (ok : NoFault whole no_names lines) where
-  abbrev ts : List Name
-  ts = threads_after [] lines
+  abbrev ts : BodyNames
+  ts = body_names lines
 
   abbrev rows : List ThreadRow
   rows = threads_in ps ts lines
 
-  row_started : (t : ℕ) (row : ThreadRow) → item_at_number rows t ≡ Some row → is_some row.process ≡ true → is_name_among whole.started (named ts t) ≡ true
+  row_started : (t : ℕ) (row : ThreadRow) → item_at_number rows t ≡ Some row → is_some row.process ≡ true → is_name_among whole.started (named ts.threads t) ≡ true
   row_started zero row is starts_it = absurd (cc)
   row_started (suc k) row is starts_it =
-      let found : IsStartedAt ts (started_after [] lines) (0 + k) = rows_started whole ps ts no_names lines ok [] k row is starts_it in
+      let found : IsStartedAt ts.threads (started_after [] lines) (0 + k) = rows_started whole ps ts no_names lines ok [] k row is starts_it in
       let place : k ≡ 0 + k = omega arith in
-      let at : slice_get ts k ≡ Some found.name = ap (slice_get ts) place ∙ found.at in
-      let same : named ts (suc k) ≡ found.name = ap (λ o. unwrap_or o []) at in
-      ap (λ names. is_name_among names (named ts (suc k))) started_are ∙ ap (is_name_among (started_after [] lines)) same ∙ found.is_recorded
+      let at : slice_get ts.threads k ≡ Some found.name = ap (slice_get ts.threads) place ∙ found.at in
+      let same : named ts.threads (suc k) ≡ found.name = ap (λ o. unwrap_or o []) at in
+      ap (λ names. is_name_among names (named ts.threads (suc k))) started_are ∙ ap (is_name_among (started_after [] lines)) same ∙ found.is_recorded
 
-  forked : (t : ℕ) → starts t (all_said ts lines) ≤ room (is_name_among whole.started (named ts t) || false)
+  forked : (t : ℕ) → starts t (all_said ts lines) ≤ room (is_name_among whole.started (named ts.threads t) || false)
   forked t = forks_once whole ts uncut threads_are few t no_names lines ok
 
   by_process : (t : ℕ) (row : ThreadRow) → item_at_number rows t ≡ Some row → (b : Bool) → is_some row.process ≡ b → (if b then 1 else 0) + starts t (all_said ts lines) ≤ 1
-  by_process t row is false waits = let most = forked t in let one = room_most (is_name_among whole.started (named ts t) || false) in omega (arith, most, one)
+  by_process t row is false waits = let most = forked t in let one = room_most (is_name_among whole.started (named ts.threads t) || false) in omega (arith, most, one)
   by_process t row is true starts_it = let most = forked t in let none = ap (λ b. room (b || false)) (row_started t row is starts_it) in omega (arith, most, none)
 
   by_row : (t : ℕ) (o : Option ThreadRow) → item_at_number rows t ≡ o → starts_by_row o + starts t (all_said ts lines) ≤ 1
-  by_row t None is = let most = forked t in let one = room_most (is_name_among whole.started (named ts t) || false) in omega (arith, most, one)
+  by_row t None is = let most = forked t in let one = room_most (is_name_among whole.started (named ts.threads t) || false) in omega (arith, most, one)
   by_row t (Some row) is = by_process t row is (is_some row.process) refl
 
-  pub starts_once : ArePlaced false lines → (t : ℕ) → starts_by_row (item_at_number rows t) + sum_by (λ row. count_by (is_start_of t) row.body) rows ≤ 1
+  pub starts_once : ArePlaced NoBody lines → (t : ℕ) → starts_by_row (item_at_number rows t) + sum_by (λ row. count_by (is_start_of t) row.body) rows ≤ 1
   starts_once placed t =
       let all = total (λ x. cond (is_start_of t x) 1 0) rows ∙ ap (starts t) (bodies_are_said ps ts lines placed) in
       let once = by_row t (item_at_number rows t) refl in

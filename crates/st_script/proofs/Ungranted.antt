@@ -34,7 +34,7 @@ filter_ungranted env row f filter is = ungranted env f.name f.action filter.tail
 
 -- ---- policies
 
-abbrev IsUngrantedPolicy : BinaryPolicy → Type 0
+abbrev pub IsUngrantedPolicy : BinaryPolicy → Type 0
 IsUngrantedPolicy policy = All IsUngrantedForSetting policy.filters
 
 rows_ungranted : (env : Env) {ts : List Symbol} {ps : List BinaryPolicy} → AreRows env ts ps → AllByRecursion IsUngrantedPolicy ps

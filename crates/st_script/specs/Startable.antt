@@ -1,19 +1,22 @@
 -- What holds of each script that is read, so that a run can start with it.
-use Rattle.std.specs.Prelude.{◌≤◌, List}
+use Rattle.std.specs.Prelude.{◌≡◌, ◌≤◌, true, List}
 use Rattle.st_filter.specs.declared.set.BinaryPolicy.{BinaryPolicy}
 use Rattle.st_law.specs.Inputs.{CanStart, IsStartable}
 use Rattle.st_law.specs.declared.input.Input.{Input}
+use Rattle.st_law.specs.declared.input.Mode.TheVariants.{Learn}
 use Rattle.st_law.specs.declared.input.Options.{Options}
 use Rattle.st_reached.specs.Scripts.{IsBounded}
 use Rattle.st_script.specs.declared.reading.ReadScript.{ReadScript}
 
--- the input of a run: a script, with these policies and options
+-- the input of a run: a script, with these policies beside its own, and options
 abbrev pub input_with : List BinaryPolicy → Options → ReadScript → Input
-input_with policies options script = record { policies = policies; start = script.start; replies = script.replies; options = options }
+input_with policies options script =
+    record { policies = record { read = policies; blocks = script.blocks }; start = script.start; replies = script.replies; options = options }
 
--- a run can start with a script under any policies and with one to eight workers, if neither these policies nor its replies grant ids for
--- setting ids: it is startable, its system can be built, and it isn't too long
+-- a run can start with a script under any policies and with one to eight workers, if neither these policies nor its own nor its replies grant
+-- ids for setting ids, and if it was read to be learnt from where the run learns: it is startable, its system can be built, and it isn't too
+-- long
 pub record IsRunnableScript (script : ReadScript) : Type 0 where
-  pub startable : (policies : List BinaryPolicy) (options : Options) → 1 ≤ options.workers → options.workers ≤ 8 → IsStartable (input_with policies options script)
+  pub startable : (policies : List BinaryPolicy) (options : Options) → (options.mode ≡ Learn → script.env.learn ≡ true) → 1 ≤ options.workers → options.workers ≤ 8 → IsStartable (input_with policies options script)
   pub system : (policies : List BinaryPolicy) (options : Options) → CanStart (input_with policies options script)
   pub bounded : IsBounded script.start

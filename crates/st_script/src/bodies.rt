@@ -1,7 +1,6 @@
 ghost use Rattle.std.specs.Prelude.{◌≡◌, ◌^◌, ◌<◌, ◌++◌, [], slice_index, option_map, option_copied, IfOk, OnOk};
 ghost use Rattle.st_model.specs.Memory.{word_of};
-ghost use Rattle.st_script_faults.specs.Faults.{threads_after};
-ghost use Rattle.st_script.specs.Reading.{stores, instructions_said, body_in, thread_said, thread_with, with_process_name, processes_after, threads_in};
+ghost use Rattle.st_script.specs.Reading.{stores, instructions_said, body_in, thread_said, thread_with, with_process_name, processes_after, with_policy_name, policy_names_after, body_names, threads_in};
 
 use st_base::{Sequence, Text};
 use st_script_faults::faults::{ends_body, threads_of};
@@ -10,6 +9,22 @@ use st_statements::lines::saturated;
 use st_statements::{ScriptLine, Statement};
 use st_trace::{Instr, ThreadRow};
 use std::alloc::{AllocError, Global};
+use std::marker::Model;
+
+// The names that instructions have the numbers of.
+#[derive(Drop)]
+struct BodyNames<'a> {
+    threads: NameIndex<'a>,
+    policies: NameIndex<'a>,
+}
+
+impl<'a> Model for BodyNames<'a> {
+    ghost use Rattle.st_script.specs.Reading as reading;
+
+    ghost Value = { reading.BodyNames };
+
+    ghost view = { λ n. record { threads = n.threads; policies = n.policies } };
+}
 
 fn byte_at(bytes: &[u8], at: usize) -> u8
     ensures { result ≡ slice_index bytes.now at }
@@ -49,16 +64,21 @@ fn push_stores(body: &mut Sequence<Instr>, first: u32, bytes: &[u8]) -> Result<(
 // Adds the instructions of a line.
 fn push_said(
     body: &mut Sequence<Instr>,
-    threads: &NameIndex,
+    names: &BodyNames,
     says: &Option<Statement>,
 ) -> Result<(), AllocError>
-    ensures { OnOk result (body.new ≡ body.old ++ instructions_said threads.now says.now) }
+    ensures { OnOk result (body.new ≡ body.old ++ instructions_said names.now says.now) }
 {
     match says {
         Some(Statement::Store(place, word)) => body.push(Instr::Store(*place, *word)),
         Some(Statement::Put(first, bytes)) => push_stores(body, *first, bytes.bytes()),
         Some(Statement::Call(call, regs)) => body.push(Instr::Call(*call, *regs)),
-        Some(Statement::Fork(name)) => body.push(Instr::Fork(threads.number_of(name.bytes()))),
+        Some(Statement::Fork(name)) => {
+            body.push(Instr::Fork(names.threads.number_of(name.bytes())))
+        }
+        Some(Statement::Reload(name)) => {
+            body.push(Instr::Reload(names.policies.number_of(name.bytes())))
+        }
         _ => Ok(()),
     }
 }
@@ -86,17 +106,17 @@ fn body_count(lines: &[ScriptLine]) -> usize {
 // The body of a thread: the instructions of the lines below it up to the next `end`.
 fn body_in(
     alloc: Global,
-    threads: &NameIndex,
+    names: &BodyNames,
     lines: &[ScriptLine],
 ) -> Result<Sequence<Instr>, AllocError>
-    ensures { IfOk result (λ body. body ≡ body_in threads.now lines.now) }
+    ensures { IfOk result (λ body. body ≡ body_in names.now lines.now) }
 {
     let mut body = Sequence::with_capacity(alloc, body_count(lines))?;
     for line in lines {
         if ends_body(line) {
             return Ok(body);
         }
-        push_said(&mut body, threads, &line.says)?;
+        push_said(&mut body, names, &line.says)?;
     }
     Ok(body)
 }
@@ -147,20 +167,50 @@ fn processes_of<'a>(alloc: Global, lines: &'a [ScriptLine]) -> Result<NameIndex<
     Ok(names)
 }
 
-// The threads of lines, given the script's processes and threads.
+fn add_policy<'a>(names: &mut NameIndex<'a>, says: &'a Option<Statement>) -> Result<(), AllocError>
+    ensures { OnOk result (names.new ≡ with_policy_name names.old says.now) }
+{
+    match says {
+        Some(Statement::Policy { name, .. }) => names.add(name.bytes()),
+        _ => Ok(()),
+    }
+}
+
+// The policies of lines, in order.
+fn policies_of<'a>(alloc: Global, lines: &'a [ScriptLine]) -> Result<NameIndex<'a>, AllocError>
+    ensures { IfOk result (λ names. names ≡ policy_names_after [] lines.now) }
+{
+    let mut names = NameIndex::new(alloc);
+    for line in lines {
+        add_policy(&mut names, &line.says)?;
+    }
+    Ok(names)
+}
+
+// The threads and the policies of lines.
+fn body_names<'a>(alloc: Global, lines: &'a [ScriptLine]) -> Result<BodyNames<'a>, AllocError>
+    ensures { IfOk result (λ names. names ≡ body_names lines.now) }
+{
+    Ok(BodyNames {
+        threads: threads_of(alloc, lines)?,
+        policies: policies_of(alloc, lines)?,
+    })
+}
+
+// The threads of lines, given the script's processes, and its threads and policies.
 fn threads_among(
     alloc: Global,
     processes: &NameIndex,
-    threads: &NameIndex,
+    names: &BodyNames,
     lines: &[ScriptLine],
 ) -> Result<Sequence<ThreadRow>, AllocError>
-    ensures { IfOk result (λ rows. rows ≡ threads_in processes.now threads.now lines.now) }
+    ensures { IfOk result (λ rows. rows ≡ threads_in processes.now names.now lines.now) }
 {
     let mut rows = Sequence::new(alloc);
     let mut rest = lines;
     while let Some((line, below)) = rest.split_first() {
         if let Some(process) = thread_said(&line.says) {
-            let body = body_in(alloc, threads, below)?;
+            let body = body_in(alloc, names, below)?;
             rows.push(thread_with(processes, process, body))?;
         }
         rest = below;
@@ -170,9 +220,9 @@ fn threads_among(
 
 /// The threads of a script's lines, each with its body.
 pub fn threads_in(alloc: Global, lines: &[ScriptLine]) -> Result<Sequence<ThreadRow>, AllocError>
-    ensures { IfOk result (λ rows. rows ≡ threads_in (processes_after [] lines.now) (threads_after [] lines.now) lines.now) }
+    ensures { IfOk result (λ rows. rows ≡ threads_in (processes_after [] lines.now) (body_names lines.now) lines.now) }
 {
     let processes = processes_of(alloc, lines)?;
-    let threads = threads_of(alloc, lines)?;
-    threads_among(alloc, &processes, &threads, lines)
+    let names = body_names(alloc, lines)?;
+    threads_among(alloc, &processes, &names, lines)
 }

@@ -1,4 +1,5 @@
-//! Reads whole scripts as the start of a run, the environment that policies are read with, and the operator's replies.
+//! Reads whole scripts as the start of a run, the environment that policies are read with, the operator's replies, and the
+//! policies that reloads put in force.
 #![tactic(auto)]
 
 pub mod bodies;

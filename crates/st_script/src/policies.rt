@@ -22,3 +22,10 @@ pub fn what_is_replied_grants_no_ids_for_setting()
 {
     what_is_read_is_a_filter();
 }
+
+/// Policies of a script that is read grant no ids to a call that sets ids.
+pub fn what_is_reloaded_grants_no_ids_for_setting()
+    ensures { (text : List ℕ) (options : Options) (script : ReadScript) → script_in text options ≡ Ok script → SetIdsUngranted script.blocks }
+{
+    what_is_read_is_a_filter();
+}

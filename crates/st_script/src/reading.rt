@@ -1,24 +1,26 @@
-ghost use Rattle.std.specs.Prelude.{◌≡◌, ◌≢◌, ◌^◌, ◌<◌, ℕ, List, [], None, Some, Ok, Err, length, IfOk, IfErr, OnOk};
+ghost use Rattle.std.specs.Prelude.{◌≡◌, ◌≢◌, ◌^◌, ◌<◌, ◌≤◌, ℕ, List, [], None, Some, Ok, Err, length, IfOk, IfErr, OnOk};
+ghost use Rattle.st_filter.specs.Policies.{filters_in};
+ghost use Rattle.st_filter.specs.declared.set.TheConstants.{MOST_FILTERS};
 ghost use Rattle.st_law.specs.declared.input.Options.{Options};
 ghost use Rattle.st_reached.specs.Scripts.{IsBounded};
 ghost use Rattle.st_script.specs.Bounds.{IsWithinBounds};
 ghost use Rattle.st_script.specs.Startable.{IsRunnableScript};
 ghost use Rattle.st_script.specs.declared.reading.ReadScript.{ReadScript};
 ghost use Rattle.st_script_faults.specs.Environment.{environment_of};
-ghost use Rattle.st_script_faults.specs.Faults.{first_fault, first_of, replies_after, script_fault, script_lexical_fault};
+ghost use Rattle.st_script_faults.specs.Faults.{filters_after, first_fault, first_of, no_filters, script_fault, script_lexical_fault};
 ghost use Rattle.st_script_faults.specs.Names.{no_names};
 ghost use Rattle.st_script.specs.Reading.{object_name, started_process, with_row, with_rows, only_threads, start_of, script_with, read_lines, script_in};
 
 use crate::bodies::threads_in;
 use st_base::{Sequence, Text};
-use st_filter::Reply;
+use st_filter::{BinaryPolicy, Reply};
 use st_grammar::Env;
 use st_law::Options;
 use st_lex::{LexFault, tokens};
 use st_model::NewNode;
 use st_names::AbsName;
-use st_script_faults::ScriptFault;
 use st_script_faults::faults::{Whole, first_fault, whole_of};
+use st_script_faults::{ScriptFault, ScriptFilters};
 use st_statements::lines::looked_at;
 use st_statements::{ScriptLine, ScriptProcess, Statement, lines_of_tokens};
 use st_trace::{ProcessRow, Start, ThreadRow, TreeRow};
@@ -33,6 +35,8 @@ pub struct ReadScript {
     pub env: Env,
     /// The operator's replies, in order.
     pub replies: Sequence<Reply>,
+    /// The policies that reloads put in force, counted from 1.
+    pub blocks: Sequence<BinaryPolicy>,
 }
 
 // The name that a path spells, or the root's if the path is empty.
@@ -124,61 +128,64 @@ fn start_of(alloc: Global, lines: Vec<ScriptLine>) -> Result<Start, AllocError>
     Ok(start)
 }
 
-// What lines without a fault are read as, with their replies.
-#[tactic(auto, using(crate::proofs::RepliesSaid::replies_are))]
+// What lines without a fault are read as, with their replies and their policies.
+#[tactic(auto, using(crate::proofs::FiltersRead::replies_are, crate::proofs::FiltersRead::blocks_are))]
 fn script_with(
     alloc: Global,
     env: Env,
     lines: Vec<ScriptLine>,
-    replies: Sequence<Reply>,
+    filters: ScriptFilters,
 ) -> Result<ReadScript, AllocError>
-    requires { replies ≡ replies_after env [] lines.items }
+    requires { filters ≡ filters_after env no_filters lines.items }
     ensures { IfOk result (λ script. script ≡ script_with env lines.items) }
 {
+    let start = start_of(alloc, lines)?;
+    let (replies, blocks) = filters.into_parts();
     Ok(ReadScript {
-        start: start_of(alloc, lines)?,
+        start,
         env,
         replies,
+        blocks,
     })
 }
 
-// The replies of lines, unless one of them has a fault or this lexical fault follows them.
-fn faultless_replies(
+// The replies and the policies of lines, unless one of them has a fault or this lexical fault follows them.
+fn faultless_filters(
     alloc: Global,
     whole: &Whole,
     broken: Option<LexFault>,
     lines: &[ScriptLine],
-) -> Result<Sequence<Reply>, ScriptFault>
-    ensures faultless { IfOk result (λ replies. first_of (first_fault whole.now no_names lines.now) (script_lexical_fault broken) ≡ None) }
-    ensures replies { IfOk result (λ replies. replies ≡ replies_after whole.now.env [] lines.now) }
+) -> Result<ScriptFilters, ScriptFault>
+    ensures faultless { IfOk result (λ filters. first_of (first_fault whole.now no_names lines.now) (script_lexical_fault broken) ≡ None) }
+    ensures filters { IfOk result (λ filters. filters ≡ filters_after whole.now.env no_filters lines.now) }
     ensures fault { IfErr result (λ f. f ≢ ScriptFault.NoMemory → first_of (first_fault whole.now no_names lines.now) (script_lexical_fault broken) ≡ Some f) }
 {
-    let mut replies = Sequence::new(alloc);
-    match first_fault(alloc, whole, lines, &mut replies)? {
+    let mut filters = ScriptFilters::new(alloc);
+    match first_fault(alloc, whole, lines, &mut filters)? {
         Some(fault) => Err(fault),
         None => match broken {
             Some(fault) => Err(ScriptFault::Lex(fault)),
-            None => Ok(replies),
+            None => Ok(filters),
         },
     }
 }
 
-// The environment and the replies of lines, unless one of them has a fault or this lexical fault follows them.
-fn env_and_replies(
+// The environment, the replies and the policies of lines, unless one of them has a fault or this lexical fault follows them.
+fn env_and_filters(
     alloc: Global,
     options: &Options,
     broken: Option<LexFault>,
     lines: &[ScriptLine],
-) -> Result<(Env, Sequence<Reply>), ScriptFault>
+) -> Result<(Env, ScriptFilters), ScriptFault>
     ensures faultless { IfOk result (λ both. script_fault options.now broken lines.now ≡ None) }
     ensures env { IfOk result (λ both. both.0 ≡ environment_of options.now lines.now) }
-    ensures replies { IfOk result (λ both. both.1 ≡ replies_after both.0 [] lines.now) }
+    ensures filters { IfOk result (λ both. both.1 ≡ filters_after both.0 no_filters lines.now) }
     ensures fault { IfErr result (λ f. f ≢ ScriptFault.NoMemory → script_fault options.now broken lines.now ≡ Some f) }
 {
     let whole = whole_of(alloc, broken.is_some(), options, lines)?;
-    let replies = faultless_replies(alloc, &whole, broken, lines);
+    let filters = faultless_filters(alloc, &whole, broken, lines);
     let env = whole.into_env();
-    Ok((env, replies?))
+    Ok((env, filters?))
 }
 
 // What lines are read as, if this lexical fault, or none, follows them.
@@ -191,17 +198,20 @@ fn read_lines(
     ensures ok { IfOk result (λ script. read_lines options.now broken lines.items ≡ Ok script) }
     ensures fault { IfErr result (λ f. f ≢ ScriptFault.NoMemory → read_lines options.now broken lines.items ≡ Err f) }
 {
-    let (env, replies) = env_and_replies(alloc, options, broken, lines.as_slice())?;
-    Ok(script_with(alloc, env, lines, replies)?)
+    let (env, filters) = env_and_filters(alloc, options, broken, lines.as_slice())?;
+    Ok(script_with(alloc, env, lines, filters)?)
 }
 
-/// Reads a script: the start of its run, the environment that policies are read with, and the operator's replies. Otherwise the fault is
-/// that of the first line that has one. If the line has several, it is the first kind of them, and a lexical fault before all others.
+/// Reads a script: the start of its run, the environment that policies are read with, the operator's replies, and the policies that reloads
+/// put in force. Otherwise the fault is that of the first line that has one. If the line has several, it is the first kind of them, and a
+/// lexical fault before all others.
 pub fn read_script(alloc: Global, text: &[u8], options: &Options) -> Result<ReadScript, ScriptFault>
     requires { length text.now < 2 ^ 32 }
     ensures ok { IfOk result (λ script. script_in text.now options.now ≡ Ok script) }
     ensures fault { IfErr result (λ f. f ≢ ScriptFault.NoMemory → script_in text.now options.now ≡ Err f) }
     ensures bounds { IfOk result IsWithinBounds }
+    ensures few_filters { IfOk result (λ script. filters_in script.blocks ≤ MOST_FILTERS) }
+    ensures few_policies { IfOk result (λ script. length script.blocks < 2 ^ 31) }
     ensures can_start { IfOk result IsRunnableScript }
     ensures bounded { IfOk result (λ script. IsBounded script.start) }
 {

@@ -81,9 +81,11 @@ pub fn too_much(alloc: Global, refused: &RefusedRow<'_>) -> Result<Option<Misfit
         Some(Statement::Process(process)) => of_process(alloc, refused, process)?,
         Some(Statement::Thread { .. }) => Misfit::at(alloc, 0, "at most 64 threads")?,
         Some(Statement::Put(_, bytes)) => of_put(alloc, bytes.bytes())?,
-        Some(Statement::Store(_, _) | Statement::Call(_, _) | Statement::Fork(_)) => {
+        Some(Statement::Filter(_)) => Misfit::at(alloc, 0, "at most 4096 filters in all")?,
+        Some(Statement::Store(_, _) | Statement::Call(_, _)) => {
             Misfit::at(alloc, 0, INSTRUCTIONS)?
         }
+        Some(Statement::Fork(_) | Statement::Reload(_)) => Misfit::at(alloc, 0, INSTRUCTIONS)?,
         _ => return Ok(None),
     };
     Ok(Some(misfit))

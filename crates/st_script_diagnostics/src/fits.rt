@@ -83,6 +83,7 @@ fn fits(
     match slot {
         Slot::UserName | Slot::GroupName | Slot::ProcessName => Ok(token.kind.is_word()),
         Slot::ThreadName | Slot::Process | Slot::Thread => Ok(token.kind.is_word()),
+        Slot::PolicyName | Slot::Policy => Ok(token.kind.is_word()),
         Slot::UserId | Slot::GroupId => Ok(id_at(text, token).is_some()),
         Slot::Mode => Ok(mode_at(text, token).is_some()),
         Slot::Traced => {
@@ -93,7 +94,7 @@ fn fits(
         Slot::Place | Slot::Word | Slot::At | Slot::Register => {
             Ok(is_fitting_number(text, token, slot))
         }
-        Slot::Path | Slot::Binary | Slot::Directory | Slot::ReplyBinary => {
+        Slot::Path | Slot::Binary | Slot::Directory | Slot::ReplacedBinary => {
             is_fitting_text(alloc, text, row, token, slot)
         }
         Slot::Home | Slot::Content | Slot::Target | Slot::Text => {

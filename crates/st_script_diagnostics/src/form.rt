@@ -7,10 +7,13 @@ pub enum Slot {
     GroupName,
     ProcessName,
     ThreadName,
+    PolicyName,
     /// The process in which a thread starts.
     Process,
     /// The thread that a fork starts.
     Thread,
+    /// The policy that is reloaded.
+    Policy,
     UserId,
     GroupId,
     Mode,
@@ -20,7 +23,7 @@ pub enum Slot {
     Binary,
     Directory,
     /// A binary in which names are replaced, so that it is read with the whole script.
-    ReplyBinary,
+    ReplacedBinary,
     Home,
     Content,
     Target,
@@ -62,7 +65,9 @@ const PROCESS: [Slot; 6] = [
 const THREAD: [Slot; 3] = [Slot::ThreadName, Slot::In, Slot::Process];
 
 // The rest of a reply is in the language of policies.
-const REPLY: [Slot; 1] = [Slot::ReplyBinary];
+const REPLY: [Slot; 1] = [Slot::ReplacedBinary];
+
+const POLICY: [Slot; 2] = [Slot::PolicyName, Slot::ReplacedBinary];
 
 const STORE: [Slot; 2] = [Slot::Place, Slot::Word];
 
@@ -80,6 +85,8 @@ const CALL: [Slot; 7] = [
 
 const FORK: [Slot; 1] = [Slot::Thread];
 
+const RELOAD: [Slot; 1] = [Slot::Policy];
+
 /// What a row has after its first word, in order.
 pub fn form_of(row: Row) -> &'static [Slot] {
     match row {
@@ -91,10 +98,12 @@ pub fn form_of(row: Row) -> &'static [Slot] {
         Row::Process => &PROCESS,
         Row::Thread => &THREAD,
         Row::Reply => &REPLY,
+        Row::Policy => &POLICY,
         Row::Store => &STORE,
         Row::Put => &PUT,
         Row::Call => &CALL,
         Row::Fork => &FORK,
+        Row::Reload => &RELOAD,
         Row::End | Row::Unknown => &[],
     }
 }

@@ -14,6 +14,7 @@ pub enum Kind {
     Object,
     Process,
     Thread,
+    Policy,
 }
 
 /// The name that a line gives to something of a kind: of an object its path.
@@ -27,6 +28,7 @@ pub fn given_by(line: &ScriptLine, kind: Kind) -> Option<&[u8]> {
         (Kind::Object, Statement::Object { path, .. }) => Some(path.bytes()),
         (Kind::Process, Statement::Process(process)) => Some(process.name.bytes()),
         (Kind::Thread, Statement::Thread { name, .. }) => Some(name.bytes()),
+        (Kind::Policy, Statement::Policy { name, .. }) => Some(name.bytes()),
         _ => None,
     }
 }
@@ -85,4 +87,9 @@ pub fn append_processes(line: &mut Text, lines: &[ScriptLine]) -> Result<(), All
 /// Appends which threads the lines have.
 pub fn append_threads(line: &mut Text, lines: &[ScriptLine]) -> Result<(), AllocError> {
     append_given(line, lines, Kind::Thread, "; no thread is known")
+}
+
+/// Appends which policies the lines have.
+pub fn append_policies(line: &mut Text, lines: &[ScriptLine]) -> Result<(), AllocError> {
+    append_given(line, lines, Kind::Policy, "; no policy is known")
 }

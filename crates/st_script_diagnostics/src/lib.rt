@@ -9,7 +9,7 @@ mod given;
 mod misfit;
 mod naming;
 mod refused_row;
-mod reply;
+mod replaced;
 pub mod script_fault;
 mod slot;
 

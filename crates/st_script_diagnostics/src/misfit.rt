@@ -1,4 +1,4 @@
-//! What is wrong with a row that isn't in the grammar, or with a thread that doesn't end.
+//! What is wrong with a row that isn't in the grammar, or with a thread or a policy that doesn't end.
 
 use crate::fits::fitting;
 use crate::form::form_of;
@@ -11,26 +11,38 @@ use st_policy_diagnostics::shown::append_shown;
 use st_statements::{ScriptLine, Statement};
 use std::alloc::{AllocError, Global};
 
-/// How rows outside threads begin.
-pub const OUTSIDE: &str = "'user', 'group', 'dir', 'file', 'link', 'process', 'thread' or 'reply'";
+/// How rows outside bodies begin.
+pub const OUTSIDE: &str =
+    "'user', 'group', 'dir', 'file', 'link', 'process', 'thread', 'reply' or 'policy'";
 
-const INSIDE: &str = "'store', 'put', 'call', 'fork' or 'end'";
+const INSIDE: &str = "'store', 'put', 'call', 'fork', 'reload' or 'end'";
 
-// The line of the thread whose body goes on below these lines.
-fn open_thread(above: &[ScriptLine]) -> Option<u32> {
-    let mut open = None;
+// The body that goes on below some lines, and the line at which it was opened.
+#[derive(Clone, Copy)]
+enum OpenAt {
+    Nothing,
+    Thread(u32),
+    Policy(u32),
+}
+
+// The body that goes on below these lines.
+fn open_below(above: &[ScriptLine]) -> OpenAt {
+    let mut open = OpenAt::Nothing;
     for line in above {
         match &line.says {
-            Some(Statement::Thread { .. }) => open = Some(line.number),
-            Some(Statement::End) => open = None,
+            Some(Statement::Thread { .. }) => open = OpenAt::Thread(line.number),
+            Some(Statement::Policy { .. }) => open = OpenAt::Policy(line.number),
+            Some(Statement::End) => open = OpenAt::Nothing,
             _ => {}
         }
     }
     open
 }
 
-fn append_open_thread(line: &mut Text, number: u32) -> Result<(), AllocError> {
-    line.append(b"; the thread at line ")?;
+fn append_open(line: &mut Text, what: &str, number: u32) -> Result<(), AllocError> {
+    line.append(b"; the ")?;
+    line.append(what.as_bytes())?;
+    line.append(b" at line ")?;
     line.append_number(u64::from(number))?;
     line.append(b" is open")
 }
@@ -44,7 +56,7 @@ fn row_of(text: &[u8], first: &Token) -> Row {
     }
 }
 
-// Appends which rows there are outside threads.
+// Appends which rows there are outside bodies.
 fn append_outside(line: &mut Text, text: &[u8], first: &Token) -> Result<(), AllocError> {
     line.append(OUTSIDE.as_bytes())?;
     if !row_of(text, first).is_instruction() {
@@ -55,21 +67,17 @@ fn append_outside(line: &mut Text, text: &[u8], first: &Token) -> Result<(), All
     line.append(b" is for the body of a thread")
 }
 
-// The first token begins no row that may stand there.
-fn other_row(
-    alloc: Global,
-    text: &[u8],
-    first: &Token,
-    open: Option<u32>,
-) -> Result<Misfit, AllocError> {
+// The first token begins no row that may stand in the body of the thread that is open at this line.
+fn no_instruction(alloc: Global, number: u32) -> Result<Misfit, AllocError> {
+    let mut misfit = Misfit::at(alloc, 0, INSIDE)?;
+    append_open(&mut misfit.expected, "thread", number)?;
+    Ok(misfit)
+}
+
+// The first token begins no row that may stand outside bodies.
+fn no_outer_row(alloc: Global, text: &[u8], first: &Token) -> Result<Misfit, AllocError> {
     let mut expected = Text::new(alloc);
-    match open {
-        Some(number) => {
-            expected.append(INSIDE.as_bytes())?;
-            append_open_thread(&mut expected, number)?;
-        }
-        None => append_outside(&mut expected, text, first)?,
-    }
+    append_outside(&mut expected, text, first)?;
     Ok(Misfit { index: 0, expected })
 }
 
@@ -108,29 +116,38 @@ fn not_in_grammar(alloc: Global, refused: &RefusedRow<'_>) -> Result<Option<Misf
         return Ok(None);
     };
     let kind = row_of(refused.text, first);
-    let open = open_thread(refused.above);
-    let misfit = if kind == Row::Unknown || kind.is_instruction() != open.is_some() {
-        other_row(alloc, refused.text, first, open)?
-    } else {
-        other_token(alloc, refused, kind, row)?
+    let misfit = match open_below(refused.above) {
+        OpenAt::Nothing if kind == Row::Unknown || kind.is_instruction() => {
+            no_outer_row(alloc, refused.text, first)?
+        }
+        OpenAt::Thread(number) if !kind.is_instruction() => no_instruction(alloc, number)?,
+        // Whatever begins no `end` is a filter of the policy.
+        OpenAt::Policy(_) => other_token(alloc, refused, Row::End, row)?,
+        _ => other_token(alloc, refused, kind, row)?,
     };
     Ok(Some(misfit))
 }
 
-fn missing_end(alloc: Global, refused: &RefusedRow<'_>) -> Result<Option<Misfit>, AllocError> {
+fn missing_end(
+    alloc: Global,
+    refused: &RefusedRow<'_>,
+    what: &str,
+) -> Result<Option<Misfit>, AllocError> {
     let Some(first) = refused.tokens.first() else {
         return Ok(None);
     };
     let mut misfit = Misfit::at(alloc, END_OF_FILE, "'end'")?;
-    append_open_thread(&mut misfit.expected, first.line)?;
+    append_open(&mut misfit.expected, what, first.line)?;
     Ok(Some(misfit))
 }
 
-/// What is wrong with a row in whose place something else was expected, unless it is a reply.
+/// What is wrong with a row in whose place something else was expected, unless it is a reply or a filter, or a policy whose binary is at
+/// fault.
 pub fn unexpected(alloc: Global, refused: &RefusedRow<'_>) -> Result<Option<Misfit>, AllocError> {
     match refused.says {
         None => not_in_grammar(alloc, refused),
-        Some(Statement::Thread { .. }) => missing_end(alloc, refused),
+        Some(Statement::Thread { .. }) => missing_end(alloc, refused, "thread"),
+        Some(Statement::Policy { .. }) => missing_end(alloc, refused, "policy"),
         Some(_) => Ok(None),
     }
 }

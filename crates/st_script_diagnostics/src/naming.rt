@@ -1,6 +1,6 @@
 //! What is wrong with a row that names what isn't there, or what is there already.
 
-use crate::given::{Kind, append_processes, append_threads, line_giving};
+use crate::given::{Kind, append_policies, append_processes, append_threads, line_giving};
 use crate::refused_row::{Misfit, RefusedRow};
 use st_base::Text;
 use st_policy_diagnostics::shown::append_shown;
@@ -87,6 +87,20 @@ fn unknown_thread(alloc: Global, refused: &RefusedRow<'_>) -> Result<Misfit, All
     Ok(misfit)
 }
 
+fn unknown_policy(
+    alloc: Global,
+    refused: &RefusedRow<'_>,
+    policy: &[u8],
+) -> Result<Misfit, AllocError> {
+    let mut misfit = Misfit::at(alloc, 1, "the name of a policy of a row above")?;
+    let expected = &mut misfit.expected;
+    match line_giving(refused.lines, Kind::Policy, policy) {
+        Some(number) => append_at_fault(expected, policy, number, b" is below")?,
+        None => append_policies(expected, refused.above)?,
+    }
+    Ok(misfit)
+}
+
 /// What is wrong with a row that names what isn't there.
 pub fn unknown_name(alloc: Global, refused: &RefusedRow<'_>) -> Result<Option<Misfit>, AllocError> {
     let misfit = match refused.says {
@@ -98,6 +112,7 @@ pub fn unknown_name(alloc: Global, refused: &RefusedRow<'_>) -> Result<Option<Mi
             },
         ) => unknown_process(alloc, refused, process.bytes())?,
         Some(Statement::Fork(_)) => unknown_thread(alloc, refused)?,
+        Some(Statement::Reload(policy)) => unknown_policy(alloc, refused, policy.bytes())?,
         _ => return Ok(None),
     };
     Ok(Some(misfit))
@@ -110,6 +125,7 @@ fn new_name(kind: Kind) -> &'static str {
         Kind::Object => "a path that no object has yet",
         Kind::Process => "a name that no process has yet",
         Kind::Thread => "a name that no thread has yet",
+        Kind::Policy => "a name that no policy has yet",
     }
 }
 
@@ -182,6 +198,7 @@ pub fn duplicate_name(
         Some(Statement::Object { path, .. }) => (Kind::Object, path.bytes()),
         Some(Statement::Process(process)) => (Kind::Process, process.name.bytes()),
         Some(Statement::Thread { name, .. }) => (Kind::Thread, name.bytes()),
+        Some(Statement::Policy { name, .. }) => (Kind::Policy, name.bytes()),
         Some(Statement::Fork(name)) => {
             return Ok(Some(started_thread(alloc, refused, name.bytes())?));
         }

@@ -5,8 +5,9 @@ use crate::excess::too_much;
 use crate::misfit::{OUTSIDE, unexpected};
 use crate::naming::{duplicate_name, unknown_name};
 use crate::refused_row::{Misfit, RefusedRow};
-use crate::reply::reply_message;
+use crate::replaced::{policy_filter_message, reply_message, wrong_policy_binary};
 use st_base::Text;
+use st_grammar::Env;
 use st_law::Options;
 use st_lex::{LexFault, tokens};
 use st_policy_diagnostics::caret::append_line_with_caret;
@@ -44,7 +45,13 @@ fn lexical_message(
     Ok(line)
 }
 
-// What is wrong with a row that isn't a reply.
+// The row is a reload, and policies are learnt.
+fn reload_with_learn(alloc: Global) -> Result<Option<Misfit>, AllocError> {
+    let expected = "no 'reload' where policies are learnt";
+    Ok(Some(Misfit::at(alloc, 0, expected)?))
+}
+
+// What is wrong with a row whatever its values are read as.
 fn misfit_of(
     alloc: Global,
     row: &RefusedRow<'_>,
@@ -55,8 +62,51 @@ fn misfit_of(
         ScriptFault::UnknownName(_) => unknown_name(alloc, row),
         ScriptFault::Duplicate(_) => duplicate_name(alloc, row),
         ScriptFault::TooMany(_) => too_much(alloc, row),
+        ScriptFault::ReloadWithLearn(_) => reload_with_learn(alloc),
         ScriptFault::Lex(_) | ScriptFault::NoMemory => Ok(None),
     }
+}
+
+// The message about a row whose fault is that of one of its tokens.
+fn misfit_message(
+    alloc: Global,
+    name: &[u8],
+    row: &RefusedRow<'_>,
+    misfit: Option<Misfit>,
+) -> Result<Option<Text>, AllocError> {
+    match misfit {
+        Some(misfit) => Ok(Some(row.message(alloc, name, &misfit)?)),
+        None => Ok(None),
+    }
+}
+
+// The message about a row that is read with the script's environment, where its fault is in what is read so.
+fn replaced_message(
+    alloc: Global,
+    name: &[u8],
+    row: &RefusedRow<'_>,
+    env: &Env,
+    fault: ScriptFault,
+) -> Result<Option<Text>, AllocError> {
+    match (row.says, fault) {
+        (Some(Statement::Reply { .. }), _) => reply_message(alloc, name, row, env, fault),
+        (Some(Statement::Filter(_)), ScriptFault::Expected(_)) => {
+            policy_filter_message(alloc, name, row, env)
+        }
+        (Some(Statement::Policy { .. }), ScriptFault::Expected(_)) => {
+            let misfit = wrong_policy_binary(alloc, row, env)?;
+            misfit_message(alloc, name, row, misfit)
+        }
+        _ => Ok(None),
+    }
+}
+
+// Whether a row is read with the script's environment.
+fn is_replaced(says: Option<&Statement>) -> bool {
+    matches!(
+        says,
+        Some(Statement::Reply { .. } | Statement::Policy { .. } | Statement::Filter(_))
+    )
 }
 
 // The message about a row, where the token at fault is found.
@@ -67,14 +117,15 @@ fn message_of(
     options: &Options,
     fault: ScriptFault,
 ) -> Result<Option<Text>, AllocError> {
-    if let Some(Statement::Reply { .. }) = row.says {
+    if is_replaced(row.says) {
         let env = environment_of(alloc, options, row.lines)?;
-        return reply_message(alloc, name, row, &env, fault);
+        let message = replaced_message(alloc, name, row, &env, fault)?;
+        if message.is_some() {
+            return Ok(message);
+        }
     }
-    match misfit_of(alloc, row, fault)? {
-        Some(misfit) => Ok(Some(row.message(alloc, name, &misfit)?)),
-        None => Ok(None),
-    }
+    let misfit = misfit_of(alloc, row, fault)?;
+    misfit_message(alloc, name, row, misfit)
 }
 
 // The line of a fault of a row.
@@ -82,6 +133,7 @@ fn line_of(fault: ScriptFault) -> u32 {
     match fault {
         ScriptFault::Expected(number) | ScriptFault::UnknownName(number) => number,
         ScriptFault::Duplicate(number) | ScriptFault::TooMany(number) => number,
+        ScriptFault::ReloadWithLearn(number) => number,
         ScriptFault::Lex(_) | ScriptFault::NoMemory => 0,
     }
 }

@@ -3,7 +3,7 @@
 use crate::calls::append_expected_call;
 use crate::fits::room_for_text;
 use crate::form::Slot;
-use crate::given::{append_processes, append_threads};
+use crate::given::{append_policies, append_processes, append_threads};
 use crate::refused_row::RefusedRow;
 use st_base::Text;
 use st_lex::Token;
@@ -18,15 +18,17 @@ fn expected_at(slot: Slot) -> &'static str {
         Slot::GroupName => "the name of a group",
         Slot::ProcessName => "the name of a process",
         Slot::ThreadName => "the name of a thread",
+        Slot::PolicyName => "the name of a policy",
         Slot::Process => "the name of a process of a row above",
         Slot::Thread => "the name of a thread of the script",
+        Slot::Policy => "the name of a policy of a row above",
         Slot::UserId => "the id of a user, below 4294967296",
         Slot::GroupId => "the id of a group, below 4294967296",
         Slot::Mode => "a mode of one to four octal digits, at most 777",
         Slot::Traced => "'traced' or 'untraced'",
         Slot::In => "'in' or the end of the line",
         Slot::Path => "a quoted path that begins with '/'",
-        Slot::Binary | Slot::ReplyBinary => "a quoted binary that begins with '/'",
+        Slot::Binary | Slot::ReplacedBinary => "a quoted binary that begins with '/'",
         Slot::Directory => "a quoted directory that begins with '/'",
         Slot::Home => "a quoted text, the home of the user",
         Slot::Content => "a quoted text, the content of the file",
@@ -44,6 +46,7 @@ fn expected_at(slot: Slot) -> &'static str {
 fn is_bare(slot: Slot) -> bool {
     match slot {
         Slot::UserName | Slot::GroupName | Slot::ProcessName | Slot::ThreadName => true,
+        Slot::PolicyName | Slot::Policy => true,
         Slot::Process | Slot::Thread | Slot::UserId | Slot::GroupId | Slot::Mode => true,
         Slot::Place | Slot::Word | Slot::At => true,
         _ => false,
@@ -67,6 +70,7 @@ fn append_expected_word(
     match slot {
         Slot::Process => append_processes(line, row.above),
         Slot::Thread => append_threads(line, row.lines),
+        Slot::Policy => append_policies(line, row.above),
         _ => Ok(()),
     }
 }

@@ -1,3 +1,5 @@
+mod Examples
 mod FirstFaults
 mod Indexed
+mod LastPolicy
 mod RepliesRead

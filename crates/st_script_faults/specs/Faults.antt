@@ -1,22 +1,28 @@
 -- The faults of a script, by line.
-use Rattle.std.specs.Prelude.{◌≡◌, ℕ, ◌+◌, Bool, true, false, ◌||◌, ◌&&◌, not, if◌then◌else◌, nat_le, nat_lt, List, [], ◌∷◌, ◌++◌, length, Option, Some, None, is_some, IsSomeAnd, option_map, Ok, Err}
+use Rattle.std.specs.Prelude.{◌≡◌, ℕ, ◌+◌, Bool, true, false, ◌||◌, ◌&&◌, not, if◌then◌else◌, nat_le, nat_lt, List, [], ◌∷◌, ◌++◌, length, Option, Some, None, is_some, option_map, option_and_then, Ok, Err}
 use Rattle.std.specs.List.{list_any}
 use Rattle.st_filter.specs.Formula.{FilterValue}
 use Rattle.st_law.specs.declared.input.Options.{Options}
 use Rattle.st_lex.specs.declared.token.LexFault.{LexFault}
 use Rattle.st_script_faults.specs.declared.fault.ScriptFault.{ScriptFault}
-use Rattle.st_script_faults.specs.declared.fault.ScriptFault.TheVariants.{Lex, Expected, UnknownName, Duplicate, TooMany}
+use Rattle.st_script_faults.specs.declared.fault.ScriptFault.TheVariants.{Lex, Expected, UnknownName, Duplicate, TooMany, ReloadWithLearn}
 use Rattle.st_filter.specs.declared.filter.Action.{Action}
 use Rattle.st_filter.specs.declared.filter.Action.TheVariants.{Permit, Deny, Ask}
+use Rattle.st_filter.specs.Policies.{add_filter}
+use Rattle.st_filter.specs.declared.set.BinaryPolicy.{BinaryPolicy}
 use Rattle.st_filter.specs.declared.set.Reply.{Reply}
+use Rattle.st_filter.specs.declared.set.TheConstants.{MOST_FILTERS}
 use Rattle.st_lex.specs.Unquote.{unquoted}
 use Rattle.st_model.specs.declared.limits.TheConstants.{LONGEST_FILE, LONGEST_TEXT}
 use Rattle.st_model.specs.declared.object.NewKind.{NewKind}
 use Rattle.st_model.specs.declared.object.NewKind.TheVariants as kind
+use Rattle.st_grammar.specs.Grammar.{if_absolute}
 use Rattle.st_grammar.specs.OneFilter.{FilterResult, filter_in}
 use Rattle.st_grammar.specs.declared.env.Env.{Env}
 use Rattle.st_script_faults.specs.Environment.{environment_of}
 use Rattle.st_script_faults.specs.Names.{Name, Names, no_names, is_name_among, with_new_name, with_says, store_count, directory_of, is_known_directory}
+use Rattle.st_script_faults.specs.declared.row_value.RowValue.{RowValue}
+use Rattle.st_script_faults.specs.declared.row_value.RowValue.TheVariants as value
 use Rattle.st_statements.specs.Parts.{is_normal, is_long}
 use Rattle.st_script_faults.specs.declared.limits.TheConstants.{MOST_INSTRUCTIONS, MOST_PROCESSES, MOST_THREADS, MOST_TREE_ROWS}
 use Rattle.st_statements.specs.declared.statement.ScriptLine.{ScriptLine}
@@ -40,10 +46,14 @@ unless_ask filter Permit = Some filter
 unless_ask filter (Deny errno) = Some filter
 unless_ask filter Ask = None
 
+-- a filter that is read, if it is in the policy language
+abbrev pub filter_read : FilterResult → Option FilterValue
+filter_read (Ok filter) = Some filter
+filter_read (Err fault) = None
+
 -- the filter of a reply, if it is read and doesn't ask
 abbrev pub reply_filter : FilterResult → Option FilterValue
-reply_filter (Ok filter) = unless_ask filter filter.action
-reply_filter (Err fault) = None
+reply_filter read = option_and_then (λ filter. unless_ask filter filter.action) (filter_read read)
 
 -- a reply to questions about this binary, if its name is normal
 abbrev pub reply_for : Name → Option FilterValue → Option Reply
@@ -58,22 +68,79 @@ abbrev pub reply_said : Env → Option Statement → Option Reply
 reply_said env (Some (says.Reply binary filter)) = reply_in env binary filter
 reply_said env _ = None
 
--- if a row is a reply, this is a reply with the row's binary
-abbrev pub HasBinaryOf : Option Reply → Env → Statement → Type 0
-HasBinaryOf reply env (says.Reply binary filter) = IsSomeAnd reply (λ r. r.binary ≡ unquoted env.dollars binary)
-HasBinaryOf reply env _ = Unit {0}
+-- ---- policies
 
--- replies, with one more added if it is given
-abbrev pub with_reply : List Reply → Option Reply → List Reply
-with_reply replies None = replies
-with_reply replies (Some reply) = replies ++ reply ∷ []
+-- the binary of a policy, from its quoted text, if its name is absolute
+abbrev pub policy_binary : Env → List ℕ → Option Name
+policy_binary env binary = if_absolute (unquoted env.dollars binary)
 
--- these replies, with those of lines added after them
-abbrev pub replies_after : Env → List Reply → List ScriptLine → List Reply
-replies_after env replies [] = replies
-replies_after env replies (line ∷ lines) = replies_after env (with_reply replies (reply_said env line.says)) lines
+-- the binary of the policy that a line begins, if it begins one
+abbrev pub policy_said : Env → Option Statement → Option Name
+policy_said env (Some (says.Policy name binary)) = policy_binary env binary
+policy_said env _ = None
 
--- whether a row is the end of a thread's body
+-- the filter of a policy on a line, if it has one
+abbrev pub filter_said : Env → Option Statement → Option FilterValue
+filter_said env (Some (says.Filter text)) = filter_read (filter_in text env)
+filter_said env _ = None
+
+-- ---- what rows are read as with the environment of the script
+
+-- a value, or nothing valid
+abbrev pub or_invalid : {A : Type 0} → (A → RowValue) → Option A → RowValue
+or_invalid f None = value.Invalid
+or_invalid f (Some found) = f found
+
+-- what a row is read as
+abbrev pub row_value : Env → Statement → RowValue
+row_value env (says.Reply binary filter) = or_invalid value.Reply (reply_in env binary filter)
+row_value env (says.Policy name binary) = or_invalid value.Policy (policy_binary env binary)
+row_value env (says.Filter text) = or_invalid value.Filter (filter_read (filter_in text env))
+row_value env _ = value.Nothing
+
+-- whether it isn't valid
+abbrev pub is_invalid : RowValue → Bool
+is_invalid value.Invalid = true
+is_invalid _ = false
+
+-- the binary of a reply, if a row is read as one
+abbrev pub replied_binary : RowValue → Option Name
+replied_binary (value.Reply reply) = Some reply.binary
+replied_binary _ = None
+
+-- if a row is a reply, this is the row's binary
+abbrev pub HasBinaryOf : Option Name → Env → Statement → Type 0
+HasBinaryOf found env (says.Reply binary filter) = found ≡ Some (unquoted env.dollars binary)
+HasBinaryOf found env _ = Unit {0}
+
+-- the replies and the policies of a script
+pub record ScriptFiltersValue : Type 0 where
+  pub replies : List Reply
+  pub blocks : List BinaryPolicy
+
+-- no replies and no policies
+abbrev pub no_filters : ScriptFiltersValue
+no_filters = record { replies = []; blocks = [] }
+
+-- the replies and the policies, with what a row is read as added: a filter is one of the last policy
+abbrev pub with_value : ScriptFiltersValue → RowValue → ScriptFiltersValue
+with_value found (value.Reply reply) = record found { replies = found.replies ++ reply ∷ [] }
+with_value found (value.Policy binary) = record found { blocks = found.blocks ++ record { binary = binary; filters = [] } ∷ [] }
+with_value found (value.Filter filter) = record found { blocks = add_filter found.blocks filter }
+with_value found value.Nothing = found
+with_value found value.Invalid = found
+
+-- the same of a line
+abbrev pub with_line : Env → ScriptFiltersValue → Option Statement → ScriptFiltersValue
+with_line env found None = found
+with_line env found (Some statement) = with_value found (row_value env statement)
+
+-- the same of lines, one after the other
+abbrev pub filters_after : Env → ScriptFiltersValue → List ScriptLine → ScriptFiltersValue
+filters_after env found [] = found
+filters_after env found (line ∷ lines) = filters_after env (with_line env found line.says) lines
+
+-- whether a row is the end of a body
 abbrev pub is_end : Option Statement → Bool
 is_end (Some says.End) = true
 is_end _ = false
@@ -84,16 +151,26 @@ ends_body line = is_end line.says
 
 -- ---- what is wrong with a row, by the rows above and below it
 
--- a thread that no `end` follows, unless the script is cut off, or a reply that isn't valid
-abbrev pub expects_other : WholeScript → List ScriptLine → Statement → Bool
-expects_other whole below (says.Thread name process) = not whole.is_cut && not (list_any ends_body below)
-expects_other whole below (says.Reply binary filter) = not (is_some (reply_in whole.env binary filter))
-expects_other whole below _ = false
+-- whether a row opens a body
+abbrev pub opens_body : Statement → Bool
+opens_body (says.Thread name process) = true
+opens_body (says.Policy name binary) = true
+opens_body _ = false
 
--- an object without its directory, a thread without its process, or, unless the script is cut off, a fork of a thread that doesn't exist
+-- a thread or a policy that no `end` follows, unless the script is cut off
+abbrev pub is_left_open : WholeScript → List ScriptLine → Statement → Bool
+is_left_open whole below statement = opens_body statement && (not whole.is_cut && not (list_any ends_body below))
+
+-- a body that is left open, or a reply, a policy or a filter that isn't valid
+abbrev pub expects_other : WholeScript → List ScriptLine → Statement → Bool
+expects_other whole below statement = is_left_open whole below statement || is_invalid (row_value whole.env statement)
+
+-- an object without its directory, a thread without its process, a reload without its policy, or, unless the script is cut off, a fork of a
+-- thread that doesn't exist
 abbrev pub is_unknown : WholeScript → Names → Statement → Bool
 is_unknown whole above (says.Object path new) = not (is_known_directory above.directories (directory_of path))
 is_unknown whole above (says.Thread name (Some process)) = not (is_name_among above.processes process)
+is_unknown whole above (says.Reload name) = not (is_name_among above.policies name)
 is_unknown whole above (says.Fork name) = not whole.is_cut && not (is_name_among whole.threads name)
 is_unknown whole above _ = false
 
@@ -108,6 +185,7 @@ is_duplicate whole above (says.Group group) = is_name_among above.groups group.n
 is_duplicate whole above (says.Object path new) = is_name_among above.paths path
 is_duplicate whole above (says.Process process) = is_name_among above.processes process.name
 is_duplicate whole above (says.Thread name process) = is_name_among above.threads name
+is_duplicate whole above (says.Policy name binary) = is_name_among above.policies name
 is_duplicate whole above (says.Fork name) = is_started whole above name
 is_duplicate whole above _ = false
 
@@ -117,27 +195,29 @@ is_large kind.Dir = false
 is_large (kind.File content) = nat_lt LONGEST_FILE (length content)
 is_large (kind.Link target) = nat_lt LONGEST_TEXT (length target)
 
--- a reply whose binary is too long
-abbrev pub is_long_reply : Option Reply → Bool
-is_long_reply (Some reply) = is_long reply.binary
-is_long_reply None = false
-
 -- whether this many more instructions are too many
 abbrev pub exceeds : Names → ℕ → Bool
 exceeds above count = nat_lt MOST_INSTRUCTIONS (above.instructions + count)
 
--- too many rows or instructions, or too many bytes, up to this row
+-- too many rows, instructions or filters, or too many bytes, up to this row
 abbrev pub is_too_many : WholeScript → Names → Statement → Bool
 is_too_many whole above (says.Object path new) = nat_le MOST_TREE_ROWS (length above.paths) || (is_long path || is_large new.kind)
 is_too_many whole above (says.Process process) =
     nat_le MOST_PROCESSES (length above.processes) || (is_long process.binary || is_long process.cwd)
 is_too_many whole above (says.Thread name process) = nat_le MOST_THREADS (length above.threads)
 is_too_many whole above (says.Reply binary filter) = is_long (unquoted whole.env.dollars binary)
+is_too_many whole above (says.Filter text) = nat_le MOST_FILTERS above.filters
 is_too_many whole above (says.Store place word) = exceeds above 1
 is_too_many whole above (says.Put place bytes) = exceeds above (store_count bytes)
 is_too_many whole above (says.Call call regs) = exceeds above 1
 is_too_many whole above (says.Fork name) = exceeds above 1
+is_too_many whole above (says.Reload name) = exceeds above 1
 is_too_many whole above _ = false
+
+-- a reload while policies are learnt
+abbrev pub reloads_while_learning : WholeScript → Statement → Bool
+reloads_while_learning whole (says.Reload name) = whole.env.learn
+reloads_while_learning whole _ = false
 
 -- ---- faults
 
@@ -148,6 +228,7 @@ row_fault whole above below line statement =
     else if is_unknown whole above statement then Some (UnknownName line)
     else if is_duplicate whole above statement then Some (Duplicate line)
     else if is_too_many whole above statement then Some (TooMany line)
+    else if reloads_while_learning whole statement then Some (ReloadWithLearn line)
     else None
 
 -- the fault of a line, by what it says; a line that says nothing isn't in the grammar

@@ -1,4 +1,4 @@
--- What the rows above a row of a script define: names, each once and in order, and the number of instructions.
+-- What the rows above a row of a script define: names, each once and in order, and the numbers of instructions and of filters.
 use Rattle.std.specs.Prelude.{ℕ, zero, suc, ◌+◌, ◌/◌, ◌==◌, Bool, true, if◌then◌else◌, List, [], ◌∷◌, ◌++◌, length, take, slice_index, Option, Some, None}
 use Rattle.std.specs.List.{list_any, position_or_len}
 use Rattle.std.specs.Str.{bytes_eq}
@@ -36,11 +36,14 @@ pub record Names : Type 0 where
   pub threads : List Name
   -- the threads that forks start
   pub forked : List Name
+  pub policies : List Name
   pub instructions : ℕ
+  -- the filters of policies
+  pub filters : ℕ
 
 -- what no rows define
 abbrev pub no_names : Names
-no_names = record { users = []; groups = []; paths = []; directories = []; processes = []; threads = []; forked = []; instructions = 0 }
+no_names = record { users = []; groups = []; paths = []; directories = []; processes = []; threads = []; forked = []; policies = []; instructions = 0; filters = 0 }
 
 -- the directories, with this path added if the new object there is a directory
 abbrev pub with_object : List Name → Name → NewKind → List Name
@@ -61,10 +64,13 @@ with_statement names (says.Object path new) =
 with_statement names (says.Process process) = record names { processes = with_new_name names.processes process.name }
 with_statement names (says.Thread name process) = record names { threads = with_new_name names.threads name }
 with_statement names (says.Reply binary filter) = names
+with_statement names (says.Policy name binary) = record names { policies = with_new_name names.policies name }
+with_statement names (says.Filter text) = record names { filters = names.filters + 1 }
 with_statement names (says.Store place word) = record names { instructions = names.instructions + 1 }
 with_statement names (says.Put place bytes) = record names { instructions = names.instructions + store_count bytes }
 with_statement names (says.Call call regs) = record names { instructions = names.instructions + 1 }
 with_statement names (says.Fork name) = record names { forked = with_new_name names.forked name; instructions = names.instructions + 1 }
+with_statement names (says.Reload name) = record names { instructions = names.instructions + 1 }
 with_statement names says.End = names
 
 -- the same, if a row says something

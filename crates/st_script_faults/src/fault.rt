@@ -13,18 +13,21 @@ pub enum ScriptFault {
     /// The line isn't in the grammar.
     #[error("not expected here")]
     Expected(u32),
-    /// The line names a directory, a process or a thread that doesn't exist.
+    /// The line names a directory, a process, a thread or a policy that doesn't exist.
     #[error("not a known name")]
     UnknownName(u32),
     /// The line defines a name that is defined already, or starts a thread that is started already.
     #[error("given already")]
     Duplicate(u32),
-    /// There are too many rows, instructions or bytes.
+    /// There are too many rows, instructions, filters or bytes.
     #[error("too many")]
     TooMany(u32),
     /// Out of memory.
     #[error("out of memory")]
     NoMemory,
+    /// The line is a reload, and policies are learnt.
+    #[error("no reload with -A")]
+    ReloadWithLearn(u32),
 }
 
 impl From<AllocError> for ScriptFault {

@@ -1,27 +1,28 @@
-ghost use Rattle.std.specs.Prelude.{◌≡◌, ◌^◌, ◌≤◌, List, Some, None, Ok, [], IfOk, OnOk};
+ghost use Rattle.std.specs.Prelude.{◌≡◌, ◌^◌, ◌≤◌, ℕ, List, Some, None, [], IfOk, OnOk, option_copied};
 ghost use Rattle.std.specs.List.{list_any};
-ghost use Rattle.st_script_faults.specs.Faults.{reply_filter, reply_for, reply_in, reply_said, replies_after, with_reply, is_end, ends_body, expects_other, is_unknown, is_started, is_duplicate, is_large, is_long_reply, HasBinaryOf, exceeds, is_too_many, row_fault, first_fault, with_thread_name, threads_after, with_started, started_after, whole_of};
+ghost use Rattle.st_script_faults.specs.Faults.{row_value, replied_binary, HasBinaryOf, with_line, filters_after, is_end, ends_body, opens_body, expects_other, is_unknown, is_started, is_duplicate, is_large, exceeds, is_too_many, reloads_while_learning, row_fault, first_fault, with_thread_name, threads_after, with_started, started_after, whole_of};
 ghost use Rattle.st_script_faults.specs.FirstFault.{IsFirstScriptFault};
 ghost use Rattle.st_script_faults.specs.Faults as spec;
 ghost use Rattle.st_script_faults.specs.Names.{no_names, with_statement};
 ghost use Rattle.st_script_faults.specs.declared.fault.ScriptFault.{ScriptFault};
 ghost use Rattle.st_statements.specs.declared.statement.ScriptLine.{ScriptLine};
-ghost use Rattle.st_grammar.specs.OneFilter.{filter_in};
+ghost use Rattle.st_filter.specs.declared.set.TheConstants.{MOST_FILTERS};
+ghost use Rattle.st_statements.specs.Parts.{is_long};
 ghost use Rattle.st_script_faults.specs.declared.limits.TheConstants.{MOST_INSTRUCTIONS};
 
 use crate::environment::environment_of;
 use crate::fault::ScriptFault;
 use crate::limits::{MOST_INSTRUCTIONS, MOST_PROCESSES, MOST_THREADS, MOST_TREE_ROWS};
 use crate::names::{NameIndex, NamesAbove, directory_of, store_count};
-use st_base::{Sequence, Text};
-use st_filter::{Action, Filter, Reply};
-use st_grammar::{Env, PolicyFault};
+use crate::row_value::{RowValue, row_value};
+use crate::script_filters::ScriptFilters;
+use st_base::Text;
+use st_filter::MOST_FILTERS;
+use st_grammar::Env;
 use st_law::Options;
-use st_lex::unquote;
 use st_model::{LONGEST_FILE, LONGEST_TEXT};
-use st_policy::read_filter;
-use st_statements::parts::{is_long, is_normal};
-use st_statements::{FilterText, ScriptLine, Statement};
+use st_statements::parts::is_long;
+use st_statements::{ScriptLine, Statement};
 use st_trace::NewKind;
 use std::alloc::{AllocError, Global};
 use std::marker::Model;
@@ -55,75 +56,6 @@ impl Whole<'_> {
     }
 }
 
-// A filter, unless it asks.
-fn unless_ask(filter: Filter) -> Option<Filter>
-    ensures { result ≡ reply_filter (Ok filter) }
-{
-    match filter.action() {
-        Action::Permit => Some(filter),
-        Action::Deny(_) => Some(filter),
-        Action::Ask => None,
-    }
-}
-
-// The filter of a reply, if it is read and doesn't ask.
-fn answer_of(alloc: Global, text: &FilterText, env: &Env) -> Result<Option<Filter>, AllocError>
-    ensures { IfOk result (λ found. found ≡ reply_filter (filter_in text.now env.now)) }
-{
-    match read_filter(alloc, text.bytes(), env) {
-        Ok(filter) => Ok(unless_ask(filter)),
-        Err(PolicyFault::NoMemory) => Err(AllocError),
-        Err(_) => Ok(None),
-    }
-}
-
-// A reply to questions about this binary, if its name is normal.
-fn reply_for(binary: Text, filter: Option<Filter>) -> Option<Reply>
-    ensures { result ≡ reply_for binary filter }
-{
-    if !is_normal(binary.bytes()) {
-        return None;
-    }
-    match filter {
-        Some(filter) => Some(Reply { binary, filter }),
-        None => None,
-    }
-}
-
-// The reply of a row's quoted binary and filter, if they are valid.
-fn reply_in(
-    alloc: Global,
-    env: &Env,
-    binary: &Text,
-    filter: &FilterText,
-) -> Result<Option<Reply>, AllocError>
-    ensures { IfOk result (λ found. found ≡ reply_in env.now binary.now filter.now) }
-{
-    let filter = answer_of(alloc, filter, env)?;
-    let binary = unquote(alloc, binary.bytes(), &env.dollars)?;
-    Ok(reply_for(binary, filter))
-}
-
-// The reply of a row, if it has one.
-fn reply_said(alloc: Global, env: &Env, statement: &Statement) -> Result<Option<Reply>, AllocError>
-    ensures { IfOk result (λ found. found ≡ reply_said env.now (Some statement.now)) }
-{
-    match statement {
-        Statement::Reply { binary, filter } => reply_in(alloc, env, binary, filter),
-        _ => Ok(None),
-    }
-}
-
-// Adds a reply, if one is given.
-fn add_reply(replies: &mut Sequence<Reply>, reply: Option<Reply>) -> Result<(), AllocError>
-    ensures { OnOk result (replies.new ≡ with_reply replies.old reply) }
-{
-    match reply {
-        Some(reply) => replies.push(reply),
-        None => Ok(()),
-    }
-}
-
 fn is_end(says: &Option<Statement>) -> bool
     ensures { result ≡ is_end says.now }
 {
@@ -149,25 +81,31 @@ fn is_closed(below: &[ScriptLine]) -> bool
     false
 }
 
-// Whether the row isn't expected here: it is a thread that no `end` follows, unless the script is cut off, or a reply that isn't valid.
-// Only the body of a thread is gone through.
+// Whether a row opens a body.
+fn opens_body(statement: &Statement) -> bool
+    ensures { result ≡ opens_body statement.now }
+{
+    matches!(
+        statement,
+        Statement::Thread { .. } | Statement::Policy { .. }
+    )
+}
+
+// A body that is left open, or a reply, a policy or a filter that isn't valid. Only the body of a thread or a policy is gone through.
 fn expects_other(
     whole: &Whole,
     below: &[ScriptLine],
     statement: &Statement,
-    reply: &Option<Reply>,
+    value: &RowValue,
 ) -> bool
-    requires { reply.now ≡ reply_said whole.now.env (Some statement.now) }
+    requires { value.now ≡ row_value whole.now.env statement.now }
     ensures { result ≡ expects_other whole.now below.now statement.now }
 {
-    match statement {
-        Statement::Thread { .. } => !whole.is_cut && !is_closed(below),
-        Statement::Reply { .. } => reply.is_none(),
-        _ => false,
-    }
+    (opens_body(statement) && !whole.is_cut && !is_closed(below)) || value.is_invalid()
 }
 
-// An object without its directory, a thread without its process, or, unless the script is cut off, a fork of a thread that doesn't exist.
+// An object without its directory, a thread without its process, a reload without its policy, or, unless the script is cut off, a fork of a
+// thread that doesn't exist.
 fn is_unknown(whole: &Whole, above: &NamesAbove, statement: &Statement) -> bool
     ensures { result ≡ is_unknown whole.now above.now statement.now }
 {
@@ -177,6 +115,7 @@ fn is_unknown(whole: &Whole, above: &NamesAbove, statement: &Statement) -> bool
             process: Some(process),
             ..
         } => !above.processes.has(process.bytes()),
+        Statement::Reload(name) => !above.policies.has(name.bytes()),
         Statement::Fork(name) => !whole.is_cut && !whole.threads.has(name.bytes()),
         _ => false,
     }
@@ -199,6 +138,7 @@ fn is_duplicate(whole: &Whole, above: &NamesAbove, statement: &Statement) -> boo
         Statement::Object { path, .. } => above.paths.has(path.bytes()),
         Statement::Process(process) => above.processes.has(process.name.bytes()),
         Statement::Thread { name, .. } => above.threads.has(name.bytes()),
+        Statement::Policy { name, .. } => above.policies.has(name.bytes()),
         Statement::Fork(name) => is_started(whole, above, name),
         _ => false,
     }
@@ -224,20 +164,20 @@ fn exceeds(above: &NamesAbove, count: u64) -> bool
     above.instructions + count > MOST_INSTRUCTIONS
 }
 
-// Whether the binary of a reply is too long.
-fn is_long_reply(reply: &Option<Reply>) -> bool
-    ensures { result ≡ is_long_reply reply.now }
+// Whether a binary is too long, if there is one.
+fn is_long_binary(binary: Option<&Text>) -> bool
+    ensures { (name : List ℕ) → option_copied binary.entry ≡ Some name → result ≡ is_long name }
 {
-    match reply {
-        Some(reply) => is_long(reply.binary.bytes()),
+    match binary {
+        Some(binary) => is_long(binary.bytes()),
         None => false,
     }
 }
 
-// Too many rows or instructions, or too many bytes, up to this row.
-fn is_too_many(above: &NamesAbove, statement: &Statement, reply: &Option<Reply>) -> bool
+// Too many rows, instructions or filters, or too many bytes, up to this row.
+fn is_too_many(above: &NamesAbove, statement: &Statement, value: &RowValue) -> bool
     requires { above.now.instructions ≤ MOST_INSTRUCTIONS }
-    ensures { (whole : spec.WholeScript) → HasBinaryOf reply.now whole.env statement.now → result ≡ is_too_many whole above.now statement.now }
+    ensures { (whole : spec.WholeScript) → HasBinaryOf (replied_binary value.now) whole.env statement.now → result ≡ is_too_many whole above.now statement.now }
 {
     match statement {
         Statement::Object { path, new } => {
@@ -249,11 +189,23 @@ fn is_too_many(above: &NamesAbove, statement: &Statement, reply: &Option<Reply>)
                 || is_long(process.cwd.bytes())
         }
         Statement::Thread { .. } => above.threads.len() >= MOST_THREADS,
-        Statement::Reply { .. } => is_long_reply(reply),
+        Statement::Reply { .. } => is_long_binary(value.replied_binary()),
+        Statement::Filter(_) => above.filters >= MOST_FILTERS,
         Statement::Store(_, _) => exceeds(above, 1),
         Statement::Put(_, bytes) => exceeds(above, store_count(bytes.bytes())),
         Statement::Call(_, _) => exceeds(above, 1),
         Statement::Fork(_) => exceeds(above, 1),
+        Statement::Reload(_) => exceeds(above, 1),
+        _ => false,
+    }
+}
+
+// A reload while policies are learnt.
+fn reloads_while_learning(whole: &Whole, statement: &Statement) -> bool
+    ensures { result ≡ reloads_while_learning whole.now statement.now }
+{
+    match statement {
+        Statement::Reload(_) => whole.env.learn,
         _ => false,
     }
 }
@@ -266,18 +218,18 @@ struct ScriptRow<'a> {
     below: &'a [ScriptLine],
 }
 
-// The fault of a row with its reply: the first kind that applies.
+// The fault of a row that is read as this value: the first kind that applies.
 fn fault_with(
     whole: &Whole,
     above: &NamesAbove,
     row: &ScriptRow,
-    reply: &Option<Reply>,
+    value: &RowValue,
 ) -> Option<ScriptFault>
     requires few { above.now.instructions ≤ MOST_INSTRUCTIONS }
-    requires reply { reply.now ≡ reply_said whole.now.env (Some row.now.statement.now) }
+    requires value { value.now ≡ row_value whole.now.env row.now.statement.now }
     ensures { result ≡ row_fault whole.now above.now row.now.below.now row.now.line row.now.statement.now }
 {
-    if expects_other(whole, row.below, row.statement, reply) {
+    if expects_other(whole, row.below, row.statement, value) {
         return Some(ScriptFault::Expected(row.line));
     }
     if is_unknown(whole, above, row.statement) {
@@ -286,62 +238,68 @@ fn fault_with(
     if is_duplicate(whole, above, row.statement) {
         return Some(ScriptFault::Duplicate(row.line));
     }
-    if is_too_many(above, row.statement, reply) {
+    if is_too_many(above, row.statement, value) {
         return Some(ScriptFault::TooMany(row.line));
+    }
+    if reloads_while_learning(whole, row.statement) {
+        return Some(ScriptFault::ReloadWithLearn(row.line));
     }
     None
 }
 
-// The fault of a row. Its reply is read once, and added to these.
+// The fault of a row. What it is read as is found once, and added to these filters.
 fn fault_of(
     alloc: Global,
     whole: &Whole,
     above: &NamesAbove,
     row: &ScriptRow,
-    replies: &mut Sequence<Reply>,
+    found: &mut ScriptFilters,
 ) -> Result<Option<ScriptFault>, AllocError>
     requires { above.now.instructions ≤ MOST_INSTRUCTIONS }
     ensures fault { IfOk result (λ fault. fault ≡ row_fault whole.now above.now row.now.below.now row.now.line row.now.statement.now) }
-    ensures replies { OnOk result (replies.new ≡ with_reply replies.old (reply_said whole.now.env (Some row.now.statement.now))) }
+    ensures found { OnOk result (found.new ≡ with_line whole.now.env found.old (Some row.now.statement.now)) }
 {
-    let reply = reply_said(alloc, &whole.env, row.statement)?;
-    let fault = fault_with(whole, above, row, &reply);
-    add_reply(replies, reply)?;
+    let value = row_value(alloc, &whole.env, row.statement)?;
+    let fault = fault_with(whole, above, row, &value);
+    found.add(alloc, value)?;
     Ok(fault)
 }
 
-// The fault of a row. If it has none, its names are added to those above, and its reply to these.
+// The fault of a row. If it has none, its names are added to those above, and what it is read as to these filters.
 fn take_row<'a>(
     alloc: Global,
     whole: &Whole,
     above: &mut NamesAbove<'a>,
     row: &ScriptRow<'a>,
-    replies: &mut Sequence<Reply>,
+    found: &mut ScriptFilters,
 ) -> Result<Option<ScriptFault>, AllocError>
-    requires { above.old.instructions ≤ MOST_INSTRUCTIONS }
+    requires instructions { above.old.instructions ≤ MOST_INSTRUCTIONS }
+    requires filters { above.old.filters ≤ MOST_FILTERS }
     ensures fault { IfOk result (λ fault. fault ≡ row_fault whole.now above.old row.now.below.now row.now.line row.now.statement.now) }
     ensures names { IfOk result (λ fault. fault ≡ None → above.new ≡ with_statement above.old row.now.statement.now) }
     ensures few { IfOk result (λ fault. fault ≡ None → above.new.instructions ≤ MOST_INSTRUCTIONS) }
-    ensures replies { IfOk result (λ fault. fault ≡ None → replies.new ≡ with_reply replies.old (reply_said whole.now.env (Some row.now.statement.now))) }
+    ensures few_filters { IfOk result (λ fault. fault ≡ None → above.new.filters ≤ MOST_FILTERS) }
+    ensures found { IfOk result (λ fault. fault ≡ None → found.new ≡ with_line whole.now.env found.old (Some row.now.statement.now)) }
 {
-    let fault = fault_of(alloc, whole, above, row, replies)?;
+    let fault = fault_of(alloc, whole, above, row, found)?;
     if fault.is_none() {
         above.add(row.statement)?;
     }
     Ok(fault)
 }
 
-// The fault of the first line that has one, given the names above. If none has one, the replies of all are added to these.
+// The fault of the first line that has one, given the names above. If none has one, what all are read as is added to these filters.
 fn fault_among<'a>(
     alloc: Global,
     whole: &Whole,
     above: &mut NamesAbove<'a>,
     lines: &'a [ScriptLine],
-    replies: &mut Sequence<Reply>,
+    found: &mut ScriptFilters,
 ) -> Result<Option<ScriptFault>, AllocError>
-    requires { above.old.instructions ≤ MOST_INSTRUCTIONS }
+    requires instructions { above.old.instructions ≤ MOST_INSTRUCTIONS }
+    requires filters { above.old.filters ≤ MOST_FILTERS }
     ensures fault { IfOk result (λ fault. fault ≡ first_fault whole.now above.old lines.now) }
-    ensures replies { IfOk result (λ fault. fault ≡ None → replies.new ≡ replies_after whole.now.env replies.old lines.now) }
+    ensures found { IfOk result (λ fault. fault ≡ None → found.new ≡ filters_after whole.now.env found.old lines.now) }
 {
     let mut rest = lines;
     while let Some((line, below)) = rest.split_first() {
@@ -353,7 +311,7 @@ fn fault_among<'a>(
             statement,
             below,
         };
-        let fault = take_row(alloc, whole, above, &row, replies)?;
+        let fault = take_row(alloc, whole, above, &row, found)?;
         if fault.is_some() {
             return Ok(fault);
         }
@@ -362,18 +320,18 @@ fn fault_among<'a>(
     Ok(None)
 }
 
-/// The fault of the first line that has one. If none has one, the replies of all are added to these.
+/// The fault of the first line that has one. If none has one, the replies and the policies of all are added to these filters.
 pub fn first_fault(
     alloc: Global,
     whole: &Whole,
     lines: &[ScriptLine],
-    replies: &mut Sequence<Reply>,
+    found: &mut ScriptFilters,
 ) -> Result<Option<ScriptFault>, AllocError>
     ensures fault { IfOk result (λ fault. fault ≡ first_fault whole.now no_names lines.now) }
-    ensures replies { IfOk result (λ fault. fault ≡ None → replies.new ≡ replies_after whole.now.env replies.old lines.now) }
+    ensures found { IfOk result (λ fault. fault ≡ None → found.new ≡ filters_after whole.now.env found.old lines.now) }
 {
     let mut above = NamesAbove::new(alloc);
-    fault_among(alloc, whole, &mut above, lines, replies)
+    fault_among(alloc, whole, &mut above, lines, found)
 }
 
 fn add_thread<'a>(names: &mut NameIndex<'a>, says: &'a Option<Statement>) -> Result<(), AllocError>

@@ -91,7 +91,10 @@ pub struct NamesAbove<'a> {
     pub threads: NameIndex<'a>,
     /// The threads that forks start.
     pub forked: NameIndex<'a>,
+    pub policies: NameIndex<'a>,
     pub instructions: u64,
+    /// The filters of policies.
+    pub filters: usize,
 }
 
 impl<'a> Model for NamesAbove<'a> {
@@ -99,7 +102,7 @@ impl<'a> Model for NamesAbove<'a> {
 
     ghost Value = { Names };
 
-    ghost view = { λ n. record { users = n.users; groups = n.groups; paths = n.paths; directories = n.directories; processes = n.processes; threads = n.threads; forked = n.forked; instructions = n.instructions } };
+    ghost view = { λ n. record { users = n.users; groups = n.groups; paths = n.paths; directories = n.directories; processes = n.processes; threads = n.threads; forked = n.forked; policies = n.policies; instructions = n.instructions; filters = n.filters } };
 }
 
 /// How many instructions it takes to put a text into memory: the stores of the text and of a zero byte, in whole words.
@@ -142,7 +145,9 @@ impl<'a> NamesAbove<'a> {
             processes: NameIndex::new(alloc),
             threads: NameIndex::new(alloc),
             forked: NameIndex::new(alloc),
+            policies: NameIndex::new(alloc),
             instructions: 0,
+            filters: 0,
         }
     }
 
@@ -174,7 +179,8 @@ impl<'a> NamesAbove<'a> {
 
     /// Adds what a row defines.
     pub fn add(&mut self, statement: &'a Statement) -> Result<(), AllocError>
-        requires { self.old.instructions < 2 ^ 63 }
+        requires instructions { self.old.instructions < 2 ^ 63 }
+        requires filters { self.old.filters < 2 ^ 63 }
         ensures { OnOk result (self.new ≡ with_statement self.old statement.now) }
     {
         match statement {
@@ -183,8 +189,13 @@ impl<'a> NamesAbove<'a> {
             Statement::Object { path, new } => self.add_object(path.bytes(), &new.kind),
             Statement::Process(process) => self.processes.add(process.name.bytes()),
             Statement::Thread { name, .. } => self.threads.add(name.bytes()),
+            Statement::Policy { name, .. } => self.policies.add(name.bytes()),
+            Statement::Filter(_) => {
+                self.filters += 1;
+                Ok(())
+            }
             Statement::Fork(name) => self.add_fork(name.bytes()),
-            Statement::Store(_, _) | Statement::Call(_, _) => {
+            Statement::Store(_, _) | Statement::Call(_, _) | Statement::Reload(_) => {
                 self.instructions += 1;
                 Ok(())
             }

@@ -9,7 +9,7 @@ use Rattle.st_model.specs.declared.limits.TheConstants.{SPACE_BYTES, SPACE_WORDS
 use Rattle.st_statements.specs.Parts.{word_at, quoted_at}
 use Rattle.st_statements.specs.Values.{number_token, number_below}
 use Rattle.st_statements.specs.declared.statement.Statement.{Statement}
-use Rattle.st_statements.specs.declared.statement.Statement.TheVariants.{Store, Put, Call, Fork, End}
+use Rattle.st_statements.specs.declared.statement.Statement.TheVariants.{Store, Put, Call, Fork, Reload, End}
 
 -- the word index that a token spells
 abbrev pub word_place_at : List ℕ → Token → Option ℕ
@@ -70,6 +70,11 @@ call_row text (name ∷ numbers) = option_and_then (λ call. option_map (Call ca
 abbrev pub fork_row : List ℕ → List Token → Option Statement
 fork_row text (name ∷ []) = option_map Fork (word_at text name)
 fork_row text _ = None
+
+-- POLICY
+abbrev pub reload_row : List ℕ → List Token → Option Statement
+reload_row text (name ∷ []) = option_map Reload (word_at text name)
+reload_row text _ = None
 
 -- nothing may follow `end`
 abbrev pub end_row : List Token → Option Statement

@@ -1,11 +1,11 @@
--- The rows of processes, threads and replies.
+-- The rows of processes, threads, replies and policies.
 use Rattle.std.specs.Prelude.{ℕ, Bool, true, false, if◌then◌else◌, List, [], ◌∷◌, codes, Option, Some, None, option_map, option_and_then}
 use Rattle.st_lex.specs.declared.token.Token.{Token}
 use Rattle.st_lex.specs.Text.{text_of_token, is_keyword, is_quoted}
 use Rattle.st_statements.specs.Parts.{word_at, path_at, text_of_tokens}
 use Rattle.st_statements.specs.Values.{id_at}
 use Rattle.st_statements.specs.declared.statement.Statement.{Statement}
-use Rattle.st_statements.specs.declared.statement.Statement.TheVariants.{Process, Thread, Reply}
+use Rattle.st_statements.specs.declared.statement.Statement.TheVariants.{Process, Thread, Reply, Policy}
 
 -- `traced`, or `untraced`
 abbrev pub traced_at : List ℕ → Token → Option Bool
@@ -42,3 +42,9 @@ abbrev pub reply_row : List ℕ → List Token → Option Statement
 reply_row text [] = None
 reply_row text (binary ∷ filter) =
     if is_quoted binary.kind then Some (Reply (text_of_token text binary) (text_of_tokens text filter)) else None
+
+-- NAME "binary"
+abbrev pub policy_row : List ℕ → List Token → Option Statement
+policy_row text (name ∷ binary ∷ []) =
+    if is_quoted binary.kind then option_map (λ n. Policy n (text_of_token text binary)) (word_at text name) else None
+policy_row text _ = None

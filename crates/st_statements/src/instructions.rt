@@ -1,5 +1,5 @@
 ghost use Rattle.std.specs.Prelude.{◌≡◌, ◌+◌, ◌/◌, ◌<◌, length, IfOk, IfSome};
-ghost use Rattle.st_statements.specs.Instructions.{word_place_at, store_row, put_place, put_row, register_at, registers, unless_fork, call_at, call_row, fork_row, end_row};
+ghost use Rattle.st_statements.specs.Instructions.{word_place_at, store_row, put_place, put_row, register_at, registers, unless_fork, call_at, call_row, fork_row, reload_row, end_row};
 
 use crate::parts::{quoted_at, word_at};
 use crate::statement::Statement;
@@ -129,6 +129,23 @@ pub fn fork_row(alloc: Global, text: &[u8], row: &[Token]) -> Result<Option<Stat
     };
     match word_at(text, name) {
         Some(name) => Ok(Some(Statement::Fork(Text::of(alloc, name)?))),
+        None => Ok(None),
+    }
+}
+
+/// A reload: `POLICY`.
+pub fn reload_row(
+    alloc: Global,
+    text: &[u8],
+    row: &[Token],
+) -> Result<Option<Statement>, AllocError>
+    ensures { IfOk result (λ found. found ≡ reload_row text.now row.now) }
+{
+    let [name] = row else {
+        return Ok(None);
+    };
+    match word_at(text, name) {
+        Some(name) => Ok(Some(Statement::Reload(Text::of(alloc, name)?))),
         None => Ok(None),
     }
 }

@@ -11,5 +11,5 @@ pub mod statements;
 pub mod tasks;
 pub mod values;
 
-pub use statement::{FilterText, ScriptLine, ScriptProcess, Statement};
+pub use statement::{FilterText, OpenBody, ScriptLine, ScriptProcess, Statement};
 pub use statements::{lines_of_tokens, statement_of};

@@ -70,6 +70,10 @@ pub enum Statement {
     Thread { name: Text, process: Option<Text> },
     /// A reply, with the quoted text of its binary and the text of its filter as they were written.
     Reply { binary: Text, filter: FilterText },
+    /// A policy for a binary, whose quoted text is as it was written. Its filters are the rows after it.
+    Policy { name: Text, binary: Text },
+    /// A filter of a policy, as it was written.
+    Filter(FilterText),
     /// A store of a word at this word index.
     Store(u32, u64),
     /// The stores of a text and a zero byte, from this word index on.
@@ -77,8 +81,21 @@ pub enum Statement {
     Call(SysCall, [u64; 6]),
     /// The call fork, whose child is the thread of this name.
     Fork(Text),
-    /// The end of a thread's body.
+    /// A reload of the policy of this name.
+    Reload(Text),
+    /// The end of the body of a thread or of a policy.
     End,
+}
+
+/// The body that the rows after a row stand in.
+#[derive(Clone, Copy, Debug, PartialEq, Eq, Drop)]
+pub enum OpenBody {
+    /// None: the rows are those of the script.
+    NoBody,
+    /// That of a thread, whose rows are instructions.
+    ThreadBody,
+    /// That of a policy, whose rows are filters.
+    PolicyBody,
 }
 
 /// A line of a script.

@@ -1,5 +1,5 @@
 ghost use Rattle.std.specs.Prelude.{◌≡◌, ◌^◌, ◌<◌, length, IfOk};
-ghost use Rattle.st_statements.specs.Tasks.{traced_at, process_row, waiting_thread, starting_thread, thread_row, reply_row};
+ghost use Rattle.st_statements.specs.Tasks.{traced_at, process_row, waiting_thread, starting_thread, thread_row, reply_row, policy_row};
 
 use crate::parts::{path_at, text_of_tokens, word_at};
 use crate::statement::{FilterText, ScriptProcess, Statement};
@@ -119,5 +119,28 @@ pub fn reply_row(alloc: Global, text: &[u8], row: &[Token]) -> Result<Option<Sta
     Ok(Some(Statement::Reply {
         binary: Text::of(alloc, binary.text(text))?,
         filter: FilterText::of(alloc, text_of_tokens(text, filter))?,
+    }))
+}
+
+/// A policy: `NAME "BINARY"`.
+pub fn policy_row(
+    alloc: Global,
+    text: &[u8],
+    row: &[Token],
+) -> Result<Option<Statement>, AllocError>
+    ensures { IfOk result (λ found. found ≡ policy_row text.now row.now) }
+{
+    let [name, binary] = row else {
+        return Ok(None);
+    };
+    if !binary.kind.is_quoted() {
+        return Ok(None);
+    }
+    let Some(name) = word_at(text, name) else {
+        return Ok(None);
+    };
+    Ok(Some(Statement::Policy {
+        name: Text::of(alloc, name)?,
+        binary: Text::of(alloc, binary.text(text))?,
     }))
 }

@@ -2,4 +2,4 @@ use Rattle.st_reading.proofs.Runnable.{runnable}
 use Rattle.st_reading.proofs.law.what_is_meant_to_run_can_run.Goals as goal
 
 pub returns : goal.returns
-returns c = runnable c.what_is_replied_grants_no_ids_for_setting.ensures
+returns c = runnable c.what_is_replied_grants_no_ids_for_setting.ensures c.what_is_reloaded_grants_no_ids_for_setting.ensures

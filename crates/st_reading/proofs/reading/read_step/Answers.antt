@@ -1,4 +1,5 @@
-use Rattle.std.proofs.Common.{◌≡◌, ◌≢◌, ap, ◌∙◌, subst, [], ◌∷◌, ◌++◌, refl, Ok, Err}
+use Rattle.std.proofs.Common.{◌≡◌, ◌≢◌, ap, sym, ◌∙◌, subst, [], ◌∷◌, ◌++◌, refl, Ok, Err}
+use Rattle.st_law.specs.declared.input.Input.{Input}
 use Rattle.st_script.specs.Startable.{input_with}
 use Rattle.st_schedule.specs.Schedule.{schedule_in}
 use Rattle.st_command.specs.Command.{StepWords}
@@ -80,10 +81,11 @@ returns-clause-ends g c =
     let after = g.F.Files.faults c.read_schedule_file.new.files in
     let new = g.F.Files.asked c.read_schedule_file.new.files in
     let same = c.in_ok-policies.ensures.contents ∙ c.in_ok-script.ensures.contents in
-    subst (λ (s : StepWords). EndsReading contents (command.Step s) faults after old new (Ok (reading.Run (input_with c.in_ok-policies.policies c.step.inside.options c.in_ok-script.script) c.in_ok-schedule.schedule))) c.step.view_is
+    subst (λ (i : Input). EndsReading contents (command.Step c.args.step.now) faults after old new (Ok (reading.Run i c.in_ok-schedule.schedule))) (sym c.input_with-input.ensures)
+    (subst (λ (s : StepWords). EndsReading contents (command.Step s) faults after old new (Ok (reading.Run (input_with c.in_ok-policies.policies c.step.inside.options c.in_ok-script.script) c.in_ok-schedule.schedule))) c.step.view_is
     (step_read contents step faults after old new c.in_ok-script.script c.in_ok-policies.policies c.in_ok-schedule.schedule c.in_ok-script.ensures.ends
     (are_from contents (g.F.Files.contents c.read_script_file.new.files) c.in_ok-script.script.env (words_at c.step.inside.policies) (words_at c.as_slice.result.now) c.in_ok-script.ensures.contents (ap words_at c.as_slice.ensures) c.in_ok-policies.policies c.in_ok-policies.ensures.ends.0)
     (subst (λ (x : Contents). Has (x step.schedule) (λ text. c.in_ok-schedule.schedule ≡ schedule_in text)) same c.in_ok-schedule.ensures.ends)
     (asked_more ((old ++ step.script ∷ []) ++ step.policies) (g.F.Files.asked c.read_policy_files.new.files) new (step.schedule ∷ []) (step.schedule ∷ [])
     (asked_more (old ++ step.script ∷ []) (g.F.Files.asked c.read_script_file.new.files) (g.F.Files.asked c.read_policy_files.new.files) (words_at c.as_slice.result.now) (words_at c.step.inside.policies) c.in_ok-script.ensures.asked (ap words_at c.as_slice.ensures) c.in_ok-policies.ensures.ends.1)
-    refl c.in_ok-schedule.ensures.asked))
+    refl c.in_ok-schedule.ensures.asked)))

@@ -1,4 +1,5 @@
-use Rattle.std.proofs.Common.{ap, subst, [], ◌∷◌, ◌++◌, Ok}
+use Rattle.std.proofs.Common.{ap, sym, subst, [], ◌∷◌, ◌++◌, Ok}
+use Rattle.st_law.specs.declared.input.Input.{Input}
 use Rattle.st_script.specs.Startable.{input_with}
 use Rattle.st_command.specs.Command.{RunWords}
 use Rattle.st_reading.specs.Ends.{RefusesFiles}
@@ -45,7 +46,8 @@ returns-clause-ends g c =
     let run : RunWords = record { policies = words_at c.run.inside.policies; script = c.run.inside.script.now; options = c.run.inside.options; print = c.run.inside.print } in
     let after = g.F.Files.faults c.read_policy_files.new.files in
     let new = g.F.Files.asked c.read_policy_files.new.files in
-    subst (λ (r : RunWords). EndsReadingRun contents r faults after old new (Ok (input_with c.in_ok-policies.policies c.run.inside.options c.in_ok-script.script))) c.run.view_is
+    subst (λ (i : Input). EndsReadingRun contents c.args.run.now faults after old new (Ok i)) (sym c.input_with.ensures)
+    (subst (λ (r : RunWords). EndsReadingRun contents r faults after old new (Ok (input_with c.in_ok-policies.policies c.run.inside.options c.in_ok-script.script))) c.run.view_is
     (run_was_read contents run faults after old new c.in_ok-script.script c.in_ok-policies.policies c.in_ok-script.ensures.ends
     (are_from contents (g.F.Files.contents c.read_script_file.new.files) c.in_ok-script.script.env (words_at c.run.inside.policies) (words_at c.as_slice.result.now) c.in_ok-script.ensures.contents (ap words_at c.as_slice.ensures) c.in_ok-policies.policies c.in_ok-policies.ensures.ends.0)
-    (asked_more (old ++ run.script ∷ []) (g.F.Files.asked c.read_script_file.new.files) new (words_at c.as_slice.result.now) (words_at c.run.inside.policies) c.in_ok-script.ensures.asked (ap words_at c.as_slice.ensures) c.in_ok-policies.ensures.ends.1))
+    (asked_more (old ++ run.script ∷ []) (g.F.Files.asked c.read_script_file.new.files) new (words_at c.as_slice.result.now) (words_at c.run.inside.policies) c.in_ok-script.ensures.asked (ap words_at c.as_slice.ensures) c.in_ok-policies.ensures.ends.1)))

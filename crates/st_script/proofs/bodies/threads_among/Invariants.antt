@@ -4,7 +4,7 @@ use Rattle.st_script.proofs.bodies.threads_among.Given as goal
 
 -- the threads so far, and those of the rest, are those of all lines
 abbrev pub invariant-loop-line : goal.invariant-loop-line
-invariant-loop-line l = l.rows ++ threads_in l.processes l.threads l.rest ≡ threads_in l.processes l.threads l.lines
+invariant-loop-line l = l.rows ++ threads_in l.processes l.names l.rest ≡ threads_in l.processes l.names l.lines
 
 abbrev pub decreases-loop-line : goal.decreases-loop-line
 decreases-loop-line l = length l.rest
