@@ -1,25 +1,25 @@
 -- A run that learns through a link, the text of what it has learnt, and the policies that the text is read as.
 use Rattle.std.proofs.Common.{◌≡◌, true, false, List, [], ◌∷◌, ◌++◌, ℕ, Option, Some, None, Ok, refl, codes}
 use Rattle.std.specs.Prelude.{reverse}
+use Rattle.st_filter.specs.declared.set.BinaryPolicy.{BinaryPolicy}
 use Rattle.st_law.specs.Machine.{state_at}
-use Rattle.st_law.specs.Sessions.{SessionFilter}
 use Rattle.st_law.specs.declared.input.Input.{Input}
 use Rattle.st_law.proofs.Scripts.{passwd_only}
 use Rattle.st_law.proofs.SessionRuns.{link_learner}
 use Rattle.st_law.proofs.Writing.{policy, rest, trace}
-use Rattle.st_learn.specs.Learnt.{learnt_policies}
+use Rattle.st_learn.specs.Learnt.{learnt_in}
 use Rattle.st_grammar.specs.Reading.{policies_in}
 use Rattle.st_grammar.specs.declared.env.Env.{Env}
 use Rattle.st_trace.specs.declared.entry.Entry.{Entry}
-use Rattle.st_relearn.specs.Relearnt.{learnt_policy_text}
+use Rattle.st_printing.specs.Canon.{canon}
 
--- the filters that a run has added
-abbrev session_of : Input → Option (List Entry) → List SessionFilter
-session_of i None = []
-session_of i (Some entries) = (state_at i (reverse entries)).session
+-- the policies after a run, with what it has added
+abbrev policies_of : Input → Option (List Entry) → List BinaryPolicy
+policies_of i None = []
+policies_of i (Some entries) = learnt_in i (state_at i (reverse entries))
 
-abbrev added : List SessionFilter
-added = session_of link_learner (trace link_learner (rest ∷ []))
+abbrev learnt : List BinaryPolicy
+learnt = policies_of link_learner (trace link_learner (rest ∷ []))
 
 -- the environment without users and groups, in which filters are learnt
 abbrev learning : Env
@@ -29,11 +29,11 @@ learning = record { users = []; groups = []; dollars = record { home = codes "/r
 abbrev two_rows : List ℕ
 two_rows = codes "Policy: /bin/cat, Emulation: native" ++ 10 ∷ codes "native-fsread: filename eq \"/etc/passwd\" then permit" ++ 10 ∷ []
 
-learnt_text : learnt_policy_text [] added ≡ two_rows
+learnt_text : canon learnt ≡ two_rows
 learnt_text = refl
 
 learnt_text_is_read : policies_in two_rows learning [] ≡ Ok (policy "/bin/cat" (passwd_only ∷ []) ∷ [])
 learnt_text_is_read = refl
 
-what_was_learnt : learnt_policies [] added ≡ policy "/bin/cat" (passwd_only ∷ []) ∷ []
+what_was_learnt : learnt ≡ policy "/bin/cat" (passwd_only ∷ []) ∷ []
 what_was_learnt = refl

@@ -1,5 +1,5 @@
 -- The texts that a lawful run keeps can be quoted, so its copies can be quoted.
-use Rattle.std.proofs.Common.{◌≡◌, ◌==◌, ◌&&◌, ◌++◌, ℕ, zero, suc, Bool, true, false, cond, List, [], ◌∷◌, slice_get, option_map, Option, Some, None, refl, sym, subst}
+use Rattle.std.proofs.Common.{◌≡◌, ◌+◌, ◌==◌, ◌&&◌, ◌++◌, ℕ, zero, suc, Bool, true, false, cond, List, [], ◌∷◌, slice_get, option_map, Option, Some, None, refl, sym, subst}
 use Rattle.std.proofs.lemmas.List.Elements.{recursion_from_All}
 use Rattle.std.proofs.lemmas.Option.{same_Some}
 use Rattle.std.specs.List.{AllByRecursion, fold}
@@ -18,25 +18,27 @@ use Rattle.st_names.specs.Name.{Components}
 use Rattle.st_names.specs.declared.seen.SeenText.{SeenText}
 use Rattle.st_effects.specs.Changes.{process_after, process_after_change}
 use Rattle.st_effects.specs.Effect.{effect}
+use Rattle.st_effects.specs.Processes.{renewals_by}
 use Rattle.st_effects.specs.Progress.{ArgRequest, Look, Progress, Ready, Stuck, Word, progress}
-use Rattle.st_effects.specs.System.{Outcome}
+use Rattle.st_effects.specs.System.{HeldCall, Outcome}
 use Rattle.st_trace.specs.declared.entry.CallResult.{CallResult}
 use Rattle.st_trace.specs.declared.entry.Change.{Change}
 use Rattle.st_trace.specs.declared.entry.Change.TheVariants.{Cwd, Execed, Forked, Policy, Renewed, SetIds}
 use Rattle.st_trace.specs.declared.entry.Entry.{Entry}
-use Rattle.st_trace.specs.declared.entry.Entry.TheVariants.{Stored, Entered, Claimed, Copied, Looked, Faulted, Answered, Used, Denied, Ended, Replied, Learned}
+use Rattle.st_trace.specs.declared.entry.Entry.TheVariants.{Stored, Entered, Claimed, Copied, Looked, Faulted, Answered, Used, Denied, Ended, Replied, Learned, Reloaded}
 use Rattle.st_trace.specs.declared.entry.Way.{Way}
 use Rattle.st_trace.specs.declared.entry.Way.TheVariants.{Fast, Barred, Held, Untraced}
 use Rattle.st_trace.specs.declared.start.ProcessRow.{ProcessRow}
 use Rattle.st_law.specs.Arguments.{Surroundings}
 use Rattle.st_law.specs.History.{looking_back}
 use Rattle.st_law.specs.Inputs.{IsStartable}
-use Rattle.st_law.specs.Lawful.{IsEffect, IsFailure, IsLawful, IsLawfulBack, IsUnheldOutcome, IsUnlinkedOutcome, IsUsed, IsWay}
+use Rattle.st_law.specs.Lawful.{IsEffect, IsFailure, IsLawful, IsLawfulBack, IsReloaded, IsUnheldOutcome, IsUnlinkedOutcome, IsUsed, IsWay}
 use Rattle.st_law.specs.Machine.{first_state, state_after}
 use Rattle.st_law.specs.Messages.{Head, head_after, head_after_change, new_head, renewed_head}
 use Rattle.st_law.specs.Processes.{process_of_row}
-use Rattle.st_law.specs.State.{State, answer_in, arguments_now, link_now, process_in, progress_of_head, request_of, request_of_head, snapshot_in, snapshot_of_progress, snapshot_with, system_of}
+use Rattle.st_law.specs.State.{State, answer_in, arguments_now, link_now, process_in, progress_of_head, request_of, request_of_head, snapshot_in, snapshot_of_progress, snapshot_with, system_of, held_from, is_held_under, reload_changes, thread_count}
 use Rattle.st_law.specs.Threads.{History}
+use Rattle.st_law.specs.Versions.{version_after}
 use Rattle.st_law.specs.declared.input.Input.{Input}
 use Rattle.st_law.proofs.ShortArguments.{HasShortFirst, arguments_short, copies_short, fit_arguments}
 use Rattle.st_law.proofs.ShortLinks.{Short, short_of}
@@ -46,7 +48,7 @@ use Rattle.st_relearn.specs.Plain.{AreWritableCopies, HasPlainTexts, IsPlainProc
 use Rattle.st_relearn.specs.Writable.{IsWritableBinary}
 use Rattle.st_base.proofs.Each.{each-append}
 use Rattle.st_relearn.proofs.Names.{AreNames, ArePlainLooks, HasPlainLinks, IsPlainSeen, look_plain}
-use Rattle.st_relearn.proofs.Outcomes.{ArePlainChanges, IsPlainChange, plain_effect}
+use Rattle.st_relearn.proofs.Outcomes.{ArePlainChanges, IsPlainChange, plain_effect, renewals_plain}
 use Rattle.st_relearn.proofs.Parts.{ArePlainArgs, IsReadyWith, held_plain, texts_plain, unheld_plain}
 use Rattle.st_relearn.proofs.Trees.{rows_plain, tree_plain}
 
@@ -105,31 +107,31 @@ module _ (processes : ℕ → Process) (all : (p : ℕ) → IsPlain (processes p
 
 -- ---- heads
 
-head_renewed : (process : Process) (o : Option Head) → IsPlain process → IsPlainHead o → IsPlainHead (option_map (renewed_head process) o)
-head_renewed process None plain x = tt
-head_renewed process (Some head) plain x = (plain.cwd, x.1)
+head_renewed : (processes : ℕ → Process) (versions : List ℕ → ℕ) (o : Option Head) → ((p : ℕ) → IsPlain (processes p)) → IsPlainHead o → IsPlainHead (option_map (renewed_head processes versions) o)
+head_renewed processes versions None plain x = tt
+head_renewed processes versions (Some head) plain x = ((plain head.pid).cwd, x.1)
 
 either_head : (b : Bool) (x y : Option Head) → IsPlainHead x → IsPlainHead y → IsPlainHead (cond b x y)
 either_head true x y p q = p
 either_head false x y p q = q
 
-module _ (heads : ℕ → Option Head) (all : (q : ℕ) → IsPlainHead (heads q)) (process : Process) (plain : IsPlain process) (q : ℕ) where
-  head_change : (before : Option Head) (c : Change) → IsPlainHead before → IsPlainHead (head_after_change heads process q before c)
-  head_change before (Renewed old new) x = either_head (new == q) (option_map (renewed_head process) (heads old)) before (head_renewed process (heads old) plain (all old)) x
+module _ (heads : ℕ → Option Head) (all : (q : ℕ) → IsPlainHead (heads q)) (processes : ℕ → Process) (versions : List ℕ → ℕ) (plain : (p : ℕ) → IsPlain (processes p)) (q : ℕ) where
+  head_change : (before : Option Head) (c : Change) → IsPlainHead before → IsPlainHead (head_after_change heads (renewed_head processes versions) q before c)
+  head_change before (Renewed old new) x = either_head (new == q) (option_map (renewed_head processes versions) (heads old)) before (head_renewed processes versions (heads old) plain (all old)) x
   head_change before _ x = x
 
-  head_changes : (before : Option Head) (changes : List Change) → IsPlainHead before → IsPlainHead (fold (head_after_change heads process q) before changes)
+  head_changes : (before : Option Head) (changes : List Change) → IsPlainHead before → IsPlainHead (fold (head_after_change heads (renewed_head processes versions) q) before changes)
   head_changes before [] x = x
-  head_changes before (c ∷ changes) x = head_changes (head_after_change heads process q before c) changes (head_change before c x)
+  head_changes before (c ∷ changes) x = head_changes (head_after_change heads (renewed_head processes versions) q before c) changes (head_change before c x)
 
 -- the head of a call that is held; only calls of traced processes are
 head_entered : (i : Input) (st : State) → IsPlainState st → (t : ℕ) (call : SysCall) (regs : List ℕ) (way : Way) → IsWay (process_in st t).traced (suc st.posted) way (answer_in i st (process_in st t) call regs)
-    → (q : ℕ) → IsPlainHead (head_after i st.processes (st.threads t).owner (λ p. (st.messages p).head) (Entered t call regs way) q)
+    → (q : ℕ) → IsPlainHead (head_after i st.versions st.processes (st.threads t).owner (λ p. (st.messages p).head) (Entered t call regs way) q)
 head_entered i st x t call regs Fast is q = x.heads q
 head_entered i st x t call regs Untraced is q = x.heads q
 head_entered i st x t call regs (Barred n) is q = x.heads q
 head_entered i st x t call regs (Held p) is q =
-    either_head (p == q) (Some (new_head i t (st.threads t).owner (process_in st t) call regs)) (st.messages q).head
+    either_head (p == q) (Some (new_head i t (st.threads t).owner (process_in st t) (st.versions (process_in st t).policy) call regs)) (st.messages q).head
     ((x.processes (st.threads t).owner).cwd, (x.processes (st.threads t).owner).policy is.0) (x.heads q)
 
 -- ---- a call that is made
@@ -148,7 +150,7 @@ module _ (i : Input) (st : State) (s : Short i st) (x : IsPlainState st) where
         let after : (p : ℕ) → IsPlain (process_after st.processes m p changes) = λ p. process_changes st.processes x.processes m p (st.processes p) changes plain (x.processes p) in record {
           links = tree_plain st.tree changes fit plain x.links;
           processes = after;
-          heads = λ q. head_changes (λ p. (st.messages p).head) x.heads (process_after st.processes m m changes) (after m) q (st.messages q).head changes (x.heads q);
+          heads = λ q. head_changes (λ p. (st.messages p).head) x.heads (λ p. process_after st.processes m p changes) st.versions after q (st.messages q).head changes (x.heads q);
           looks = x.looks;
         }
 
@@ -187,6 +189,35 @@ module _ (i : Input) (st : State) (s : Short i st) (x : IsPlainState st) where
       (subst (HasShortFirst call) (sym y.args_are) (copies_short i st q y.copies call (s.rules q) y.permitted.judged.copies y.call_is))
       (subst ArePlainArgs (sym y.args_are) (texts_plain (args_of y.copies.rule) y.copies.parts parts.parts))
 
+  -- ---- a reload
+
+  renewals_fit : (is : HeldCall → Bool) (next : ℕ) (helds : List HeldCall) → AreFit st.tree.objects (renewals_by is next helds)
+  renewals_fit is next [] = tt
+  renewals_fit is next (held ∷ more) = by (is held) (renewals_fit is (next + 1) more) (renewals_fit is next more) where
+    by : (b : Bool) → AreFit st.tree.objects (renewals_by is (next + 1) more) → AreFit st.tree.objects (renewals_by is next more) → AreFit st.tree.objects (cond b (Renewed held.number next ∷ renewals_by is (next + 1) more) (renewals_by is next more))
+    by true fit rest = (tt, fit)
+    by false fit rest = rest
+
+  -- the changes of a reload leave no texts, whether it is done or not
+  reload_plain : (n : ℕ) (done : Bool) → ArePlainChanges (reload_changes i st n done) × AreFit st.tree.objects (reload_changes i st n done)
+  reload_plain n false = (tt, tt)
+  reload_plain n true = (renewals_plain (is_held_under i st n) (suc st.posted) (held_from st 1 (thread_count i)), renewals_fit (is_held_under i st n) (suc st.posted) (held_from st 1 (thread_count i)))
+
+  reloaded_plain : (t n : ℕ) (done : Bool) (changes : List Change) → AreFit st.tree.objects changes → ArePlainChanges changes → IsPlainState (state_after i st (Reloaded t n done changes))
+  reloaded_plain t n done changes fit plain =
+      let m : ℕ = (st.threads t).owner in
+      let after : (p : ℕ) → IsPlain (process_after st.processes m p changes) = λ p. process_changes st.processes x.processes m p (st.processes p) changes plain (x.processes p) in record {
+        links = tree_plain st.tree changes fit plain x.links;
+        processes = after;
+        heads = λ q. head_changes (λ p. (st.messages p).head) x.heads (λ p. process_after st.processes m p changes) (λ binary. version_after i (Reloaded t n done changes) binary (st.versions binary)) after q (st.messages q).head changes (x.heads q);
+        looks = x.looks;
+      }
+
+  reload_keeps : (t n : ℕ) (done : Bool) (changes : List Change) → IsReloaded i st t n done changes → IsPlainState (state_after i st (Reloaded t n done changes))
+  reload_keeps t n done changes y =
+      let both = reload_plain n done in
+      subst (λ cs. IsPlainState (state_after i st (Reloaded t n done cs))) (sym y.changes_are) (reloaded_plain t n done (reload_changes i st n done) both.1 both.0)
+
   -- ---- every entry
 
   looks_more : (b : Bool) (before : List SeenText) (seen : SeenText) → ArePlainLooks before → IsPlainSeen seen → ArePlainLooks (cond b (before ++ seen ∷ []) before)
@@ -195,6 +226,7 @@ module _ (i : Input) (st : State) (s : Short i st) (x : IsPlainState st) where
 
   plain_after : (e : Entry) → IsLawful i st e → IsPlainState (state_after i st e)
   plain_after (Used t seq call regs args ids result changes) y = call_plain t seq call regs args ids result changes y
+  plain_after (Reloaded t n done changes) y = reload_keeps t n done changes y
   plain_after (Entered t call regs way) y = record { links = x.links; processes = x.processes; heads = head_entered i st x t call regs way y.way_is; looks = x.looks }
   plain_after (Looked p part name seen) y = record {
     links = x.links;

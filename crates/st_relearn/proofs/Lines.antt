@@ -5,22 +5,27 @@ use Rattle.std.specs.List.{AllByRecursion, list_all, list_any, onto_first, slice
 use Rattle.std.specs.Prelude.{IfSome, option_and_then, option_map}
 use Rattle.st_lex.specs.Quote.{AreBytes}
 use Rattle.st_lex.specs.Rows.{ends_line, has_token, rows}
-use Rattle.st_lex.specs.Text.{is_keyword, is_quoted, text_of_token}
+use Rattle.st_lex.specs.Text.{inside, is_keyword, is_quoted, text_of_token}
 use Rattle.st_lex.specs.Tokens.{lexed_text}
 use Rattle.st_lex.specs.declared.token.LexFault.{LexFault}
 use Rattle.st_lex.specs.declared.token.Token.{Token}
+use Rattle.st_lex.specs.declared.token.TokenKind.{TokenKind}
+use Rattle.st_lex.specs.declared.token.TokenKind.TheVariants as kinds
+use Rattle.st_lex.proofs.Insides.{IsInside}
 use Rattle.st_lex.proofs.Wholes.{HasInside, IsWholeToken, quotes_inside, words_whole}
 use Rattle.st_model.specs.declared.object.NewKind.{NewKind}
 use Rattle.st_model.specs.declared.object.NewKind.TheVariants as made
 use Rattle.st_model.specs.declared.object.NewNode.{NewNode}
 use Rattle.st_names.specs.Name.{split_at_slashes}
 use Rattle.st_statements.specs.Accounts.{group_row, user_row}
-use Rattle.st_statements.specs.Instructions.{call_at, call_row, end_row, fork_row, put_row, registers, store_row}
+use Rattle.st_statements.specs.Instructions.{call_at, call_row, end_row, fork_row, put_row, registers, reload_row, store_row}
 use Rattle.st_statements.specs.Lines.{tokens_before_fault_line, up_to_last_line, whole_lines}
 use Rattle.st_statements.specs.Objects.{dir_row, new_file, file_node, file_row, link_at, link_row, link_to, new_node, object_statement}
 use Rattle.st_statements.specs.Parts.{last_end, if_normal, is_normal, is_plain_part, path_at, place_at, quoted_at, text_of_tokens, word_at}
-use Rattle.st_statements.specs.Statements.{inner_row, is_inside_after, script_lines_from, lines_in, outer_row, statement_of}
-use Rattle.st_statements.specs.Tasks.{process_row, reply_row, thread_row, traced_at}
+use Rattle.st_statements.specs.Statements.{body_after, inner_row, policy_body_row, script_lines_from, lines_in, outer_row, statement_of}
+use Rattle.st_statements.specs.Tasks.{policy_row, process_row, reply_row, thread_row, traced_at}
+use Rattle.st_statements.specs.declared.statement.OpenBody.{OpenBody}
+use Rattle.st_statements.specs.declared.statement.OpenBody.TheVariants.{NoBody, ThreadBody, PolicyBody}
 use Rattle.st_statements.specs.Values.{id_at, mode_at, number_token, number_below}
 use Rattle.st_statements.specs.declared.objects.TheConstants.{LINK_MODE}
 use Rattle.st_statements.specs.declared.statement.ScriptLine.{ScriptLine}
@@ -39,6 +44,8 @@ IsPlainStatement (says.Group group) = IsId group.gid
 IsPlainStatement (says.Object path new) = HasPlainTarget new.kind
 IsPlainStatement (says.Process process) = IsWritableBinary process.binary × AreBytes process.cwd
 IsPlainStatement (says.Reply binary filter) = AreSmall filter
+IsPlainStatement (says.Policy name binary) = IsInside (inside binary)
+IsPlainStatement (says.Filter text) = AreSmall text
 IsPlainStatement _ = Unit {0}
 
 -- the same of each line that says something
@@ -152,6 +159,13 @@ reply_plain : (text : List ℕ) (row : List Token) → AreSmall text → IfSome 
 reply_plain text [] small = tt
 reply_plain text (binary ∷ filter) small = if_either IsPlainStatement (is_quoted binary.kind) (Some (says.Reply (text_of_token text binary) (text_of_tokens text filter))) None (tokens_small text filter small) tt
 
+policy_plain : (text : List ℕ) (row : List Token) → AreGood text row → IfSome (policy_row text row) IsPlainStatement
+policy_plain text (name ∷ binary ∷ []) good = by binary.kind good.1.0.1 where
+  by : (k : TokenKind) → (k ≡ kinds.Quoted → IsInside (inside (text_of_token text binary))) → IfSome (if is_quoted k then option_map (λ n. says.Policy n (text_of_token text binary)) (word_at text name) else None) IsPlainStatement
+  by kinds.Quoted well = map_any IsPlainStatement (λ n. says.Policy n (text_of_token text binary)) (word_at text name) (λ n. well refl)
+  by _ well = tt
+policy_plain text _ good = tt
+
 store_plain : (text : List ℕ) (row : List Token) → IfSome (store_row text row) IsPlainStatement
 store_plain text (place ∷ word ∷ []) = then_any IsPlainStatement _ _ (λ p. map_any IsPlainStatement (says.Store p) (number_token text word) (λ w. tt))
 store_plain text _ = tt
@@ -169,6 +183,10 @@ fork_plain : (text : List ℕ) (row : List Token) → IfSome (fork_row text row)
 fork_plain text (name ∷ []) = map_any IsPlainStatement says.Fork (word_at text name) (λ n. tt)
 fork_plain text _ = tt
 
+reload_plain : (text : List ℕ) (row : List Token) → IfSome (reload_row text row) IsPlainStatement
+reload_plain text (name ∷ []) = map_any IsPlainStatement says.Reload (word_at text name) (λ n. tt)
+reload_plain text _ = tt
+
 end_plain : (row : List Token) → IfSome (end_row row) IsPlainStatement
 end_plain [] = tt
 end_plain (token ∷ tokens) = tt
@@ -182,7 +200,8 @@ outer_plain text keyword row small good =
     (if_either IsPlainStatement (is_keyword text (codes "link") keyword) _ _ (link_plain text row good)
     (if_either IsPlainStatement (is_keyword text (codes "process") keyword) _ _ (process_plain text row good)
     (if_either IsPlainStatement (is_keyword text (codes "thread") keyword) _ _ (thread_plain text row)
-    (if_either IsPlainStatement (is_keyword text (codes "reply") keyword) _ None (reply_plain text row small) tt)))))))
+    (if_either IsPlainStatement (is_keyword text (codes "reply") keyword) _ _ (reply_plain text row small)
+    (if_either IsPlainStatement (is_keyword text (codes "policy") keyword) _ None (policy_plain text row good) tt))))))))
 
 inner_plain : (text : List ℕ) (keyword : Token) (row : List Token) → IfSome (inner_row text keyword row) IsPlainStatement
 inner_plain text keyword row =
@@ -190,17 +209,22 @@ inner_plain text keyword row =
     (if_either IsPlainStatement (is_keyword text (codes "put") keyword) _ _ (put_plain text row)
     (if_either IsPlainStatement (is_keyword text (codes "call") keyword) _ _ (call_plain text row)
     (if_either IsPlainStatement (is_keyword text (codes "fork") keyword) _ _ (fork_plain text row)
-    (if_either IsPlainStatement (is_keyword text (codes "end") keyword) _ None (end_plain row) tt))))
+    (if_either IsPlainStatement (is_keyword text (codes "reload") keyword) _ _ (reload_plain text row)
+    (if_either IsPlainStatement (is_keyword text (codes "end") keyword) _ None (end_plain row) tt)))))
 
-row_plain : (text : List ℕ) (inside : Bool) (row : List Token) → AreSmall text → AreGood text row → IfSome (statement_of text inside row) IsPlainStatement
-row_plain text inside [] small good = tt
-row_plain text true (keyword ∷ row) small good = inner_plain text keyword row
-row_plain text false (keyword ∷ row) small good = outer_plain text keyword row small good.1
+policy_body_plain : (text : List ℕ) (keyword : Token) (row : List Token) → AreSmall text → IfSome (policy_body_row text keyword row) IsPlainStatement
+policy_body_plain text keyword row small = if_either IsPlainStatement (is_keyword text (codes "end") keyword) _ _ (end_plain row) (tokens_small text (keyword ∷ row) small)
 
-lines_plain : (text : List ℕ) (inside : Bool) (rows : List (List Token)) → AreSmall text → AllByRecursion (AreGood text) rows → ArePlainLines (script_lines_from text inside rows)
-lines_plain text inside [] small good = tt
-lines_plain text inside (row ∷ rows) small good =
-    (row_plain text inside row small good.0, lines_plain text (is_inside_after inside (statement_of text inside row)) rows small good.1)
+row_plain : (text : List ℕ) (body : OpenBody) (row : List Token) → AreSmall text → AreGood text row → IfSome (statement_of text body row) IsPlainStatement
+row_plain text body [] small good = tt
+row_plain text ThreadBody (keyword ∷ row) small good = inner_plain text keyword row
+row_plain text PolicyBody (keyword ∷ row) small good = policy_body_plain text keyword row small
+row_plain text NoBody (keyword ∷ row) small good = outer_plain text keyword row small good.1
+
+lines_plain : (text : List ℕ) (body : OpenBody) (rows : List (List Token)) → AreSmall text → AllByRecursion (AreGood text) rows → ArePlainLines (script_lines_from text body rows)
+lines_plain text body [] small good = tt
+lines_plain text body (row ∷ rows) small good =
+    (row_plain text body row small good.0, lines_plain text (body_after body (statement_of text body row)) rows small good.1)
 
 -- ---- the tokens of rows
 
@@ -238,4 +262,4 @@ both_each P Q (token ∷ tokens) x y = ((x.0, y.0), both_each P Q tokens x.1 y.1
 pub script_lines : (text : List ℕ) → AreSmall text → ArePlainLines (lines_in text)
 script_lines text small =
     let good : AllByRecursion (IsGood text) (lexed_text text).tokens = both_each (IsWholeToken text) (HasInside text) (lexed_text text).tokens (words_whole text) (quotes_inside text small) in
-    lines_plain text false (rows (tokens_before_fault_line (lexed_text text))) small (rows_each (IsGood text) (tokens_before_fault_line (lexed_text text)) (whole_each (IsGood text) (lexed_text text).tokens (lexed_text text).fault good))
+    lines_plain text NoBody (rows (tokens_before_fault_line (lexed_text text))) small (rows_each (IsGood text) (tokens_before_fault_line (lexed_text text)) (whole_each (IsGood text) (lexed_text text).tokens (lexed_text text).fault good))

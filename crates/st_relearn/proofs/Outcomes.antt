@@ -22,7 +22,7 @@ use Rattle.st_effects.specs.Descriptors.{low_mode, open_node_outcome, put_change
 use Rattle.st_effects.specs.Effect.{effect}
 use Rattle.st_effects.specs.NameTests.{Object, object_at, on_found, on_object}
 use Rattle.st_effects.specs.Names.{link_mode, make_outcome, move_outcome}
-use Rattle.st_effects.specs.Processes.{policy_changes, renewals, set_ids_outcome}
+use Rattle.st_effects.specs.Processes.{is_other_of, policy_changes, renewals_by, set_ids_outcome}
 use Rattle.st_effects.specs.System.{HeldCall, Outcome, Request, System, arg_name_at, arg_text_at, register, success, unless_error, unless_refused}
 use Rattle.st_trace.specs.declared.entry.CallResult.{CallResult}
 use Rattle.st_trace.specs.declared.entry.Change.{Change}
@@ -41,6 +41,14 @@ IsPlainChange _ = Unit {0}
 
 abbrev pub ArePlainChanges : List Change → Type 0
 ArePlainChanges changes = AllByRecursion IsPlainChange changes
+
+-- renewals leave no texts
+pub renewals_plain : (is : HeldCall → Bool) (next : ℕ) (helds : List HeldCall) → ArePlainChanges (renewals_by is next helds)
+renewals_plain is next [] = tt
+renewals_plain is next (held ∷ more) = by (is held) (renewals_plain is (next + 1) more) (renewals_plain is next more) where
+  by : (b : Bool) → ArePlainChanges (renewals_by is (next + 1) more) → ArePlainChanges (renewals_by is next more) → ArePlainChanges (cond b (Renewed held.number next ∷ renewals_by is (next + 1) more) (renewals_by is next more))
+  by true x y = (tt, x)
+  by false x y = y
 
 -- ---- arguments
 
@@ -149,15 +157,8 @@ module _ (system : System) (request : Request) where
   execed_fine : (result : CallResult) (table : Table) (binary : List ℕ) → IsWritableBinary binary → Fine (record { result = result; changes = Execed binary system.next_space ∷ policy_changes request.inherit binary; descriptors = table })
   execed_fine result table binary x = (tt, policy_fine request.inherit binary x)
 
-  renewals_fine : (pid tid next : ℕ) (helds : List HeldCall) → ArePlainChanges (renewals pid tid next helds)
-  renewals_fine pid tid next [] = tt
-  renewals_fine pid tid next (held ∷ more) = by _ (renewals_fine pid tid (next + 1) more) (renewals_fine pid tid next more) where
-    by : (b : Bool) → ArePlainChanges (renewals pid tid (next + 1) more) → ArePlainChanges (renewals pid tid next more) → ArePlainChanges (cond b (Renewed held.number next ∷ renewals pid tid (next + 1) more) (renewals pid tid next more))
-    by true x y = (tt, x)
-    by false x y = y
-
   set_fine : (setting : SysCall) → Fine (set_ids_outcome setting system request)
-  set_fine setting = unless (set_refused setting request.ids (register request 0) ∷ []) _ (tt, renewals_fine request.pid request.tid system.next_number system.held)
+  set_fine setting = unless (set_refused setting request.ids (register request 0) ∷ []) _ (tt, renewals_plain (is_other_of request.pid request.tid) system.next_number system.held)
 
 -- every call
 module _ (system : System) (request : Request) (plain : ArePlainArgs request.args) where

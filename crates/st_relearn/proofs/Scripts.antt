@@ -1,8 +1,8 @@
 -- The texts, ids and replies of a script that is read can be written.
 use Rattle.std.proofs.Common.{◌≡◌, ◌≤◌, ◌<◌, ◌==◌, ◌∙◌, ◌++◌, ℕ, Bool, true, false, cond, if◌then◌else◌, List, [], ◌∷◌, codes, map, Option, Some, None, Ok, Err, refl, sym, subst, ap}
 use Rattle.std.proofs.lemmas.List.Elements.{All-from_recursion, recursion_from_All}
-use Rattle.std.specs.List.{AllByRecursion, cons_option, filter_map}
-use Rattle.std.specs.Prelude.{IfSome, find}
+use Rattle.std.specs.List.{AllByRecursion, cons_option, filter_map, starts_with}
+use Rattle.std.specs.Prelude.{IfSome, find, nat_eq}
 use Rattle.st_base.specs.declared.ids.Ids.{Ids}
 use Rattle.st_calls.specs.declared.argument.ArgText.{ArgText}
 use Rattle.st_calls.specs.declared.call.SysCall.{SysCall}
@@ -13,24 +13,27 @@ use Rattle.st_filter.specs.declared.filter.Action.TheVariants.{Permit, Deny, Ask
 use Rattle.st_filter.specs.declared.set.BinaryPolicy.{BinaryPolicy}
 use Rattle.st_filter.specs.declared.set.Reply.{Reply}
 use Rattle.st_filter.specs.declared.set.TheConstants.{MOST_FILTERS}
-use Rattle.st_law.specs.History.{looking_back, session_at}
+use Rattle.st_law.specs.History.{looking_back}
 use Rattle.st_law.specs.Lawful.{IsLawfulBack}
 use Rattle.st_law.specs.Threads.{History}
 use Rattle.st_law.specs.declared.input.Mode.TheVariants.{Learn}
 use Rattle.st_law.specs.declared.input.Options.{Options}
-use Rattle.st_learn.specs.Learnt.{learnt_policies}
+use Rattle.st_learn.specs.Learnt.{learnt_in}
 use Rattle.st_lex.specs.Quote.{AreBytes}
+use Rattle.st_lex.specs.Text.{inside}
 use Rattle.st_lex.specs.Tokens.{lexed_text}
 use Rattle.st_lex.specs.Unquote.{unquoted}
+use Rattle.st_lex.proofs.Holdings.{holds_bytes}
+use Rattle.st_grammar.specs.Grammar.{if_absolute}
 use Rattle.st_names.specs.Name.{components_of}
 use Rattle.st_grammar.specs.OneFilter.{FilterResult, ReadsFilter, filter_in}
 use Rattle.st_reread.specs.Readable.{AreTextBytes, HasPlainDollars, HasSmallIds, WasRead}
 use Rattle.st_grammar.specs.declared.env.Env.{Env}
 use Rattle.st_script_faults.specs.Environment.{dollars_by, dollars_of, environment_of, first_traced, group_id, groups_below, is_given, learns, new_group, new_user, script_process, user_id, user_of, users_below}
-use Rattle.st_script_faults.specs.Faults.{reply_filter, reply_said, script_fault, unless_ask}
+use Rattle.st_script_faults.specs.Faults.{filter_read, filter_said, policy_said, reply_filter, reply_said, script_fault, unless_ask}
 use Rattle.st_script_faults.specs.Names.{Name, is_name_among, with_new_name}
 use Rattle.st_script_faults.specs.declared.fault.ScriptFault.{ScriptFault}
-use Rattle.st_script.specs.Reading.{object_said, process_said, script_in, script_with, start_of, unless_fault}
+use Rattle.st_script.specs.Reading.{blocks_in, filters_below, object_said, process_said, script_in, script_with, start_of, unless_begun, unless_fault, with_block}
 use Rattle.st_script.specs.Startable.{IsRunnableScript, input_with}
 use Rattle.st_script.specs.declared.reading.ReadScript.{ReadScript}
 use Rattle.st_statements.specs.Parts.{is_normal}
@@ -48,7 +51,7 @@ use Rattle.st_trace.specs.declared.start.UserRow.{UserRow}
 use Rattle.st_relearn.specs.Plain.{HasPlainTarget, HasPlainTexts, IsPlainProcess}
 use Rattle.st_relearn.specs.Relearnt.{ReadsAndPermits, learnt_policy_text}
 use Rattle.st_relearn.specs.Scripts.{HasPlainScript}
-use Rattle.st_relearn.specs.Writable.{IsId, IsWritableFilter}
+use Rattle.st_relearn.specs.Writable.{IsId, IsWritableBinary, IsWritableFilter, IsWritablePolicy}
 use Rattle.st_relearn.proofs.Lines.{ArePlainLines, IsPlainStatement, if_either, if_map, script_lines}
 use Rattle.st_relearn.proofs.Names.{components_plain}
 use Rattle.st_relearn.proofs.Replies.{reply_is_writable}
@@ -196,12 +199,48 @@ module _ (options : Options) (lines : List ScriptLine) (plain : ArePlainLines li
         (if_map (IsWritableFilter env) IsWritableReply (λ f. record { binary = unquoted env.dollars binary; filter = f }) (reply_filter (filter_in filter env)) (answer_plain filter (filter_in filter env) refl small) (λ f w. w)) tt
     reply_plain _ small = tt
 
+    -- ---- policies
+
+    binary_plain : (binary : List ℕ) → AreBytes binary → IfSome (if_absolute binary) IsWritableBinary
+    binary_plain binary bytes = by (starts_with nat_eq binary (codes "/")) refl where
+      by : (b : Bool) → starts_with nat_eq binary (codes "/") ≡ b → IfSome (if b then Some binary else None) IsWritableBinary
+      by true is = record { absolute = λ k. if is k then Some binary else None; bytes = bytes }
+      by false is = tt
+
+    policy_plain : (o : Option Statement) → IfSome o IsPlainStatement → IfSome (policy_said env o) IsWritableBinary
+    policy_plain (Some (says.Policy name binary)) well = binary_plain (unquoted env.dollars binary) (holds_bytes env.dollars (inside binary) plain_dollars.home plain_dollars.user plain_dollars.cwd well)
+    policy_plain _ well = tt
+
+    read_plain : (text : List ℕ) (r : FilterResult) → filter_in text env ≡ r → AllByRecursion (λ b. b < 256) text → IfSome (filter_read r) (IsWritableFilter env)
+    read_plain text (Ok f) is small = reply_is_writable env text f (sound text env f is) (All-from_recursion (λ b. b < 256) text small) plain_dollars small_ids
+    read_plain text (Err fault) is small = tt
+
+    filter_plain : (o : Option Statement) → IfSome o IsPlainStatement → IfSome (filter_said env o) (IsWritableFilter env)
+    filter_plain (Some (says.Filter text)) small = read_plain text (filter_in text env) refl small
+    filter_plain _ small = tt
+
+    filters_plain : (below : List ScriptLine) → ArePlainLines below → AllByRecursion (IsWritableFilter env) (filters_below env below)
+    filters_plain [] here = tt
+    filters_plain (line ∷ below) here = by (policy_said env line.says) (filter_said env line.says) (filter_plain line.says here.0) (filters_plain below here.1) where
+      by : (begun : Option (List ℕ)) (o : Option FilterValue) → IfSome o (IsWritableFilter env) → AllByRecursion (IsWritableFilter env) (filters_below env below) → AllByRecursion (IsWritableFilter env) (unless_begun begun (cons_option o (filters_below env below)))
+      by (Some binary) o first rest = tt
+      by None None first rest = rest
+      by None (Some f) first rest = (first, rest)
+
+    blocks_plain : (below : List ScriptLine) → ArePlainLines below → AllByRecursion (IsWritablePolicy env) (blocks_in env below)
+    blocks_plain [] here = tt
+    blocks_plain (line ∷ below) here = by (policy_said env line.says) (policy_plain line.says here.0) (blocks_plain below here.1) where
+      by : (o : Option (List ℕ)) → IfSome o IsWritableBinary → AllByRecursion (IsWritablePolicy env) (blocks_in env below) → AllByRecursion (IsWritablePolicy env) (with_block o (filters_below env below) (blocks_in env below))
+      by None first rest = rest
+      by (Some binary) first rest = (record { binary = first; filters = All-from_recursion (IsWritableFilter env) (filters_below env below) (filters_plain below here.1) }, rest)
+
     lines_written : HasPlainScript (script_with env lines)
     lines_written = record {
       dollars = plain_dollars;
       ids = small_ids;
       texts = start_plain lines plain;
       replies = All-from_recursion IsWritableReply _ (each_given IsPlainLine IsWritableReply (λ line. reply_said env line.says) lines plain (λ line here. reply_plain line.says here));
+      blocks = All-from_recursion (IsWritablePolicy env) (blocks_in env lines) (blocks_plain lines plain);
     }
 
 -- ---- scripts
@@ -232,10 +271,10 @@ pub script_permits_made : PermitsMade → ReadsOnce → ReadsFilters → Scripts
     AreTextBytes text → script_in text options ≡ Ok script → options.mode ≡ Learn → 1 ≤ options.workers → options.workers ≤ 8 → WasRead script.env policies →
     (later earlier : History) (t q : ℕ) (call : SysCall) (regs : List ℕ) (args : List ArgText) (ids : Ids) (result : CallResult) (changes : List Change) →
     IsLawfulBack (input_with policies options script) (later ++ Used t (Some q) call regs args ids result changes ∷ earlier) →
-    filters_in (learnt_policies policies (session_at (input_with policies options script) (later ++ Used t (Some q) call regs args ids result changes ∷ earlier))) ≤ MOST_FILTERS →
-    ReadsAndPermits (learnt_policy_text policies (session_at (input_with policies options script) (later ++ Used t (Some q) call regs args ids result changes ∷ earlier))) script.env (looking_back (input_with policies options script) earlier) q ids
+    filters_in (learnt_in (input_with policies options script) (looking_back (input_with policies options script) (later ++ Used t (Some q) call regs args ids result changes ∷ earlier))) ≤ MOST_FILTERS →
+    ReadsAndPermits (learnt_policy_text (input_with policies options script) (looking_back (input_with policies options script) (later ++ Used t (Some q) call regs args ids result changes ∷ earlier))) script.env (looking_back (input_with policies options script) earlier) q ids
 script_permits_made permits_made once sound start text options script policies bytes e mode some few was later earlier t q call regs args ids result changes lawful room =
     let plain : HasPlainScript script = script_is_plain sound text options script bytes e in
     let learning : script.env.learn ≡ true = ap (λ (s : ReadScript). s.env.learn) (sym (read_is text options script e)) ∙ ap learns mode in
-    learnt_permits_made permits_made once script.env (input_with policies options script) ((start text options script e).startable policies options some few) plain.texts mode learning plain.dollars plain.ids was
+    learnt_permits_made permits_made once script.env (input_with policies options script) ((start text options script e).startable policies options (λ learns. learning) some few) plain.texts mode learning plain.dollars plain.ids was
     later earlier t q call regs args ids result changes lawful room

@@ -38,14 +38,14 @@ module _ (written : WrittenIsReadAgain) (sound : IsSound) (complete : IsComplete
   module _ (w : IsStepRead WasRead contents step (Runs i schedule)) where
     -- the script, as it is read again
     abbrev script : ReadScript
-    script = record { start = w.script.start; env = environment_of again.options (lines_in w.script_text); replies = w.script.replies }
+    script = record { start = w.script.start; env = environment_of again.options (lines_in w.script_text); replies = w.script.replies; blocks = w.script.blocks }
 
     script_file : IsScript (contents again.script) again.options script
     script_file = record {
       text = w.script_text;
       content = subst (λ (word : Word). CanHold (contents word) w.script_text) (sym script_is) w.script_held;
       within = w.script_within;
-      says = script_so sound complete w.script_text step.options again.options ids w.script w.script_is;
+      says = script_so sound complete w.script_text step.options again.options learning ids w.script w.script_is;
     }
 
     policy_file : IsPolicy (contents name) script.env [] (policies_after i choices)
@@ -60,12 +60,12 @@ module _ (written : WrittenIsReadAgain) (sound : IsSound) (complete : IsComplete
     policy_files = subst (λ (names : List Word). ArePolicies contents script.env names [] (policies_after i choices)) (sym alone) (policies_after i choices, policy_file, refl)
 
     runs_so : (text : List ℕ) → CanHold (contents again.schedule) text → length text ≤ FILE_LIMIT →
-        Means contents (Step again) (Runs (record i { policies = policies_after i choices; options = again.options }) (schedule_in text))
+        Means contents (Step again) (Runs (record i { policies = record { read = policies_after i choices; blocks = i.policies.blocks }; options = again.options }) (schedule_in text))
     runs_so text there within =
         let input_is : i ≡ input_with w.policies step.options w.script = ap (input_or i) w.outcome_is in
-        subst (λ (j : Input). Means contents (Step again) (Runs (record j { policies = policies_after i choices; options = again.options }) (schedule_in text))) (sym input_is)
+        subst (λ (j : Input). Means contents (Step again) (Runs (record j { policies = record { read = policies_after i choices; blocks = j.policies.blocks }; options = again.options }) (schedule_in text))) (sym input_is)
         (step_means contents again script (policies_after i choices) (schedule_in text) script_file policy_files (record { text = text; content = there; within = within; says = refl }))
 
   pub can_be_enforced : (text : List ℕ) → CanHold (contents again.schedule) text → length text ≤ FILE_LIMIT →
-      Means contents (Step again) (Runs (record i { policies = policies_after i choices; options = again.options }) (schedule_in text))
+      Means contents (Step again) (Runs (record i { policies = record { read = policies_after i choices; blocks = i.policies.blocks }; options = again.options }) (schedule_in text))
   can_be_enforced = runs_so (was_read contents step bytes i schedule meant)

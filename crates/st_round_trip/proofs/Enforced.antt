@@ -113,8 +113,8 @@ module _ (written : WrittenIsReadAgain) (contents : Contents) (step : StepWords)
         (read_under w again.options ids).alone x.policies
         (subst (λ (env : Env). Reads (printed print.Policy i choices) env [] x.policies) own (subst (λ (text : List ℕ). Reads text x.script.env [] x.policies) text_is x.reads))
 
-    pub is_enforced : (other : Input) (later : ReadSchedule) → Means contents (Step again) (Runs other later) → PermitsWhatWasMade i other.policies (reverse (run i choices))
+    pub is_enforced : (other : Input) (later : ReadSchedule) → Means contents (Step again) (Runs other later) → PermitsWhatWasMade i other.policies.read (reverse (run i choices))
     is_enforced other later meant_again =
         let x = read_alone contents again name other later alone meant_again in
-        let is : other.policies ≡ policies_after i choices = ap (λ (input : Input). input.policies) x.input_is ∙ same_policies other x in
+        let is : other.policies.read ≡ policies_after i choices = ap (λ (input : Input). input.policies.read) x.input_is ∙ same_policies other x in
         subst (λ (policies : List BinaryPolicy). PermitsWhatWasMade i policies (reverse (run i choices))) (sym is) (permits contents step i schedule limits learning meant choices)

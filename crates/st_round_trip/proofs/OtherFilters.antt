@@ -1,5 +1,5 @@
 -- A filter that doesn't ask is read as the same filter whether filters are learnt or not.
-use Rattle.std.proofs.Common.{◌≡◌, ◌≢◌, ◌∙◌, ℕ, Bool, List, Option, Some, None, Ok, Err, refl, ap, sym, subst}
+use Rattle.std.proofs.Common.{◌≡◌, ◌≢◌, ◌∙◌, ℕ, Bool, true, List, Option, Some, None, Ok, Err, refl, ap, sym, subst}
 use Rattle.std.proofs.lemmas.Option.{same_Some}
 use Rattle.st_filter.specs.Formula.{Formula, FilterValue, Level}
 use Rattle.st_filter.specs.declared.filter.Action.{Action}
@@ -121,6 +121,19 @@ module _ (users groups : List NamedId) (dollars : Dollars) (elevate : Bool) wher
           let kept = kept_filter g f g.action said in
           let read : filter_in text (env_with b) ≡ Ok g = complete text (env_with b) g (text_so text g kept.1 (sound text (env_with a) g is)) in
           ap reply_filter read ∙ (filter_kept g g.action kept.1 ∙ ap Some kept.0)
+
+  -- a filter doesn't ask if it is read while filters are learnt
+  learnt_action : {ts : List Symbol} {action : Action} → IsAction (env_with true) ts action → action ≢ Ask
+  learnt_action Permits = λ asks. cc
+  learnt_action Denies = λ asks. cc
+  learnt_action (DeniesWith named) = λ asks. cc
+  learnt_action (Asks is) = absurd (cc)
+
+  -- so it is read while they aren't learnt, too
+  pub learnt_read : IsSound → IsComplete → (b : Bool) (text : List ℕ) (f : FilterValue) → filter_in text (env_with true) ≡ Ok f → filter_in text (env_with b) ≡ Ok f
+  learnt_read sound complete b text f is =
+      let reads : ReadsFilter text (env_with true) f = sound text (env_with true) f is in
+      complete text (env_with b) f (text_so true b text f (learnt_action reads.is.action_is) reads)
 
   -- the answer of a text doesn't depend on whether filters are learnt
   pub same_answer : IsSound → IsComplete → (a b : Bool) (text : List ℕ) → reply_filter (filter_in text (env_with a)) ≡ reply_filter (filter_in text (env_with b))

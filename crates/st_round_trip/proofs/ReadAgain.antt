@@ -7,14 +7,14 @@ use Rattle.st_command.specs.Reading.{IsWithinLimits}
 use Rattle.st_command.specs.Words.{Word}
 use Rattle.st_command.specs.declared.command.Command.TheVariants.{Step}
 use Rattle.st_filter.specs.Formula.{FilterValue}
-use Rattle.st_filter.specs.Policies.{filters_in}
+use Rattle.st_filter.specs.Policies.{PoliciesValue, filters_in}
 use Rattle.st_filter.specs.declared.filter.Action.{Action}
 use Rattle.st_filter.specs.declared.filter.Action.TheVariants.{Permit, Deny, Ask}
 use Rattle.st_filter.specs.declared.filter.FilterName.{FilterName}
 use Rattle.st_filter.specs.declared.filter.Grant.{Grant}
 use Rattle.st_filter.specs.declared.set.BinaryPolicy.{BinaryPolicy}
 use Rattle.st_filter.specs.declared.set.TheConstants.{MOST_FILTERS}
-use Rattle.st_law.specs.History.{session_at}
+use Rattle.st_law.specs.History.{looking_back, session_at}
 use Rattle.st_law.specs.Inputs.{IsStartable}
 use Rattle.st_law.specs.Lawful.{IsLawfulBack}
 use Rattle.st_law.specs.Machine.{run}
@@ -34,9 +34,10 @@ use Rattle.st_reading.specs.Meaning.{Contents, Means, Runs}
 use Rattle.st_reading.specs.Runnable.{IsRunnable}
 use Rattle.st_reading.proofs.ReadFiles.{AreKept, IsStepRead, input_or, step_read}
 use Rattle.st_relearn.specs.Plain.{HasPlainTexts}
-use Rattle.st_relearn.specs.Relearnt.{HasWritableReplies, IsWritableKept, learnt_policy_text}
+use Rattle.st_printing.specs.Canon.{canon}
+use Rattle.st_relearn.specs.Relearnt.{AreWritableInForce, HasWritableBlocks, HasWritableReplies, IsWritableKept, learnt_policy_text}
 use Rattle.st_relearn.specs.Scripts.{HasPlainScript}
-use Rattle.st_relearn.specs.Writable.{AreWritable, IsWritableAction, IsWritableFilter, IsWritableGrant, IsWritablePolicy}
+use Rattle.st_relearn.specs.Writable.{AreWritable, IsWritableAction, IsWritableBinary, IsWritableFilter, IsWritableGrant, IsWritablePolicy}
 use Rattle.st_script.specs.Reading.{script_in}
 use Rattle.st_script.specs.Startable.{input_with}
 use Rattle.st_script.specs.declared.reading.ReadScript.{ReadScript}
@@ -98,9 +99,15 @@ ScriptsArePlain = (text : List ℕ) (options : Options) (script : ReadScript) �
 abbrev pub AddsWritable : Type 0
 AddsWritable = (env : Env) (input : Input) → IsStartable input → HasPlainTexts input.start → HasWritableReplies env input → (h : History) → IsLawfulBack input h → All (IsWritableKept env) (session_at input h)
 
+abbrev pub ForcedWritable : Type 0
+ForcedWritable = (env : Env) (input : Input) → IsStartable input → AreWritable env input.policies.read → HasWritableBlocks env input → (h : History) → IsLawfulBack input h → AreWritableInForce env input.policies (looking_back input h).versions
+
+abbrev pub ChangesWritable : Type 0
+ChangesWritable = (env : Env) (input : Input) → IsStartable input → HasPlainTexts input.start → HasWritableBlocks env input → (h : History) → IsLawfulBack input h → All IsWritableBinary (looking_back input h).changed
+
 abbrev pub TextsAreReadAgain : Type 0
-TextsAreReadAgain = (env : Env) (policies : List BinaryPolicy) (session : List SessionFilter) → AreWritable env policies → All (IsWritableKept env) session → filters_in (learnt_policies policies session) ≤ MOST_FILTERS →
-    Reads (learnt_policy_text policies session) env [] (learnt_policies policies session)
+TextsAreReadAgain = (env : Env) (policies : PoliciesValue) (versions : List ℕ → ℕ) (changed : List (List ℕ)) (session : List SessionFilter) → AreWritable env policies.read → AreWritableInForce env policies versions → All IsWritableBinary changed →
+    All (IsWritableKept env) session → filters_in (learnt_policies policies versions changed session) ≤ MOST_FILTERS → Reads (canon (learnt_policies policies versions changed session)) env [] (learnt_policies policies versions changed session)
 
 abbrev pub ReadsOnce : Type 0
 ReadsOnce = (text : List ℕ) (env : Env) (old a b : List BinaryPolicy) → Reads text env old a → Reads text env old b → a ≡ b
@@ -131,19 +138,22 @@ no_replies env i learns asks = absurd (clash (sym learns ∙ asks)) where
   clash : Learn ≡ AskText → ⊥
   clash f = cc
 
-module _ (runnable : AreRunnable) (exactly : AreExactlyWritable) (plain : ScriptsArePlain) (adds : AddsWritable) (again : TextsAreReadAgain) (once : ReadsOnce) where
-  module _ (env : Env) (i : Input) (startable : IsStartable i) (texts : HasPlainTexts i.start) (learns : i.options.mode ≡ Learn) (w : AreWritable env i.policies) (choices : List Choice) where
-    run_read_again : filters_in (policies_after i choices) ≤ MOST_FILTERS → IsReadAgain (learnt_policy_text i.policies (session_at i (reverse (run i choices)))) env (policies_after i choices)
+module _ (runnable : AreRunnable) (exactly : AreExactlyWritable) (plain : ScriptsArePlain) (adds : AddsWritable) (forced : ForcedWritable) (changes : ChangesWritable) (again : TextsAreReadAgain) (once : ReadsOnce) where
+  module _ (env : Env) (i : Input) (startable : IsStartable i) (texts : HasPlainTexts i.start) (learns : i.options.mode ≡ Learn) (w : AreWritable env i.policies.read) (choices : List Choice) where
+    run_read_again : filters_in (policies_after i choices) ≤ MOST_FILTERS → IsReadAgain (learnt_policy_text i (looking_back i (reverse (run i choices)))) env (policies_after i choices)
     run_read_again few =
         let h : History = reverse (run i choices) in
-        let reads : Reads (learnt_policy_text i.policies (session_at i h)) env [] (policies_after i choices) =
-        again env i.policies (session_at i h) w (adds env i startable texts (no_replies env i learns) h (run_lawful i startable choices)) few in
-        record { reads = reads; alone = λ other twice. once (learnt_policy_text i.policies (session_at i h)) env [] other (policies_after i choices) twice reads }
+        let lawful : IsLawfulBack i h = run_lawful i startable choices in
+        let blocks : HasWritableBlocks env i = λ other. absurd (other learns) in
+        let reads : Reads (learnt_policy_text i (looking_back i h)) env [] (policies_after i choices) =
+        again env i.policies (looking_back i h).versions (looking_back i h).changed (session_at i h) w (forced env i startable w blocks h lawful) (changes env i startable texts blocks h lawful)
+        (adds env i startable texts (no_replies env i learns) h lawful) few in
+        record { reads = reads; alone = λ other twice. once (learnt_policy_text i (looking_back i h)) env [] other (policies_after i choices) twice reads }
 
   module _ (contents : Contents) (step : StepWords) (i : Input) (schedule : ReadSchedule) (bytes : HoldBytes contents (step.script ∷ step.policies)) (limits : IsWithinLimits (Step step)) (learns : step.options.mode ≡ Learn)
       (meant : Means contents (Step step) (Runs i schedule)) (script : ReadScript) (is_script : IsScriptOf contents step script) (choices : List Choice) (few : filters_in (policies_after i choices) ≤ MOST_FILTERS) where
-    pub read_again : IsReadAgain (learnt_policy_text i.policies (session_at i (reverse (run i choices)))) script.env (policies_after i choices)
-        × IsReadAgain (learnt_policy_text i.policies (session_at i (reverse (run i choices)))) (enforcing script.env) (policies_after i choices)
+    pub read_again : IsReadAgain (learnt_policy_text i (looking_back i (reverse (run i choices)))) script.env (policies_after i choices)
+        × IsReadAgain (learnt_policy_text i (looking_back i (reverse (run i choices)))) (enforcing script.env) (policies_after i choices)
     read_again =
         let x = was_read contents step bytes i schedule meant in
         let same : script ≡ x.script = one_script contents step bytes script x.script is_script (record { text = x.script_text; there = x.script_held; is = x.script_is }) in
@@ -153,8 +163,8 @@ module _ (runnable : AreRunnable) (exactly : AreExactlyWritable) (plain : Script
         let texts : HasPlainTexts i.start = subst (λ (other : Input). HasPlainTexts other.start) (sym input_is) said.texts in
         let learning : i.options.mode ≡ Learn = subst (λ (other : Input). other.options.mode ≡ Learn) (sym input_is) learns in
         let w : AreWritable x.script.env x.policies = (exactly x.script.env x.policies said.dollars said.ids).0 x.kept in
-        let here : AreWritable script.env i.policies = subst (λ (other : ReadScript). AreWritable other.env i.policies) (sym same) (subst (λ (other : Input). AreWritable x.script.env other.policies) (sym input_is) w) in
-        (run_read_again script.env i start texts learning here choices few, run_read_again (enforcing script.env) i start texts learning (enforced_writable script.env i.policies here) choices few)
+        let here : AreWritable script.env i.policies.read = subst (λ (other : ReadScript). AreWritable other.env i.policies.read) (sym same) (subst (λ (other : Input). AreWritable x.script.env other.policies.read) (sym input_is) w) in
+        (run_read_again script.env i start texts learning here choices few, run_read_again (enforcing script.env) i start texts learning (enforced_writable script.env i.policies.read here) choices few)
       where
         startable_by : IsRunnable step i → IsStartable i
         startable_by r = (r.can_run limits.1 limits.2).startable

@@ -56,7 +56,7 @@ pub fn what_was_learnt_is_enforced()
     ensures { (contents : Contents) (step : StepWords) (input : Input) (schedule : ReadSchedule) → HoldBytes contents (step.script ∷ step.policies) → IsWithinLimits (Step step) → step.options.mode ≡ Learn → Means contents (Step step) (Runs input schedule) →
         (choices : List Choice) → filters_in (policies_after input choices) ≤ MOST_FILTERS → (name : Word) → contents name ≡ FileBytes (printed print.Policy input choices) →
         (again : StepWords) → again.script ≡ step.script → again.policies ≡ name ∷ [] → again.options.ids ≡ step.options.ids → (other : Input) (later : ReadSchedule) → Means contents (Step again) (Runs other later) →
-        PermitsWhatWasMade input other.policies (reverse (run input choices)) }
+        PermitsWhatWasMade input other.policies.read (reverse (run input choices)) }
 {
     what_is_written_is_read_again();
     what_was_made_is_permitted_by_what_is_written();
@@ -95,7 +95,7 @@ pub fn what_was_learnt_can_be_enforced()
     ensures { (contents : Contents) (step : StepWords) (input : Input) (schedule : ReadSchedule) → HoldBytes contents (step.script ∷ step.policies) → IsWithinLimits (Step step) → step.options.mode ≡ Learn → Means contents (Step step) (Runs input schedule) →
         (choices : List Choice) → filters_in (policies_after input choices) ≤ MOST_FILTERS → (name : Word) → contents name ≡ FileBytes (printed print.Policy input choices) → length (printed print.Policy input choices) ≤ FILE_LIMIT →
         (again : StepWords) → again.script ≡ step.script → again.policies ≡ name ∷ [] → again.options.ids ≡ step.options.ids → (text : List ℕ) → CanHold (contents again.schedule) text → length text ≤ FILE_LIMIT →
-        Means contents (Step again) (Runs (record input { policies = policies_after input choices; options = again.options }) (schedule_in text)) }
+        Means contents (Step again) (Runs (record input { policies = record { read = policies_after input choices; blocks = input.policies.blocks }; options = again.options }) (schedule_in text)) }
 {
     what_is_written_is_read_again();
     what_is_read_is_a_filter();

@@ -9,15 +9,15 @@ use Rattle.st_trace.specs.declared.entry.Change.{Change}
 use Rattle.st_trace.specs.declared.entry.Choice.{Choice}
 use Rattle.st_trace.specs.declared.entry.Entry.TheVariants.{Used}
 use Rattle.st_law.specs.declared.input.Input.{Input}
-use Rattle.st_law.specs.History.{looking_back, session_at}
+use Rattle.st_law.specs.History.{looking_back}
 use Rattle.st_law.specs.Machine.{run}
 use Rattle.st_law.specs.Threads.{History}
-use Rattle.st_learn.specs.Learnt.{learnt_policies}
+use Rattle.st_learn.specs.Learnt.{learnt_in}
 use Rattle.st_learn.specs.Permitted.{IsPermittedBy}
 
--- the policies after the run by these choices: those that were read, with what the run has added
+-- the policies after the run by these choices: those in force, with what the run has added
 abbrev pub policies_after : Input → List Choice → List BinaryPolicy
-policies_after i choices = learnt_policies i.policies (session_at i (reverse (run i choices)))
+policies_after i choices = learnt_in i (looking_back i (reverse (run i choices)))
 
 -- each held call that was made is permitted by these policies alone, under the ids that it was made under
 abbrev pub PermitsWhatWasMade : Input → List BinaryPolicy → History → Type 0

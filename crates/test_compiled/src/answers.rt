@@ -1,14 +1,14 @@
-// The kernel's own answers while filters are appended.
+// The kernel's own answers while filters are appended and policies are reloaded.
 use crate::filters::{filter_for, rule_near};
-use crate::policies::{BINARIES, any_binary};
+use crate::policies::{BINARIES, BLOCKS, any_binary};
 use crate::random::Random;
 use st_base::Text;
 use st_calls::{FastAnswer, Rule};
-use st_compile::FastTable;
-use st_filter::{PolicySet, Reply, fast_answer, first_answer};
+use st_compile::{FastTable, OwnAnswers};
+use st_filter::{Filter, Policies, Reply, fast_answer, first_answer};
 use std::alloc::{AllocError, Global};
 
-// So many filters are appended to each set of policies.
+// So many filters are appended to each set of policies, and before each of them a policy may be reloaded.
 const APPENDED: u32 = 6;
 
 /// How many answers the filters give, how many are missing since no filter is for the rule, and how many of the table's are different.
@@ -46,11 +46,21 @@ impl AnswerCounts {
     }
 }
 
-// Policies, the filters appended since, and the table that has to know of both.
+// Takes a filter that was appended into account.
+fn append_filter(answers: &mut OwnAnswers, filter: &Filter) {
+    for rule in Rule::ALL {
+        if filter.is_for(rule) {
+            answers.appended(rule, fast_answer(filter));
+        }
+    }
+}
+
+// Policies, the filters appended and the policies reloaded since, and the table that has to know of all.
 #[derive(Drop)]
 struct Tried<'a> {
-    policies: &'a PolicySet,
+    policies: &'a Policies,
     session: Vec<Reply>,
+    reloads: Vec<u32>,
     table: FastTable,
 }
 
@@ -65,9 +75,28 @@ impl<'a> Tried<'a> {
         None
     }
 
-    // The answer of the first filter for a binary and a rule, of those read and then of the session's.
+    // Whether a reload of this number puts a policy of this binary in force.
+    fn is_reload_of(&self, number: u32, binary: &[u8]) -> bool {
+        match self.policies.block(number) {
+            Some(block) => block.binary.bytes() == binary,
+            None => false,
+        }
+    }
+
+    // The version of a binary's policy that is in force: that of its last reload.
+    fn version(&self, binary: &[u8]) -> u32 {
+        let mut version = 0;
+        for number in self.reloads.as_slice() {
+            if self.is_reload_of(*number, binary) {
+                version = *number;
+            }
+        }
+        version
+    }
+
+    // The answer of the first filter for a binary and a rule, of those in force and then of the session's.
     fn first(&self, binary: &[u8], rule: Rule) -> Option<FastAnswer> {
-        match first_answer(self.policies.get(binary), rule) {
+        match first_answer(self.policies.in_force(binary, self.version(binary)), rule) {
             Some(answer) => Some(answer),
             None => self.first_appended(binary, rule),
         }
@@ -80,6 +109,29 @@ impl<'a> Tried<'a> {
             let answer = first.unwrap_or(FastAnswer::Ask);
             counts.add(first, self.table.get(binary, rule) == answer);
         }
+    }
+
+    // Takes the filters that were appended for a binary into account.
+    fn append_again(&self, binary: &[u8], answers: &mut OwnAnswers) {
+        for reply in self.session.as_slice() {
+            if reply.binary.bytes() == binary {
+                append_filter(answers, &reply.filter);
+            }
+        }
+    }
+
+    // Puts the policy of this number in force for its binary.
+    fn reload(&mut self, alloc: Global, version: u32) -> Result<(), AllocError> {
+        let policies: &'a Policies = self.policies;
+        let Some(block) = policies.block(version) else {
+            return Ok(());
+        };
+        let mut answers = OwnAnswers::under(alloc, &block.filters)?;
+        self.append_again(block.binary.bytes(), &mut answers);
+        let row = self.table.make_row(alloc, block.binary.bytes())?;
+        self.table.reload(row, answers);
+        self.reloads.push(version)?;
+        Ok(())
     }
 
     // Appends a filter, mostly for this rule.
@@ -95,26 +147,46 @@ impl<'a> Tried<'a> {
         })?;
         Ok(())
     }
+
+    // Reloads a policy or not, and appends a filter.
+    fn change(&mut self, random: &mut Random, alloc: Global, rule: Rule) -> Result<(), AllocError> {
+        if random.is_one_in(3) {
+            self.reload(alloc, random.below(BLOCKS) + 1)?;
+        }
+        self.append(random, alloc, rule)
+    }
+
+    // Compares the table's answers with those of the filters after each of some changes.
+    fn compare_changed(
+        &mut self,
+        random: &mut Random,
+        alloc: Global,
+        rule: Rule,
+        counts: &mut AnswerCounts,
+    ) -> Result<(), AllocError> {
+        for _ in 0..APPENDED {
+            self.change(random, alloc, rule)?;
+            self.compare(BINARIES[0], counts);
+            self.compare(BINARIES[1], counts);
+            self.compare(BINARIES[2], counts);
+        }
+        Ok(())
+    }
 }
 
-/// Compares the answers for all binaries and rules after each of some appends.
+/// Compares the answers for all binaries and rules after each of some appends, with reloads between them.
 pub fn compare_answers(
     random: &mut Random,
     alloc: Global,
-    policies: &PolicySet,
+    policies: &Policies,
     rule: Rule,
     counts: &mut AnswerCounts,
 ) -> Result<(), AllocError> {
     let mut tried = Tried {
         policies,
         session: Vec::new(alloc),
-        table: FastTable::build(alloc, policies)?,
+        reloads: Vec::new(alloc),
+        table: FastTable::build(alloc, policies.read())?,
     };
-    for _ in 0..APPENDED {
-        tried.append(random, alloc, rule)?;
-        tried.compare(BINARIES[0], counts);
-        tried.compare(BINARIES[1], counts);
-        tried.compare(BINARIES[2], counts);
-    }
-    Ok(())
+    tried.compare_changed(random, alloc, rule, counts)
 }

@@ -2,28 +2,29 @@
 use st_base::Text;
 use st_calls::{Snapshot, Verdict};
 use st_compile::Compiled;
-use st_filter::{PolicySet, decide};
+use st_filter::{Policies, decide};
 use std::alloc::{AllocError, Global};
 
 /// Policies, and the same policies compiled.
 #[derive(Drop)]
 pub struct Both<'a> {
-    policies: &'a PolicySet,
+    policies: &'a Policies,
     compiled: Compiled<'a>,
 }
 
 impl<'a> Both<'a> {
     /// Compiles policies.
-    pub fn new(alloc: Global, policies: &'a PolicySet) -> Result<Self, AllocError> {
+    pub fn new(alloc: Global, policies: &'a Policies) -> Result<Self, AllocError> {
         Ok(Both {
             policies,
             compiled: Compiled::build(alloc, policies)?,
         })
     }
 
-    /// What the policies say of a call.
+    /// What the policy of a call says of it, at the call's version.
     pub fn plain(&self, call: &Snapshot) -> Verdict {
-        decide(self.policies.get(call.policy.get().bytes()), call)
+        let binary = call.policy.get().bytes();
+        decide(self.policies.in_force(binary, call.version), call)
     }
 
     /// What the compiled policies say of a call.

@@ -21,10 +21,10 @@ pub fn argument(alloc: Global, spec: &ArgSpec, text: &[u8]) -> Result<ArgText, A
     })
 }
 
-/// A call that is held under the policy of a binary, with this number as the ids of its user and group.
+/// A call that is held under a version of the policy of a binary, with this number as the ids of its user and group.
 pub fn held_call(
     alloc: Global,
-    binary: &[u8],
+    (binary, version): (&[u8], u32),
     rule: Rule,
     id: u32,
     parts: Sequence<ArgText>,
@@ -40,6 +40,7 @@ pub fn held_call(
             egid: id,
         },
         policy,
+        version,
         rule,
         call: call_of(rule),
         regs: [0; 6],

@@ -5,7 +5,7 @@ use crate::policies::{call_near, policies_near};
 use crate::random::Random;
 use st_base::Text;
 use st_calls::{Rule, Snapshot, Verdict};
-use st_filter::PolicySet;
+use st_filter::Policies;
 use std::alloc::{AllocError, Global};
 
 // So many calls are judged by each set of policies.
@@ -42,15 +42,15 @@ impl CallCounts {
         }
     }
 
-    // Judges calls, mostly under one rule, by a set of policies.
+    // Judges calls, mostly under one rule, by policies.
     fn judge_calls(
         &mut self,
         random: &mut Random,
         alloc: Global,
-        set: &PolicySet,
+        policies: &Policies,
         rule: Rule,
     ) -> Result<(), AllocError> {
-        let both = Both::new(alloc, set)?;
+        let both = Both::new(alloc, policies)?;
         for _ in 0..CALLS {
             let call = call_near(random, alloc, rule)?;
             self.judge(&both, &call);
@@ -59,7 +59,7 @@ impl CallCounts {
     }
 }
 
-// Judges calls by a set of policies, and compares the kernel's own answers under them.
+// Judges calls by policies, and compares the kernel's own answers under them.
 fn judge_set(
     random: &mut Random,
     alloc: Global,
@@ -67,9 +67,9 @@ fn judge_set(
     answers: &mut AnswerCounts,
 ) -> Result<(), AllocError> {
     let rule = random.rule();
-    let set = policies_near(random, alloc, rule)?;
-    calls.judge_calls(random, alloc, &set, rule)?;
-    compare_answers(random, alloc, &set, rule, answers)
+    let policies = policies_near(random, alloc, rule)?;
+    calls.judge_calls(random, alloc, &policies, rule)?;
+    compare_answers(random, alloc, &policies, rule, answers)
 }
 
 // Appends lines, each of which says how many there are of something.

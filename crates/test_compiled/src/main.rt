@@ -46,7 +46,7 @@ fn judge_named<R: rt::Files>(
     let policies = fetched(rt, alloc, table, b".policy")?;
     let calls = fetched(rt, alloc, table, b".calls")?;
     match read_set(alloc, policies.bytes())? {
-        Some(set) => judge_table(alloc, &set, calls.bytes(), out),
+        Some(policies) => judge_table(alloc, &policies, calls.bytes(), out),
         None => {
             out.append(b"no policies\n")?;
             Ok(false)

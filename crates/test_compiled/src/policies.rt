@@ -1,10 +1,13 @@
 // Generated policies, and calls under them.
+ghost use Rattle.std.specs.Prelude.{◌≤◌, length, IfOk};
+ghost use Rattle.st_filter.specs.Policies.{filters_in};
+
 use crate::calls::{argument, held_call};
 use crate::filters::{filter_near, rule_near};
 use crate::random::Random;
 use st_base::{Sequence, Text};
 use st_calls::{ArgText, Rule, Snapshot, args_of};
-use st_filter::{MOST_FILTERS, PolicySet};
+use st_filter::{BinaryPolicy, MOST_FILTERS, Policies, Policy, PolicySet};
 use std::alloc::{AllocError, Global};
 
 /// The binaries under whose policies calls are made. The last never has a policy.
@@ -59,15 +62,67 @@ fn add_policies(
     add_policy(random, alloc, set, BINARIES[1], rule)
 }
 
-/// Two policies, most of whose filters are for one rule.
+// The most filters of a policy that a reload can put in force.
+const MOST_IN_BLOCK: usize = 80;
+
+// Filters, most of which are for one rule.
+fn filters_near(random: &mut Random, alloc: Global, rule: Rule) -> Result<Policy, AllocError>
+    ensures { IfOk result (λ filters. length filters ≤ MOST_IN_BLOCK) }
+{
+    let mut filters = Policy::new(alloc);
+    for _ in 0..count(random) {
+        if filters.len() < MOST_IN_BLOCK {
+            filters.push(filter_near(random, alloc, rule)?)?;
+        }
+    }
+    Ok(filters)
+}
+
+// A policy that a reload can put in force.
+fn block_near(
+    random: &mut Random,
+    alloc: Global,
+    binary: &[u8],
+    rule: Rule,
+) -> Result<BinaryPolicy, AllocError>
+    ensures { IfOk result (λ block. length block.filters ≤ MOST_IN_BLOCK) }
+{
+    let filters = filters_near(random, alloc, rule)?;
+    Ok(BinaryPolicy {
+        binary: Text::of(alloc, binary)?,
+        filters,
+    })
+}
+
+/// How many policies reloads can put in force.
+pub const BLOCKS: u32 = 2;
+
+// The policies that reloads can put in force.
+fn blocks_near(
+    random: &mut Random,
+    alloc: Global,
+    rule: Rule,
+) -> Result<Sequence<BinaryPolicy>, AllocError>
+    ensures filters { IfOk result (λ blocks. filters_in blocks ≤ MOST_FILTERS) }
+    ensures few { IfOk result (λ blocks. length blocks ≤ BLOCKS) }
+{
+    let mut blocks = Sequence::new(alloc);
+    blocks.push(block_near(random, alloc, BINARIES[0], rule)?)?;
+    let other = any_binary(random);
+    blocks.push(block_near(random, alloc, other, rule)?)?;
+    Ok(blocks)
+}
+
+/// Two policies that were read, and two that reloads can put in force. Most of their filters are for one rule.
 pub fn policies_near(
     random: &mut Random,
     alloc: Global,
     rule: Rule,
-) -> Result<PolicySet, AllocError> {
+) -> Result<Policies, AllocError> {
     let mut set = PolicySet::new(alloc);
     add_policies(random, alloc, &mut set, rule)?;
-    Ok(set)
+    let blocks = blocks_near(random, alloc, rule)?;
+    Ok(Policies::new(alloc, set, blocks))
 }
 
 // The arguments of a call, of which some are missing.
@@ -89,5 +144,7 @@ fn arguments(
 pub fn call_near(random: &mut Random, alloc: Global, rule: Rule) -> Result<Snapshot, AllocError> {
     let rule = rule_near(random, rule);
     let parts = arguments(random, alloc, rule)?;
-    held_call(alloc, any_binary(random), rule, random.below(3), parts)
+    let binary = any_binary(random);
+    let version = random.below(BLOCKS + 1);
+    held_call(alloc, (binary, version), rule, random.below(3), parts)
 }

@@ -6,7 +6,7 @@ use crate::calls::{argument, held_call};
 use st_base::number::number_of;
 use st_base::{Sequence, Text};
 use st_calls::{ArgText, Rule, Snapshot, Verdict, args_of};
-use st_filter::PolicySet;
+use st_filter::{Policies, PolicySet};
 use st_grammar::{Env, NamedId};
 use st_policy::read_policies;
 use std::alloc::{AllocError, Global};
@@ -46,10 +46,10 @@ fn are_read(alloc: Global, text: &[u8], set: &mut PolicySet) -> Result<bool, All
 }
 
 /// The policies of a text; nothing if it is refused.
-pub fn read_set(alloc: Global, text: &[u8]) -> Result<Option<PolicySet>, AllocError> {
+pub fn read_set(alloc: Global, text: &[u8]) -> Result<Option<Policies>, AllocError> {
     let mut set = PolicySet::new(alloc);
     if are_read(alloc, text, &mut set)? {
-        Ok(Some(set))
+        Ok(Some(Policies::new(alloc, set, Sequence::new(alloc))))
     } else {
         Ok(None)
     }
@@ -92,7 +92,7 @@ fn call_of(alloc: Global, words: &[Text]) -> Result<Option<Snapshot>, AllocError
         return Ok(None);
     };
     let parts = arguments(alloc, rule, texts)?;
-    let call = held_call(alloc, binary.bytes(), rule, id_of(id.bytes()), parts)?;
+    let call = held_call(alloc, (binary.bytes(), 0), rule, id_of(id.bytes()), parts)?;
     Ok(Some(call))
 }
 
@@ -109,10 +109,10 @@ struct Table<'a> {
 
 impl<'a> Table<'a> {
     // The table before its first line.
-    fn new(alloc: Global, set: &'a PolicySet) -> Result<Self, AllocError> {
+    fn new(alloc: Global, policies: &'a Policies) -> Result<Self, AllocError> {
         Ok(Table {
             alloc,
-            both: Both::new(alloc, set)?,
+            both: Both::new(alloc, policies)?,
             calls: 0,
             right: 0,
             written: Text::new(alloc),
@@ -183,11 +183,11 @@ impl<'a> Table<'a> {
 /// Judges the calls of a table, and writes each line with both verdicts after it. Whether all are as stated.
 pub fn judge_table(
     alloc: Global,
-    set: &PolicySet,
+    policies: &Policies,
     lines: &[u8],
     out: &mut Text,
 ) -> Result<bool, AllocError> {
-    let mut table = Table::new(alloc, set)?;
+    let mut table = Table::new(alloc, policies)?;
     table.judge_lines(lines)?;
     table.append_result(out)
 }
