@@ -23,7 +23,7 @@ pub fn fill(random: &mut Random, case: &mut Case) {
 
 /// Puts a file at a limit in the place of one of the case, or words that need no other file.
 pub fn put(random: &mut Random, case: &mut Case) {
-    let (role, text) = match random.below(16) {
+    let (role, text) = match random.below(18) {
         0 => (Role::Policy, filters(random.within(4095, 4097), random.one_in(2))),
         1..=3 => (Role::Policy, operators(random)),
         4 => (Role::Schedule, schedule(random)),
@@ -33,6 +33,7 @@ pub fn put(random: &mut Random, case: &mut Case) {
         8..=9 => (Role::Script, links(random)),
         10 => (Role::Script, forks(random)),
         11..=13 => (Role::Script, names(random)),
+        14..=15 => (Role::Script, policies(random)),
         _ => (Role::Script, vector(random)),
     };
     if let Some(name) = case.name_of(role).filter(|name| !name.is_empty() && !name.contains('/') && name.len() < 20) {
@@ -117,6 +118,29 @@ fn instructions(random: &mut Random) -> String {
     let row = *random.pick(&["call getpid", "store 1 1", "call open 8", "call setuid 0", "call close 99"]);
     let held = if random.one_in(2) { "thread b in p\ncall open 64\nend\n" } else { "" };
     format!("{PROCESS}thread a in p\nput 64 \"/a\"\n{}end\n{held}", format!("{row}\n").repeat(count - 1))
+}
+
+/// Policies of a script with as many filters as may be, or one more or less, and reloads of them while a call is held.
+fn policies(random: &mut Random) -> String {
+    let count = random.within(4095, 4097);
+    let first = *random.pick(&[0, 1, 2000, count - 1]);
+    let filter = *random.pick(&[
+        "native-fsread: filename eq \"/a\" then deny[enoent]",
+        "native-fsread: permit",
+        "native-fsread: ask",
+        "native-mmap: permit",
+        "native-fsread: true then permit, if user = 0",
+    ]);
+    let policy =
+        |name: &str, count: usize| format!("policy {name} \"/bin/a\"\n{}end\n", format!("{filter}\n").repeat(count));
+    let reloads = "reload one\nreload two\n".repeat(*random.pick(&[1, 3, 1000]));
+    let root = random.within(0, 1);
+    format!(
+        "{}{}{PROCESS}thread a in p\nput 0 \"/a\"\ncall open 0\ncall open 0\nend\n\
+         process q untraced \"/bin/adm\" {root} 0 \"/\"\nthread b in q\n{reloads}end\n",
+        policy("one", first),
+        policy("two", count - first)
+    )
 }
 
 fn objects(count: usize) -> String {

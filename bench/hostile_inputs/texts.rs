@@ -8,7 +8,7 @@ const TOKENS: &str = concat!(
     "Policy Emulation native linux permit deny ask then and or not true as log if user group root wheel www ",
     "match eq neq sub nsub inpath re filename string sockaddr argv uid pid native-fsread native-open native-mmap ",
     "native- linux-read /bin/a enoent EPERM eacces thread process traced untraced in end call store put fork dir ",
-    "file link reply open rename execve exit kill setuid symlink socket bind connect worker operator rest ",
+    "file link reply policy reload open rename execve exit kill setuid symlink socket bind connect worker operator rest ",
     r#": , ( ) [ ] = != ! < > " "/" "" "/etc/*" "$HOME/$USER$CWD" "\x41\\\"" "\x00" "\x4" "*a*a*a*a*" "#,
     r#""[!a-c\\]]?" "/a/../b" ".." # \ ;"#
 );

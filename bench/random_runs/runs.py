@@ -41,7 +41,7 @@ def choices_of_trace(trace):
     for line in trace.splitlines():
         kind, *words = line.split(" ", 3)
         match kind:
-            case "stored" | "entered" | "used" | "denied" | "ended":
+            case "stored" | "entered" | "used" | "denied" | "ended" | "reloaded":
                 yield f"thread {words[0]}"
             case "claimed":
                 worker_at[words[1]] = words[0]

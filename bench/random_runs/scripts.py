@@ -38,6 +38,8 @@ class Maker:
         self.longest = pick((4, 12, 60, 250))
         # Many calls that set ids, so that calls of other threads get new numbers.
         self.sets_ids = pick((0.05, 0.05, 0.3))
+        # Policies of the script, to be reloaded while calls are held.
+        self.policies = [f"n{i}" for i in range(pick((0, 1, 2, 4)))]
 
     def case(self):
         options = ["-w", str(self.random.randint(1, 8))]
@@ -52,12 +54,16 @@ class Maker:
         rows += [f'dir "{name}" {pick(IDS)} 0 {pick((755, 777))}' for name in DIRECTORIES]
         rows += [f'file "{name}" {pick(IDS)} 0 {pick((644, 755, 600))} "text"' for name in FILES]
         rows += [f'link "{name}" 0 0 "{target}"' for name, target in LINKS]
+        for name in self.policies:
+            rows += [f'policy {name} "{pick(BINARIES)}"', *self.filters(), "end"]
         processes = [f"q{i}" for i in range(pick((1, 1, 2, 3)))]
         for name in processes:
             traced = "traced" if self.random.random() < 0.85 else "untraced"
             rows.append(f'process {name} {traced} "{pick(BINARIES)}" {pick(IDS)} 0 "{pick(("/", "/a"))}"')
         if self.random.random() < 0.3:
             rows += self.swapper()
+        if self.may_reload():
+            rows += self.administrator()
         children = [f"c{i}" for i in range(self.random.randint(0, 5))]
         to_fork = list(children)
         for i in range(self.random.randint(1, 7)):
@@ -74,6 +80,20 @@ class Maker:
         names = [f'put 0 "{self.random.choice(FILES[:3])}"', 'put 64 "/bin/p0"']
         return ['process x untraced "/bin/p0" 0 0 "/"', "thread x in x", *names, *swap * self.random.randint(1, 12), "end"]
 
+    def may_reload(self):
+        return bool(self.policies) and self.mode != "-A"
+
+    def reload(self):
+        return f"reload {self.random.choice(self.policies)}"
+
+    def administrator(self):
+        """Makes a process that may reload policies, but while its user is another one."""
+        rows = []
+        for _ in range(self.random.randint(1, 30)):
+            kind = self.random.random()
+            rows.append(f"call seteuid {self.random.choice(IDS)}" if kind < 0.1 else "call getuid" if kind < 0.3 else self.reload())
+        return ['process y untraced "/bin/p1" 0 0 "/"', "thread y in y", *rows, "end"]
+
     def body(self, to_fork):
         """Makes the instructions of a thread. Each fork takes its thread from those that no other fork names."""
         pick = self.random.choice
@@ -87,6 +107,8 @@ class Maker:
                 rows.append(f"store {pick(NAME_PLACES) // 8} 0x{self.random.getrandbits(24):x}")
             elif kind < 0.2 and to_fork:
                 rows.append(f"fork {to_fork.pop()}")
+            elif kind < 0.22 and self.may_reload():
+                rows.append(self.reload())
             else:
                 rows.append(self.call())
         return rows
@@ -143,18 +165,23 @@ class Maker:
 
     def policy(self):
         rows = []
-        covered = 0.3 if self.mode in ("-t", "-A") else 0.8
         for binary in BINARIES:
             if self.random.random() < 0.1:
                 continue
-            rows.append(f"Policy: {binary}, Emulation: native")
-            if self.random.random() < 0.3:
-                # Judging takes some time, in which a call may be withdrawn.
-                rows += [f'native-{rule}: filename sub "x{i}" then deny' for i in range(300) for rule in ALIASES]
-            rows += [f"native-{rule}: permit" for rule in PERMITTED if self.random.random() < 0.7]
-            rows += [self.filter(self.rule(), may_ask=self.mode != "-A") for _ in range(self.random.randint(0, 30))]
-            rows += [f'native-{rule}: filename match "/*" then permit' for rule in HELD if self.random.random() < covered]
+            rows += [f"Policy: {binary}, Emulation: native", *self.filters()]
         return "".join(row + "\n" for row in rows)
+
+    def filters(self):
+        """Makes the filters of a policy."""
+        rows = []
+        covered = 0.3 if self.mode in ("-t", "-A") else 0.8
+        if self.random.random() < 0.3:
+            # Judging takes some time, in which a call may be withdrawn.
+            rows += [f'native-{rule}: filename sub "x{i}" then deny' for i in range(300) for rule in ALIASES]
+        rows += [f"native-{rule}: permit" for rule in PERMITTED if self.random.random() < 0.7]
+        rows += [self.filter(self.rule(), may_ask=self.mode != "-A") for _ in range(self.random.randint(0, 30))]
+        rows += [f'native-{rule}: filename match "/*" then permit' for rule in HELD if self.random.random() < covered]
+        return rows
 
     def rule(self):
         return self.random.choice(ALIASES * 6 + ONE_NAME + TWO_NAMES + SET_IDS + OTHERS + ("execve", "fork", "exit"))

@@ -54,12 +54,31 @@ Policy: /bin/ls, Emulation: native
 native-fsread: deny[eacces]
 """
 
+RELOAD = HELD + """\
+thread b in p
+put 64 "/etc/spwd"
+call open 64 0
+end
+policy np "/bin/cat"
+native-fsread: filename eq "/etc/motd" then permit
+native-fsread: filename sub "spwd" then deny[enoent]
+end
+policy sh "/bin/sh"
+end
+process q untraced "/bin/adm" 0 0 "/"
+thread c in q
+reload sh
+reload np
+end
+"""
+
 # What each input shows, with the options before its script.
 INPUTS = {
     "a held call": (["-f", "held.policy"], "held.script"),
     "a child with a new binary": (["-f", "child.policy"], "child.script"),
     "a policy is learnt": (["-A", "--print", "policy"], "held.script"),
     "the policy that was learnt": (["-a", "-f", "held.policy"], "held.script"),
+    "a reload": (["-f", "held.policy", "--print", "policy"], "reload.script"),
     "a web server": (["-c", "67:67", "-w", "2", "-f", "httpd.policy"], "httpd.script"),
 }
 
@@ -150,6 +169,7 @@ class Refuser:
 
 def files(examples):
     yield from (("held.script", HELD), ("held.policy", HELD_POLICY), ("child.script", CHILD), ("child.policy", CHILD_POLICY))
+    yield "reload.script", RELOAD
     yield "rest.schedule", "rest\n"
     for name in ("httpd.script", "httpd.policy"):
         yield name, Path(examples, name).read_text()

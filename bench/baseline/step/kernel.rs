@@ -169,6 +169,8 @@ pub struct Kernel {
     workers: Vec<Option<Turn>>,
     operator: Operator,
     aliasing: bool,
+    /// The script's policies, and the texts of their filters.
+    policies: Vec<(Arc<Policy>, String)>,
     printer: Printer,
     /// The thread that the last step started, and those that it let go on.
     started: Option<usize>,
@@ -178,6 +180,11 @@ pub struct Kernel {
 impl Kernel {
     pub fn start(script: Script, mut policies: Policies, options: &Options, printer: Printer) -> Kernel {
         let operator = Operator::new(options.mode, script.replies, &mut policies);
+        let texts = script.policies.into_iter().zip(1..).map(|(mut policy, version)| {
+            let text = std::mem::take(&mut policy.text);
+            (policies.of_script(policy, version), text)
+        });
+        let script_policies = texts.collect();
         let mut system = System::new(script.tree, policies, options.inherit);
         for row in script.processes {
             let given = options.ids.filter(|_| row.traced);
@@ -199,6 +206,7 @@ impl Kernel {
             workers: (0..options.workers).map(|_| None).collect(),
             operator,
             aliasing: options.aliasing,
+            policies: script_policies,
             printer,
             started: None,
             released: Vec::new(),
@@ -341,6 +349,7 @@ impl Kernel {
             }
             Instr::Call(call, regs) => self.enter(tid, pid, call, regs, None),
             Instr::Fork(child) => self.enter(tid, pid, Call::Fork, [0; 6], Some(child)),
+            Instr::Reload(policy) => self.reload(tid, pid, policy),
         }
     }
 
@@ -439,6 +448,7 @@ impl Kernel {
             pid: head.pid,
             ids: head.ids,
             policy: &head.policy.binary,
+            version: head.policy.version,
             rule: head.rule,
             call: head.call,
             regs: &head.regs,
@@ -592,7 +602,7 @@ impl Kernel {
             Call::Kill if regs[1] == 9 => self.end_threads(regs[0] as usize - 1, None),
             Call::Execve => self.end_threads(pid, Some(tid)),
             Call::Fork => self.start_child(child),
-            Call::Setuid | Call::Seteuid | Call::Setgid | Call::Setegid => return self.renew(tid, pid),
+            Call::Setuid | Call::Seteuid | Call::Setgid | Call::Setegid => return self.renew(|_, own| own == pid),
             _ => {}
         }
         Vec::new()
@@ -621,19 +631,33 @@ impl Kernel {
         }
     }
 
-    /// Makes a new message of each other held call of the process. The old number is in use until the new one is drawn.
-    fn renew(&mut self, caller: usize, pid: usize) -> Vec<Change> {
+    /// A thread that is free to do so puts a policy in force for its binary. Held calls are judged again under it.
+    fn reload(&mut self, tid: usize, pid: usize, policy: usize) {
+        let process = &self.system.processes[pid];
+        let done = !process.traced && process.ids.euid == 0;
+        let mut changes = Vec::new();
+        if done {
+            let (new, text) = &self.policies[policy];
+            let number = new.number;
+            self.system.reload(new);
+            self.printer.reload(number, &new.binary, text);
+            changes = self.renew(|system, pid| system.processes[pid].policy.number == number);
+        }
+        self.printer.entry(Entry::Reloaded { tid, policy, done, changes: &changes });
+    }
+
+    /// Makes a new message of each held call of the processes that are meant. A caller is past being held. The old number is in
+    /// use until the new one is drawn.
+    fn renew(&mut self, is_meant: impl Fn(&System, usize) -> bool) -> Vec<Change> {
         let mut changes = Vec::new();
         for tid in 0..self.threads.len() {
             let thread = &self.threads[tid];
-            if thread.pid != Some(pid) || thread.dying || tid == caller {
-                continue;
-            }
+            let Some(pid) = thread.pid.filter(|&pid| is_meant(&self.system, pid) && !thread.dying) else { continue };
             let Some(Pending { way: Way::Held(old), .. }) = thread.pending else { continue };
             let Some(message) = self.close(old) else { continue };
             let process = &self.system.processes[pid];
-            let new =
-                self.messages.post(Head { ids: process.ids, cwd: process.cwd.clone(), ..(*message.head).clone() });
+            let (ids, cwd, policy) = (process.ids, process.cwd.clone(), Arc::clone(&process.policy));
+            let new = self.messages.post(Head { ids, cwd, policy, ..(*message.head).clone() });
             if let Some(pending) = &mut self.threads[tid].pending {
                 pending.way = Way::Held(new);
             }

@@ -139,7 +139,7 @@ impl Operator {
             }
         };
         printer.policy(policy.number, &policy.binary);
-        printer.filter(policy.number, rule.name(), &filter);
+        printer.session_filter(policy.number, rule.name(), &filter);
         // Others of this policy and rule may be decided by the filter too, or have no reply left.
         let is_last = self.mode == Mode::Ask && session.replies.is_empty();
         let mut ended = Vec::new();

@@ -5,7 +5,7 @@ use crate::print::Printer;
 use crate::tokens::{self, Dollars, Kind, Quoted, Token};
 use std::borrow::Cow;
 use std::collections::HashMap;
-use std::fmt::{self, Display, Formatter};
+use std::fmt::{self, Display, Formatter, Write};
 use std::sync::Arc;
 
 const MOST_FILTERS: usize = 4096;
@@ -40,9 +40,11 @@ impl Default for Env {
 }
 
 pub struct Policy {
-    /// Policies are numbered from 0 on, as they come.
+    /// Binaries are numbered from 0 on, as their policies come.
     pub number: usize,
     pub binary: Vec<u8>,
+    /// The script's number of the policy; 0 where it was read from a file.
+    pub version: usize,
     rules: HashMap<Rule, Vec<Filter>>,
 }
 
@@ -209,6 +211,7 @@ impl Predicate {
     }
 }
 
+/// The policies in force.
 #[derive(Default)]
 pub struct Policies {
     by_binary: HashMap<Vec<u8>, Arc<Policy>>,
@@ -225,9 +228,19 @@ impl Policies {
     }
 
     fn add(&mut self, binary: Vec<u8>, rules: HashMap<Rule, Vec<Filter>>) -> Arc<Policy> {
-        let policy = Arc::new(Policy { number: self.by_binary.len(), binary, rules });
-        self.by_binary.insert(policy.binary.clone(), Arc::clone(&policy));
+        let policy = Arc::new(Policy { number: self.by_binary.len(), binary, version: 0, rules });
+        self.put_in_force(&policy);
         policy
+    }
+
+    /// The policy of a script, with its number. It is not in force yet.
+    pub fn of_script(&mut self, policy: ScriptPolicy, version: usize) -> Arc<Policy> {
+        let number = self.get(&policy.binary).number;
+        Arc::new(Policy { number, binary: policy.binary, version, rules: policy.rules })
+    }
+
+    pub fn put_in_force(&mut self, policy: &Arc<Policy>) {
+        self.by_binary.insert(policy.binary.clone(), Arc::clone(policy));
     }
 
     pub fn read(&mut self, text: &[u8], env: &Env, printer: &mut Printer) -> Parsed<()> {
@@ -261,6 +274,38 @@ impl Policies {
     }
 }
 
+/// A policy that stands in a script, for a reload.
+pub struct ScriptPolicy {
+    pub binary: Vec<u8>,
+    rules: HashMap<Rule, Vec<Filter>>,
+    /// Its filters as they are printed.
+    pub text: String,
+}
+
+/// Reads a policy that stands in a script, a filter in each line.
+pub fn read_script_policy(binary: Vec<u8>, lines: &[&[Token]], env: &Env) -> Parsed<ScriptPolicy> {
+    let mut policy = ScriptPolicy { binary, rules: HashMap::new(), text: String::new() };
+    if !policy.binary.starts_with(b"/") {
+        return Err(PolicyError);
+    }
+    for line in lines {
+        let (name, rule, filter) = read_filter(line, env)?;
+        // Writing to a String does not fail.
+        let _ = writeln!(policy.text, "native-{name}: {filter}");
+        if let Some(rule) = rule {
+            policy.rules.entry(rule).or_default().push(filter);
+        }
+    }
+    Ok(policy)
+}
+
+/// Reads a line that is one filter.
+fn read_filter<'a>(line: &'a [Token<'a>], env: &'a Env) -> Parsed<(&'a str, Option<Rule>, Filter)> {
+    let mut parser = Parser { rest: line, env, operators: 0 };
+    let filter = parser.filter()?;
+    if parser.rest.is_empty() { Ok(filter) } else { Err(PolicyError) }
+}
+
 /// The operator's answer to a question of this binary's policy.
 pub struct Reply {
     pub binary: Vec<u8>,
@@ -271,9 +316,8 @@ pub struct Reply {
 
 /// Reads the filter of a reply. It may not ask.
 pub fn read_reply(binary: Vec<u8>, tokens: &[Token], env: &Env) -> Parsed<Reply> {
-    let mut parser = Parser { rest: tokens, env, operators: 0 };
-    let (_, rule, filter) = parser.filter()?;
-    if !parser.rest.is_empty() || matches!(filter.action, Action::Ask) {
+    let (_, rule, filter) = read_filter(tokens, env)?;
+    if matches!(filter.action, Action::Ask) {
         return Err(PolicyError);
     }
     Ok(Reply { binary, rule, filter })

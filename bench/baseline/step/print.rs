@@ -47,12 +47,14 @@ pub enum Entry<'a> {
     Used { tid: usize, seq: Option<u16>, used: &'a Used<'a> },
     Denied { tid: usize, seq: Option<u16>, errno: Errno, cause: Cause<'a> },
     Ended { tid: usize },
+    Reloaded { tid: usize, policy: usize, done: bool, changes: &'a [Change] },
 }
 
 pub struct Judged<'a> {
     pub pid: usize,
     pub ids: Ids,
     pub policy: &'a [u8],
+    pub version: usize,
     pub rule: Rule,
     pub call: Call,
     pub regs: &'a Regs,
@@ -127,6 +129,15 @@ impl Display for Counts {
     }
 }
 
+/// The text of a policy.
+struct PolicyText {
+    header: String,
+    /// The filters in force.
+    filters: String,
+    /// Those that were added since the start.
+    session: String,
+}
+
 pub struct Printer {
     kind: PrintKind,
     text: String,
@@ -134,7 +145,7 @@ pub struct Printer {
     /// The last choices, which were the same.
     run: Option<(Choice, u32)>,
     /// The texts of policies, and where that of each number stands among them.
-    policies: Vec<String>,
+    policies: Vec<PolicyText>,
     places: HashMap<usize, usize>,
 }
 
@@ -186,14 +197,34 @@ impl Printer {
     pub fn policy(&mut self, number: usize, binary: &[u8]) {
         if self.kind == PrintKind::Policy && !self.places.contains_key(&number) {
             self.places.insert(number, self.policies.len());
-            self.policies.push(format!("Policy: {}, Emulation: native\n", Binary(binary)));
+            let header = format!("Policy: {}, Emulation: native\n", Binary(binary));
+            self.policies.push(PolicyText { header, filters: String::new(), session: String::new() });
         }
     }
 
-    /// The next filter of a policy that is printed.
+    fn text(&mut self, policy: usize) -> Option<&mut PolicyText> {
+        self.places.get(&policy).map(|&place| &mut self.policies[place])
+    }
+
+    /// The next filter that was read of a policy that is printed.
     pub fn filter(&mut self, policy: usize, name: &str, filter: &Filter) {
-        if let Some(&place) = self.places.get(&policy) {
-            let _ = writeln!(self.policies[place], "native-{name}: {filter}");
+        if let Some(text) = self.text(policy) {
+            let _ = writeln!(text.filters, "native-{name}: {filter}");
+        }
+    }
+
+    /// A filter is added to a policy that is printed.
+    pub fn session_filter(&mut self, policy: usize, name: &str, filter: &Filter) {
+        if let Some(text) = self.text(policy) {
+            let _ = writeln!(text.session, "native-{name}: {filter}");
+        }
+    }
+
+    /// These filters are in force now.
+    pub fn reload(&mut self, policy: usize, binary: &[u8], filters: &str) {
+        self.policy(policy, binary);
+        if let Some(text) = self.text(policy) {
+            filters.clone_into(&mut text.filters);
         }
     }
 
@@ -214,7 +245,9 @@ impl Printer {
             let counts = std::mem::take(&mut self.counts);
             self.line(counts);
         }
-        self.text.extend(self.policies);
+        for PolicyText { header, filters, session } in self.policies {
+            self.text.extend([header, filters, session]);
+        }
         self.text
     }
 }
@@ -348,6 +381,11 @@ impl Display for Entry<'_> {
                 }
             }
             Entry::Ended { tid } => write!(f, "ended {}", tid + 1),
+            Entry::Reloaded { tid, policy, done, changes } => {
+                let done = if *done { "done" } else { "refused" };
+                write!(f, "reloaded {} {} {done}", tid + 1, policy + 1)?;
+                changes.iter().try_for_each(|change| write!(f, ", {change}"))
+            }
         }
     }
 }
@@ -355,7 +393,11 @@ impl Display for Entry<'_> {
 impl Display for Judged<'_> {
     fn fmt(&self, f: &mut Formatter) -> fmt::Result {
         let (policy, rule, line) = (Quoted(self.policy), self.rule.name(), CallLine(self.call, self.regs));
-        write!(f, "pid {} ids {} policy {policy} rule native-{rule} {line}{}", self.pid + 1, self.ids, Args(self.args))
+        write!(f, "pid {} ids {} policy {policy}", self.pid + 1, self.ids)?;
+        if self.version > 0 {
+            write!(f, " version {}", self.version)?;
+        }
+        write!(f, " rule native-{rule} {line}{}", Args(self.args))
     }
 }
 

@@ -2,7 +2,7 @@
 use crate::calls::{Call, Regs};
 use crate::kernel::Options;
 use crate::operator::Mode;
-use crate::policy::{self, Env, Reply};
+use crate::policy::{self, Env, Reply, ScriptPolicy};
 use crate::print::Choice;
 use crate::tokens::{self, Dollars, Kind, Token, unquote};
 use crate::tree::{self, MOST_BYTES, MOST_OBJECTS, Object, Tree};
@@ -10,6 +10,7 @@ use std::collections::{BTreeMap, HashMap, HashSet};
 
 const MOST_ROWS: usize = 64;
 const MOST_INSTRUCTIONS: usize = 4096;
+const MOST_FILTERS: usize = 4096;
 const MOST_COUNT: u64 = 1_000_000;
 
 #[derive(Debug)]
@@ -25,6 +26,7 @@ pub struct Script {
     pub processes: Vec<ProcessRow>,
     pub threads: Vec<ThreadRow>,
     pub replies: Vec<Reply>,
+    pub policies: Vec<ScriptPolicy>,
     pub env: Env,
 }
 
@@ -46,6 +48,8 @@ pub enum Instr {
     Store(u64, u64),
     Call(Call, Regs),
     Fork(usize),
+    /// The place of a policy.
+    Reload(usize),
 }
 
 struct UserRow {
@@ -68,7 +72,19 @@ struct Reader<'a> {
     /// The thread and the place of each fork, and the thread that it names.
     forks: Vec<(usize, usize, &'a [u8])>,
     replies: Vec<&'a [Token<'a>]>,
-    in_thread: bool,
+    policy_names: HashMap<&'a [u8], usize>,
+    /// The binary of each policy, and its lines.
+    policies: Vec<(Token<'a>, Vec<&'a [Token<'a>]>)>,
+    filters: usize,
+    has_reload: bool,
+    inside: Inside,
+}
+
+/// Where a line is.
+enum Inside {
+    Nothing,
+    Thread,
+    Policy,
 }
 
 pub fn read_script(text: &[u8], options: &Options) -> Parsed<Script> {
@@ -86,16 +102,20 @@ pub fn read_script(text: &[u8], options: &Options) -> Parsed<Script> {
         instructions: 0,
         forks: Vec::new(),
         replies: Vec::new(),
-        in_thread: false,
+        policy_names: HashMap::new(),
+        policies: Vec::new(),
+        filters: 0,
+        has_reload: false,
+        inside: Inside::Nothing,
     };
     for line in tokens.split(|token| token.kind == Kind::Line).filter(|line| !line.is_empty()) {
-        if reader.in_thread {
-            reader.instruction(line)?;
-        } else {
-            reader.row(line)?;
+        match reader.inside {
+            Inside::Nothing => reader.row(line)?,
+            Inside::Thread => reader.instruction(line)?,
+            Inside::Policy => reader.filter(line)?,
         }
     }
-    if reader.in_thread {
+    if !matches!(reader.inside, Inside::Nothing) {
         return Err(ScriptError);
     }
     reader.name_children()?;
@@ -182,6 +202,13 @@ impl<'a> Reader<'a> {
                 if before.is_some() || self.processes.len() > MOST_ROWS { Err(ScriptError) } else { Ok(()) }
             }
             b"thread" => self.thread(line),
+            b"policy" => {
+                let [_, name, binary] = shape(line, [Word, Word, Quoted])?;
+                let before = self.policy_names.insert(name.text, self.policies.len());
+                self.policies.push((binary, Vec::new()));
+                self.inside = Inside::Policy;
+                if before.is_some() { Err(ScriptError) } else { Ok(()) }
+            }
             b"reply" if line.len() > 2 && line[1].kind == Quoted => {
                 self.replies.push(&line[1..]);
                 Ok(())
@@ -218,8 +245,19 @@ impl<'a> Reader<'a> {
         };
         let before = self.thread_names.insert(name.text, self.threads.len());
         self.threads.push(ThreadRow { process, body: Vec::new() });
-        self.in_thread = true;
+        self.inside = Inside::Thread;
         if before.is_some() || self.threads.len() > MOST_ROWS { Err(ScriptError) } else { Ok(()) }
+    }
+
+    fn filter(&mut self, line: &'a [Token<'a>]) -> Parsed<()> {
+        if line.len() == 1 && line[0].is_word("end") {
+            self.inside = Inside::Nothing;
+            return Ok(());
+        }
+        self.filters += 1;
+        let (_, lines) = self.policies.last_mut().ok_or(ScriptError)?;
+        lines.push(line);
+        if self.filters > MOST_FILTERS { Err(ScriptError) } else { Ok(()) }
     }
 
     fn push(&mut self, instr: Instr) -> Parsed<()> {
@@ -266,8 +304,14 @@ impl<'a> Reader<'a> {
                 self.forks.push((thread, self.threads[thread].body.len(), child.text));
                 self.push(Instr::Fork(0))
             }
+            b"reload" => {
+                let [_, name] = shape(line, [Word, Word])?;
+                let policy = *self.policy_names.get(name.text).ok_or(ScriptError)?;
+                self.has_reload = true;
+                self.push(Instr::Reload(policy))
+            }
             b"end" if line.len() == 1 => {
-                self.in_thread = false;
+                self.inside = Inside::Nothing;
                 Ok(())
             }
             _ => Err(ScriptError),
@@ -312,13 +356,21 @@ impl<'a> Reader<'a> {
             }
         };
         let (elevate, may_ask) = (options.ids.is_some(), options.mode != Mode::Learn);
+        if self.has_reload && options.mode == Mode::Learn {
+            return Err(ScriptError);
+        }
         let env = Env { users: self.user_names, groups: self.groups, dollars, elevate, may_ask };
         let mut replies = Vec::new();
         for row in self.replies {
             let binary = normal_name(unquote(row[0].text, Some(&env.dollars)))?;
             replies.push(policy::read_reply(binary, &row[1..], &env).map_err(|_| ScriptError)?);
         }
-        Ok(Script { tree: self.tree, processes: self.processes, threads: self.threads, replies, env })
+        let mut policies = Vec::new();
+        for (binary, lines) in self.policies {
+            let binary = unquote(binary.text, Some(&env.dollars));
+            policies.push(policy::read_script_policy(binary, &lines, &env).map_err(|_| ScriptError)?);
+        }
+        Ok(Script { tree: self.tree, processes: self.processes, threads: self.threads, replies, policies, env })
     }
 }
 

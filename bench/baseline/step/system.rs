@@ -110,6 +110,14 @@ impl System {
         }
     }
 
+    /// From now on this policy judges the calls of all processes that have its binary's.
+    pub fn reload(&mut self, policy: &Arc<Policy>) {
+        self.policies.put_in_force(policy);
+        for process in self.processes.iter_mut().filter(|process| process.policy.number == policy.number) {
+            process.policy = Arc::clone(policy);
+        }
+    }
+
     fn new_space(&mut self) -> usize {
         self.spaces += 1;
         self.spaces - 1
