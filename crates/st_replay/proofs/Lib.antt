@@ -1,0 +1,4 @@
+mod Following
+pub mod Lawful
+mod Numbered
+mod Replaying
