@@ -1,0 +1,5 @@
+pub mod Breaking
+mod Decided
+mod Lines
+pub mod Outcomes
+mod Printed
