@@ -1,14 +1,14 @@
 -- Words spell exactly the command that is read from them.
-use Rattle.std.proofs.Common.{◌≡◌, ◌≢◌, ℕ, ◌≤◌, arith, decimal, Bool, true, false, ◌&&◌, not, if◌then◌else◌, nat_le, List, [], ◌∷◌, ◌++◌, codes, Option, Some, None, option_map, refl, ap, sym, ◌∙◌, subst, leb-true, le-leb}
-use Rattle.std.proofs.lemmas.Bool.{and_parts, and_from}
+use Rattle.std.proofs.Common.{◌≡◌, ◌≢◌, ℕ, ◌≤◌, arith, decimal, Bool, true, false, ◌&&◌, ◌==◌, not, if◌then◌else◌, nat_le, List, [], ◌∷◌, ◌++◌, codes, Option, Some, None, option_map, refl, ap, sym, ◌∙◌, subst, leb-true, le-leb}
+use Rattle.std.proofs.lemmas.Bool.{and_parts, and_from, eqb-true}
 use Rattle.std.proofs.lemmas.Slice.Eq.{bytes_eq-Decides}
 use Rattle.std.specs.Prelude.{IfSome}
 use Rattle.std.specs.List.{list_all}
 use Rattle.std.specs.Str.{bytes_eq}
 use Rattle.st_command.specs.Words.{Word, has_dash, rounds_in}
 use Rattle.st_command.specs.Given.{GivenOption, PolicyFile, ModeIs, Inherits, Unaliased, IdsAre, WorkersAre, PrintIs, all_spelled, AreWithin, count_of, options_in}
-use Rattle.st_command.specs.Command.{RunWords, CheckWords, step_words, run_words, run_with, run_in, gen_in, single_kinds, may_be_given, step_with, step_in, check_with, check_in}
-use Rattle.st_command.specs.Grammar.{MayBeGiven, SpellsStep, SpellsRun, SpellsGen, ids_spelled, IdsFit, maybe_word, MayBeOperand, SpellsCheck, SpellsCommand}
+use Rattle.st_command.specs.Command.{RunWords, CheckWords, step_words, replay_words, run_words, run_with, run_in, gen_in, single_kinds, may_be_given, may_be_replayed, step_with, step_in, replay_with, replay_in, check_with, check_in}
+use Rattle.st_command.specs.Grammar.{MayBeGiven, SpellsStep, SpellsReplay, SpellsRun, SpellsGen, ids_spelled, IdsFit, maybe_word, MayBeOperand, SpellsCheck, SpellsCommand}
 use Rattle.st_command.specs.Reading.{command_in, run_of_words, gen_of_words}
 use Rattle.st_command.specs.declared.command.Command.{Command}
 use Rattle.st_command.specs.declared.command.Command.TheVariants as command
@@ -71,6 +71,14 @@ step_read given script schedule within may one two =
     ap (λ taken. option_map command.Step (step_in taken)) (all_options given script (schedule ∷ []) within one) ∙
     ap (λ (b : Bool). option_map command.Step (if b then Some (step_words given script schedule) else None)) (and_three (has_dash script) (has_dash schedule) (may_be_given given) one two (may_from given may))
 
+replayed_from : (given : List GivenOption) → MayBeGiven given → count_of kind.Print given ≡ 0 → may_be_replayed given ≡ true
+replayed_from given may none = and_from _ _ (may_from given may) (ap (λ n. n == 0) none)
+
+replay_read : (given : List GivenOption) (script trace : Word) → AreWithin given → MayBeGiven given → count_of kind.Print given ≡ 0 → has_dash script ≡ false → has_dash trace ≡ false → command_in (codes "replay" ∷ (all_spelled given ++ script ∷ trace ∷ [])) ≡ Some (command.Replay (replay_words given script trace))
+replay_read given script trace within may none one two =
+    ap (λ taken. option_map command.Replay (replay_in taken)) (all_options given script (trace ∷ []) within one) ∙
+    ap (λ (b : Bool). option_map command.Replay (if b then Some (replay_words given script trace) else None)) (and_three (has_dash script) (has_dash trace) (may_be_replayed given) one two (replayed_from given may none))
+
 run_read : (given : List GivenOption) (script : Word) → AreWithin given → MayBeGiven given → has_dash script ≡ false → run_of_words (codes "run" ∷ (all_spelled given ++ script ∷ [])) ≡ Some (run_words given script)
 run_read given script within may one =
     ap run_in (all_options given script [] within one) ∙
@@ -102,6 +110,8 @@ check_read (Some ids) policy script fit one two =
 read_of_spelled : (words : List Word) (c : Command) → SpellsCommand words c → command_in words ≡ Some c
 read_of_spelled words (command.Step step) is =
     ap command_in is.words_are ∙ step_read is.given step.script step.schedule is.within is.together is.script is.schedule ∙ ap (λ s. Some (command.Step s)) (sym is.asked)
+read_of_spelled words (command.Replay replay) is =
+    ap command_in is.words_are ∙ replay_read is.given replay.script replay.trace is.within is.together is.no_print is.script is.trace ∙ ap (λ r. Some (command.Replay r)) (sym is.asked)
 read_of_spelled words (command.Check check) is =
     ap command_in is.words_are ∙ check_read check.ids check.policy check.script is.ids is.policy is.script
 
@@ -132,6 +142,26 @@ step_spelled given (script ∷ schedule ∷ []) words are within =
       asked = refl;
     })
 step_spelled given (a ∷ b ∷ c ∷ rest) words are within = tt
+
+replay_spelled : (given : List GivenOption) (rest words : List Word) → words ≡ all_spelled given ++ rest → AreWithin given → IfSome (replay_with given rest) (SpellsReplay (codes "replay" ∷ words))
+replay_spelled given [] words are within = tt
+replay_spelled given (a ∷ []) words are within = tt
+replay_spelled given (script ∷ trace ∷ []) words are within =
+    if_some (SpellsReplay (codes "replay" ∷ words)) (not (has_dash script) && (not (has_dash trace) && may_be_replayed given)) (Some (replay_words given script trace)) (λ all.
+    let p : ((not (has_dash script) ≡ true) × ((not (has_dash trace) && may_be_replayed given) ≡ true)) = and_parts (not (has_dash script)) (not (has_dash trace) && may_be_replayed given) all in
+    let q : ((not (has_dash trace) ≡ true) × (may_be_replayed given ≡ true)) = and_parts (not (has_dash trace)) (may_be_replayed given) p.1 in
+    let m : ((may_be_given given ≡ true) × ((count_of kind.Print given == 0) ≡ true)) = and_parts (may_be_given given) (count_of kind.Print given == 0) q.1 in
+    record {
+      given = given;
+      within = within;
+      together = to_may given m.0;
+      no_print = eqb-true (count_of kind.Print given) 0 m.1;
+      script = no_dash (has_dash script) p.0;
+      trace = no_dash (has_dash trace) q.0;
+      words_are = ap (λ ws. codes "replay" ∷ ws) are;
+      asked = refl;
+    })
+replay_spelled given (a ∷ b ∷ c ∷ rest) words are within = tt
 
 run_spelled : (given : List GivenOption) (rest words : List Word) → words ≡ all_spelled given ++ rest → AreWithin given → IfSome (run_with given rest) (SpellsRun (codes "run" ∷ words))
 run_spelled given [] words are within = tt
@@ -191,7 +221,9 @@ read_is_spelled (name ∷ words) =
     pick P (bytes_eq name (codes "check")) _ _ (λ same. if_mapped command.Check (SpellsCheck (codes "check" ∷ words)) P (check_in taken)
     (λ check is. named name (codes "check") words (λ ws. SpellsCheck ws check) same is) (check_spelled taken.given taken.rest words were.words_are were.within)) (
     pick P (bytes_eq name (codes "step")) _ _ (λ same. if_mapped command.Step (SpellsStep (codes "step" ∷ words)) P (step_in taken)
-    (λ step is. named name (codes "step") words (λ ws. SpellsStep ws step) same is) (step_spelled taken.given taken.rest words were.words_are were.within)) tt)
+    (λ step is. named name (codes "step") words (λ ws. SpellsStep ws step) same is) (step_spelled taken.given taken.rest words were.words_are were.within)) (
+    pick P (bytes_eq name (codes "replay")) _ _ (λ same. if_mapped command.Replay (SpellsReplay (codes "replay" ∷ words)) P (replay_in taken)
+    (λ replay is. named name (codes "replay") words (λ ws. SpellsReplay ws replay) same is) (replay_spelled taken.given taken.rest words were.words_are were.within)) tt))
 
 pub spelled_exactly : (words : List Word) (c : Command) → (SpellsCommand words c → command_in words ≡ Some c) × (command_in words ≡ Some c → SpellsCommand words c)
 spelled_exactly words c = (read_of_spelled words c, λ is. subst (λ o. IfSome o (SpellsCommand words)) is (read_is_spelled words))

@@ -37,6 +37,10 @@ spelled_within words (command.Step step) is =
     let count = policies_counted is.given in
     let workers = workers_within is.given is.within in
     subst (λ s. IsWithinLimits (command.Step s)) (sym is.asked) (omega (arith, count, is.together.few_policies), workers.0, workers.1)
+spelled_within words (command.Replay replay) is =
+    let count = policies_counted is.given in
+    let workers = workers_within is.given is.within in
+    subst (λ r. IsWithinLimits (command.Replay r)) (sym is.asked) (omega (arith, count, is.together.few_policies), workers.0, workers.1)
 spelled_within words (command.Check check) is = tt
 
 weaken : {A : Type 0} (P Q : A → Type 0) (o : Option A) → ((a : A) → P a → Q a) → IfSome o P → IfSome o Q

@@ -3,9 +3,10 @@ use Rattle.std.proofs.Common.{◌≡◌, ℕ, List, [], ◌∷◌, codes, Option
 use Rattle.st_law.specs.declared.input.Mode.TheVariants.{Learn}
 use Rattle.st_command.specs.Words.{Word}
 use Rattle.st_command.specs.Given.{GivenOption, PolicyFile, ModeIs, Inherits, Unaliased, IdsAre, WorkersAre, PrintIs}
-use Rattle.st_command.specs.Command.{RunWords, run_words}
+use Rattle.st_command.specs.Command.{RunWords, replay_words, run_words}
 use Rattle.st_command.specs.Reading.{command_in, run_of_words, gen_of_words}
 use Rattle.st_command.specs.declared.command.Command.{Command}
+use Rattle.st_command.specs.declared.command.Command.TheVariants.{Replay}
 use Rattle.st_command.specs.declared.given.Print.TheVariants.{Trace}
 
 -- what words are read as: a command, a `run`, and the rounds of a `gen`
@@ -39,6 +40,13 @@ joined_by_a_sign = refl
 -- options stand before the operands
 an_option_after_the_script : SpellNothing (codes "step" ∷ codes "s" ∷ codes "-a" ∷ codes "c" ∷ [])
 an_option_after_the_script = refl
+
+-- `replay` has a trace, and prints nothing of its run
+a_replay_without_a_trace : SpellNothing (codes "replay" ∷ codes "s" ∷ [])
+a_replay_without_a_trace = refl
+
+a_replay_that_prints : SpellNothing (codes "replay" ∷ codes "--print" ∷ codes "audit" ∷ codes "s" ∷ codes "t" ∷ [])
+a_replay_that_prints = refl
 
 -- `run` has no schedule
 a_run_with_a_schedule : SpellNothing (codes "run" ∷ codes "s" ∷ codes "c" ∷ [])
@@ -94,6 +102,10 @@ a_gen_with_more = refl
 all_options : run_of_words (codes "run" ∷ codes "-f" ∷ codes "p" ∷ codes "-A" ∷ codes "-i" ∷ codes "-u" ∷ codes "-c" ∷ codes "1:2" ∷ codes "-w" ∷ codes "8" ∷ codes "--print" ∷ codes "trace" ∷ codes "s" ∷ []) ≡
     Some (run_words (PolicyFile (codes "p") ∷ ModeIs Learn ∷ Inherits ∷ Unaliased ∷ IdsAre 1 2 ∷ WorkersAre 8 ∷ PrintIs Trace ∷ []) (codes "s"))
 all_options = refl
+
+a_replay_with_options : command_in (codes "replay" ∷ codes "-f" ∷ codes "p" ∷ codes "-A" ∷ codes "-w" ∷ codes "8" ∷ codes "s" ∷ codes "t" ∷ []) ≡
+    Some (Replay (replay_words (PolicyFile (codes "p") ∷ ModeIs Learn ∷ WorkersAre 8 ∷ []) (codes "s") (codes "t")))
+a_replay_with_options = refl
 
 -- an option's value may begin with a dash
 a_policy_with_a_dash : run_of_words (codes "run" ∷ codes "-f" ∷ codes "-a" ∷ codes "s" ∷ []) ≡ Some (run_words (PolicyFile (codes "-a") ∷ []) (codes "s"))

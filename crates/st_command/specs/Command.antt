@@ -26,6 +26,13 @@ pub record RunWords : Type 0 where
   pub options : Options
   pub print : Print
 
+-- what `replay` is asked to do: as `step`, but with a trace in place of a schedule, and nothing of the run is printed
+pub record ReplayWords : Type 0 where
+  pub policies : List Word
+  pub script : Word
+  pub trace : Word
+  pub options : Options
+
 -- what `check` is asked to do: the names of its files, and the ids of `-c`
 pub record CheckWords : Type 0 where
   pub policy : Word
@@ -91,6 +98,10 @@ run_words given script = record {
   print = unwrap_or (option_print given) Audit;
 }
 
+-- what `replay` is asked to do by these options and operands
+abbrev pub replay_words : List GivenOption → Word → Word → ReplayWords
+replay_words given script trace = record { policies = policies_of given; script = script; trace = trace; options = options_of given }
+
 -- ---- the words after the command's name
 
 -- the kinds of options that may be given once
@@ -110,6 +121,20 @@ step_with given _ = None
 -- what `step` is asked to do by its options and the words after them
 abbrev pub step_in : TakenOptions → Option StepWords
 step_in taken = step_with taken.given taken.rest
+
+-- whether options may be given together to `replay`, which has no `--print`
+abbrev pub may_be_replayed : List GivenOption → Bool
+may_be_replayed given = may_be_given given && count_of kind.Print given == 0
+
+-- what `replay` is asked to do by the words after its options
+abbrev pub replay_with : List GivenOption → List Word → Option ReplayWords
+replay_with given (script ∷ trace ∷ []) =
+    if not (has_dash script) && (not (has_dash trace) && may_be_replayed given) then Some (replay_words given script trace) else None
+replay_with given _ = None
+
+-- what `replay` is asked to do by its options and the words after them
+abbrev pub replay_in : TakenOptions → Option ReplayWords
+replay_in taken = replay_with taken.given taken.rest
 
 -- what `run` is asked to do by the words after its options
 abbrev pub run_with : List GivenOption → List Word → Option RunWords

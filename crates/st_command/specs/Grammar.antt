@@ -2,12 +2,13 @@
 --
 --     check [-c U:G] POLICY [SCRIPT]
 --     step {OPTION} SCRIPT SCHEDULE
+--     replay {OPTION} SCRIPT TRACE
 --     run {OPTION} SCRIPT
 --     gen N
 use Rattle.std.specs.Prelude.{◌≡◌, ◌≢◌, ℕ, ◌<◌, ◌≤◌, ◌^◌, false, List, [], ◌∷◌, ◌++◌, codes, decimal, Option, Some, None}
 use Rattle.st_command.specs.Words.{Word, has_dash}
 use Rattle.st_command.specs.Given.{GivenOption, IdsAre, option_words, all_spelled, AreWithin, count_of}
-use Rattle.st_command.specs.Command.{StepWords, RunWords, CheckWords, step_words, run_words}
+use Rattle.st_command.specs.Command.{StepWords, ReplayWords, RunWords, CheckWords, step_words, replay_words, run_words}
 use Rattle.st_command.specs.declared.command.Command.{Command}
 use Rattle.st_command.specs.declared.command.Command.TheVariants as command
 use Rattle.st_command.specs.declared.given.Kind.{Kind}
@@ -27,6 +28,17 @@ pub record SpellsStep (words : List Word) (step : StepWords) : Type 0 where
   pub schedule : has_dash step.schedule ≡ false
   pub words_are : words ≡ codes "step" ∷ (all_spelled given ++ step.script ∷ step.schedule ∷ [])
   pub asked : step ≡ step_words given step.script step.schedule
+
+-- words are `replay`, options in any order but `--print`, a script and a trace
+pub record SpellsReplay (words : List Word) (replay : ReplayWords) : Type 0 where
+  pub given : List GivenOption
+  pub within : AreWithin given
+  pub together : MayBeGiven given
+  pub no_print : count_of kind.Print given ≡ 0
+  pub script : has_dash replay.script ≡ false
+  pub trace : has_dash replay.trace ≡ false
+  pub words_are : words ≡ codes "replay" ∷ (all_spelled given ++ replay.script ∷ replay.trace ∷ [])
+  pub asked : replay ≡ replay_words given replay.script replay.trace
 
 -- words are `run`, options in any order, and a script
 pub record SpellsRun (words : List Word) (run : RunWords) : Type 0 where
@@ -72,4 +84,5 @@ pub record SpellsCheck (words : List Word) (check : CheckWords) : Type 0 where
 -- words spell a command
 abbrev pub SpellsCommand : List Word → Command → Type 0
 SpellsCommand words (command.Step step) = SpellsStep words step
+SpellsCommand words (command.Replay replay) = SpellsReplay words replay
 SpellsCommand words (command.Check check) = SpellsCheck words check

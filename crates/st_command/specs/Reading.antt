@@ -4,7 +4,7 @@ use Rattle.std.specs.Str.{bytes_eq}
 use Rattle.std.specs.Borrow.{Bor}
 use Rattle.st_command.specs.Words.{Word}
 use Rattle.st_command.specs.Given.{GivenOption, PolicyFile, ModeIs, Inherits, Unaliased, IdsAre, WorkersAre, PrintIs, options_in}
-use Rattle.st_command.specs.Command.{RunWords, check_in, step_in, run_in, gen_in}
+use Rattle.st_command.specs.Command.{RunWords, check_in, step_in, replay_in, run_in, gen_in}
 use Rattle.st_command.specs.declared.command.Command.{Command}
 use Rattle.st_command.specs.declared.command.Command.TheVariants as command
 use Rattle.st_command.specs.declared.given.Given.{Given}
@@ -15,6 +15,7 @@ abbrev pub command_after : Word → List Word → Option Command
 command_after name words =
     if bytes_eq name (codes "check") then option_map command.Check (check_in (options_in words))
     else if bytes_eq name (codes "step") then option_map command.Step (step_in (options_in words))
+    else if bytes_eq name (codes "replay") then option_map command.Replay (replay_in (options_in words))
     else None
 
 -- the command that words spell, if they spell one
@@ -35,6 +36,7 @@ gen_of_words (name ∷ words) = if bytes_eq name (codes "gen") then gen_in words
 -- the limits that every command that words spell keeps to
 abbrev pub IsWithinLimits : Command → Type 0
 IsWithinLimits (command.Step step) = (length step.policies ≤ 8) × (1 ≤ step.options.workers) × (step.options.workers ≤ 8)
+IsWithinLimits (command.Replay replay) = (length replay.policies ≤ 8) × (1 ≤ replay.options.workers) × (replay.options.workers ≤ 8)
 IsWithinLimits (command.Check check) = Unit {0}
 
 -- the limits that every `run` that words spell keeps to

@@ -26,6 +26,25 @@ impl<'a> Model for StepWords<'a> {
     ghost view = { λ s. record { policies = map (λ name. name.now) s.policies; script = s.script.now; schedule = s.schedule.now; options = s.options; print = s.print } };
 }
 
+/// What `replay` is asked to do.
+#[derive(Debug, Drop)]
+pub struct ReplayWords<'a> {
+    /// The names of the policy files, in order.
+    pub policies: Sequence<&'a Text>,
+    pub script: &'a Text,
+    pub trace: &'a Text,
+    pub options: Options,
+}
+
+impl<'a> Model for ReplayWords<'a> {
+    ghost use Rattle.std.specs.Prelude.{map};
+    ghost use Rattle.st_command.specs.Command as command;
+
+    ghost Value = { command.ReplayWords };
+
+    ghost view = { λ r. record { policies = map (λ name. name.now) r.policies; script = r.script.now; trace = r.trace.now; options = r.options } };
+}
+
 /// What `run` is asked to do.
 #[derive(Debug, Drop)]
 pub struct RunWords<'a> {
@@ -85,4 +104,6 @@ pub enum Command<'a> {
     Check(CheckWords<'a>),
     /// `step OPTIONS SCRIPT SCHEDULE`
     Step(StepWords<'a>),
+    /// `replay OPTIONS SCRIPT TRACE`
+    Replay(ReplayWords<'a>),
 }

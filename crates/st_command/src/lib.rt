@@ -7,6 +7,6 @@ pub mod law;
 pub mod reading;
 mod words;
 
-pub use command::{CheckWords, Command, RunWords, StepWords};
+pub use command::{CheckWords, Command, ReplayWords, RunWords, StepWords};
 pub use given::Print;
 pub use reading::{read_gen_words, read_run_words, read_words};

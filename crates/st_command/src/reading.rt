@@ -1,9 +1,9 @@
 ghost use Rattle.std.specs.Prelude.{◌≡◌, ◌<◌, ◌≤◌, length, map, option_map, IfOk, IfSome};
 ghost use Rattle.st_command.specs.Given.{next_option, options_in};
-ghost use Rattle.st_command.specs.Command.{may_be_given, options_of, step_words, step_with, run_words, run_with, check_ids, check_with};
+ghost use Rattle.st_command.specs.Command.{may_be_given, may_be_replayed, options_of, step_words, step_with, replay_words, replay_with, run_words, run_with, check_ids, check_with};
 ghost use Rattle.st_command.specs.Reading.{option_value, shown_next, command_after, command_in, run_of_words, gen_of_words, IsWithinLimits, IsRunWithinLimits};
 
-use crate::command::{CheckWords, Command, RunWords, StepWords};
+use crate::command::{CheckWords, Command, ReplayWords, RunWords, StepWords};
 use crate::given::{
     Given, Kind, Print, alone, count_of, ids_of, mode_of, policies_of, print_of, valued, workers_of,
 };
@@ -105,6 +105,47 @@ fn step_with<'a>(
     }
 }
 
+// Whether options may be given together to `replay`, which has no `--print`.
+fn may_be_replayed(given: &[Given<'_>]) -> bool
+    ensures { result ≡ may_be_replayed (map option_value given.now) }
+{
+    may_be_given(given) && count_of(Kind::Print, given) == 0
+}
+
+fn replay_of<'a>(
+    alloc: Global,
+    given: &[Given<'a>],
+    script: &'a Text,
+    trace: &'a Text,
+) -> Result<ReplayWords<'a>, AllocError>
+    ensures { IfOk result (λ replay. replay ≡ replay_words (map option_value given.now) script.now trace.now) }
+{
+    Ok(ReplayWords {
+        policies: policies_of(alloc, given)?,
+        script,
+        trace,
+        options: options_of(given),
+    })
+}
+
+// What `replay` is asked to do by its options and the words after them.
+fn replay_with<'a>(
+    alloc: Global,
+    given: &[Given<'a>],
+    operands: &'a [Text],
+) -> Result<Option<ReplayWords<'a>>, AllocError>
+    ensures { IfOk result (λ replay. replay ≡ replay_with (map option_value given.now) operands.now) }
+{
+    let [script, trace] = operands else {
+        return Ok(None);
+    };
+    if !has_dash(script.bytes()) && !has_dash(trace.bytes()) && may_be_replayed(given) {
+        Ok(Some(replay_of(alloc, given, script, trace)?))
+    } else {
+        Ok(None)
+    }
+}
+
 fn run_of<'a>(
     alloc: Global,
     given: &[Given<'a>],
@@ -185,6 +226,9 @@ fn command_after<'a>(
     } else if name == b"step".as_slice() {
         let step = step_with(alloc, given.as_slice(), operands)?;
         Ok(step.map(Command::Step))
+    } else if name == b"replay".as_slice() {
+        let replay = replay_with(alloc, given.as_slice(), operands)?;
+        Ok(replay.map(Command::Replay))
     } else {
         Ok(None)
     }

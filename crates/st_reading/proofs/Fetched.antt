@@ -6,8 +6,9 @@ use Rattle.st_filter.specs.declared.set.BinaryPolicy.{BinaryPolicy}
 use Rattle.st_grammar.specs.declared.env.Env.{Env}
 use Rattle.st_command.specs.Words.{Word}
 use Rattle.st_reading.specs.Meaning.{Contents}
-use Rattle.st_reading.specs.Files.{IsPolicy, PolicyRefused, ArePolicies, PoliciesRefused}
+use Rattle.st_reading.specs.Files.{FetchRefused, IsPolicy, PolicyRefused, ArePolicies, PoliciesRefused}
 use Rattle.st_reading.specs.declared.refusal.Refusal.{Refusal}
+use Rattle.st_reading.specs.declared.refusal.Which.{Which}
 use Rattle.st_reading.proofs.Leads.{words_at, words_more, comes_at, one_policy_more}
 
 -- an error that is passed on
@@ -58,3 +59,9 @@ module _ (contents h : Contents) (env : Env) (names ns : List Word) (same : h �
 -- the names that were asked for, with more names added
 pub asked_more : (old mid new more names : List Word) → mid ≡ old → more ≡ names → new ≡ mid ++ more → new ≡ old ++ names
 asked_more old mid new more names mid_is more_are new_is = new_is ∙ ap (λ ns. ns ++ more) mid_is ∙ ap (λ ns. old ++ ns) more_are
+
+-- why a file was not fetched, stated of the files as they were before
+pub fetch_refused_before : (contents h : Contents) (last : Word) (w : Which) (faults faults_then faults_after : ℕ) (r : Refusal) → h ≡ contents → faults_then ≡ faults →
+    FetchRefused (h last) w faults_then faults_after r → FetchRefused (contents last) w faults faults_after r
+fetch_refused_before contents h last w faults faults_then faults_after r same quiet p =
+    subst (λ f. FetchRefused (contents last) w f faults_after r) quiet (subst (λ (x : Contents). FetchRefused (x last) w faults_then faults_after r) same p)

@@ -1,4 +1,5 @@
 pub mod Fetched
+pub mod Inputs
 pub mod Leads
 pub mod Meanings
 pub mod ReadFiles

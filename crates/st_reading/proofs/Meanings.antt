@@ -12,17 +12,18 @@ use Rattle.st_grammar.specs.Grammar as policy
 use Rattle.st_grammar.specs.declared.fault.PolicyRefusal.{PolicyRefusal}
 use Rattle.st_printing.specs.Canon.{canon}
 use Rattle.st_grammar.proofs.Complete.{reads-once, reads-faultless, faultless-reads}
+use Rattle.st_law.specs.declared.input.Input.{Input}
 use Rattle.st_schedule.specs.Schedule.{schedule_in}
 use Rattle.st_script_faults.specs.declared.fault.ScriptFault.{ScriptFault}
 use Rattle.st_script.specs.Reading.{script_in}
 use Rattle.st_script.specs.Startable.{input_with}
 use Rattle.st_script.specs.declared.reading.ReadScript.{ReadScript}
 use Rattle.st_command.specs.Words.{Word}
-use Rattle.st_command.specs.Command.{StepWords, CheckWords, check_options}
+use Rattle.st_command.specs.Command.{CheckWords, check_options}
 use Rattle.st_command.specs.declared.command.Command.{Command}
 use Rattle.st_command.specs.declared.command.Command.TheVariants as command
 use Rattle.st_reading.specs.Bare.{bare_env}
-use Rattle.st_reading.specs.Meaning.{Contents, Meaning, Stops, Refuses, Runs, Prints, is_stop, ReadsFile, Fetches, SaysScript, SaysPolicy, MeansPolicies, MeansSchedule, MeansAfterScript, MeansStep, MeansCanon, MeansCheck, Means, names_of, IsFileKnown, AreFilesKnown}
+use Rattle.st_reading.specs.Meaning.{Contents, InputWords, Meaning, Stops, Refuses, Runs, Replays, Prints, is_stop, ReadsFile, Fetches, SaysScript, SaysPolicy, MeansPolicies, MeansAfterScript, MeansInput, step_input, replay_input, MeansCanon, MeansCheck, Means, names_of, IsFileKnown, AreFilesKnown}
 use Rattle.st_reading.specs.declared.refusal.Refusal.TheVariants.{Missing, TooLong, Script, Policy}
 use Rattle.st_reading.specs.declared.refusal.Which.{Which}
 use Rattle.st_reading.specs.declared.refusal.Which.TheVariants as which
@@ -111,15 +112,23 @@ canon_one : (contents : Contents) (name : Word) (env : Env) → IsFileKnown (con
 canon_one contents name env known =
     policies_one contents env (λ policies o. o ≡ Prints (canon policies)) (λ policies. is_one (Prints (canon policies))) (name ∷ []) (known, tt) 1 []
 
-step_one : (contents : Contents) (step : StepWords) → AreFilesKnown contents (names_of (command.Step step)) → IsOne (MeansStep contents step)
-step_one contents step known =
-    let schedule_known : IsFileKnown (contents step.schedule) = (known_back contents step.policies (step.schedule ∷ []) known.1).0 in
-    fetches_one (contents step.script) which.Script (λ text o. SaysScript (script_in text step.options) (λ script. MeansAfterScript contents step script o) o) known.0
-    (λ text. script_one (script_in text step.options) (MeansAfterScript contents step)
-    (λ script. policies_one contents script.env (λ policies o. MeansSchedule contents step script policies o)
-    (λ policies. fetches_one (contents step.schedule) which.Schedule (λ text o. o ≡ Runs (input_with policies step.options script) (schedule_in text)) schedule_known
-    (λ text. is_one (Runs (input_with policies step.options script) (schedule_in text))))
-    step.policies (known_front contents step.policies (step.schedule ∷ []) known.1) 1 []))
+-- an input has one meaning if what follows it has
+pub input_one : (contents : Contents) (words : InputWords) (R : Input → Meaning → Type 0) → ((input : Input) → IsOne (R input)) → IsFileKnown (contents words.script) → AreFilesKnown contents words.policies →
+    IsOne (λ o. MeansInput contents words (λ input. R input o) o)
+input_one contents words R one script policies =
+    fetches_one (contents words.script) which.Script (λ text o. SaysScript (script_in text words.options) (λ script. MeansAfterScript contents words (λ input. R input o) script o) o) script
+    (λ text. script_one (script_in text words.options) (λ script o. MeansAfterScript contents words (λ input. R input o) script o)
+    (λ script. policies_one contents script.env (λ policies o. R (input_with policies words.options script) o)
+    (λ policies. one (input_with policies words.options script)) words.policies policies 1 []))
+
+-- and so if a last file follows it, by what its text gives
+last_one : (contents : Contents) (words : InputWords) (last : Word) (w : Which) (M : Input → List ℕ → Meaning) → AreFilesKnown contents (words.script ∷ (words.policies ++ last ∷ [])) →
+    IsOne (λ o. MeansInput contents words (λ input. Fetches (contents last) w (λ text. o ≡ M input text) o) o)
+last_one contents words last w M known =
+    let last_known : IsFileKnown (contents last) = (known_back contents words.policies (last ∷ []) known.1).0 in
+    input_one contents words (λ input o. Fetches (contents last) w (λ text. o ≡ M input text) o)
+    (λ input. fetches_one (contents last) w (λ text o. o ≡ M input text) last_known (λ text. is_one (M input text)))
+    known.0 (known_front contents words.policies (last ∷ []) known.1)
 
 check_one : (contents : Contents) (policy : Word) (ids : Option (ℕ × ℕ)) (script : Option Word) → let check : CheckWords = record { policy = policy; script = script; ids = ids } in
     AreFilesKnown contents (names_of (command.Check check)) → IsOne (MeansCheck contents check script)
@@ -130,7 +139,8 @@ check_one contents policy ids (Some name) known =
     (λ text. script_one (script_in text (check_options check)) (λ script o. MeansCanon contents policy script.env o) (λ script. canon_one contents policy script.env known.1.0))
 
 pub one_meaning : (contents : Contents) (c : Command) → AreFilesKnown contents (names_of c) → IsOne (Means contents c)
-one_meaning contents (command.Step step) known = step_one contents step known
+one_meaning contents (command.Step step) known = last_one contents (step_input step) step.schedule which.Schedule (λ input text. Runs input (schedule_in text)) known
+one_meaning contents (command.Replay replay) known = last_one contents (replay_input replay) replay.trace which.Trace Replays known
 one_meaning contents (command.Check check) known = check_one contents check.policy check.ids check.script known
 
 -- ---- at least one meaning
@@ -182,15 +192,23 @@ canon_some : (contents : Contents) (name : Word) (env : Env) → IsFileKnown (co
 canon_some contents name env known =
     policies_some contents env (λ policies o. o ≡ Prints (canon policies)) (λ policies. is_some_one (Prints (canon policies)) refl) (name ∷ []) (known, tt) 1 [] (omega arith)
 
-step_some : (contents : Contents) (step : StepWords) → AreFilesKnown contents (names_of (command.Step step)) → HasOne (MeansStep contents step)
-step_some contents step known =
-    let schedule_known : IsFileKnown (contents step.schedule) = (known_back contents step.policies (step.schedule ∷ []) known.1).0 in
-    fetches_some (contents step.script) which.Script (λ text o. SaysScript (script_in text step.options) (λ script. MeansAfterScript contents step script o) o) known.0
-    (λ text. script_some (script_in text step.options) (MeansAfterScript contents step)
-    (λ script. policies_some contents script.env (λ policies o. MeansSchedule contents step script policies o)
-    (λ policies. fetches_some (contents step.schedule) which.Schedule (λ text o. o ≡ Runs (input_with policies step.options script) (schedule_in text)) schedule_known
-    (λ text. is_some_one (Runs (input_with policies step.options script) (schedule_in text)) refl))
-    step.policies (known_front contents step.policies (step.schedule ∷ []) known.1) 1 [] (omega arith)))
+-- an input has a meaning if what follows it has
+pub input_some : (contents : Contents) (words : InputWords) (R : Input → Meaning → Type 0) → ((input : Input) → HasOne (R input)) → IsFileKnown (contents words.script) → AreFilesKnown contents words.policies →
+    HasOne (λ o. MeansInput contents words (λ input. R input o) o)
+input_some contents words R some script policies =
+    fetches_some (contents words.script) which.Script (λ text o. SaysScript (script_in text words.options) (λ script. MeansAfterScript contents words (λ input. R input o) script o) o) script
+    (λ text. script_some (script_in text words.options) (λ script o. MeansAfterScript contents words (λ input. R input o) script o)
+    (λ script. policies_some contents script.env (λ policies o. R (input_with policies words.options script) o)
+    (λ policies. some (input_with policies words.options script)) words.policies policies 1 [] (omega arith)))
+
+-- and so if a last file follows it, by what its text gives
+last_some : (contents : Contents) (words : InputWords) (last : Word) (w : Which) (M : Input → List ℕ → Meaning) → ((input : Input) (text : List ℕ) → is_stop (M input text) ≡ false) →
+    AreFilesKnown contents (words.script ∷ (words.policies ++ last ∷ [])) → HasOne (λ o. MeansInput contents words (λ input. Fetches (contents last) w (λ text. o ≡ M input text) o) o)
+last_some contents words last w M go known =
+    let last_known : IsFileKnown (contents last) = (known_back contents words.policies (last ∷ []) known.1).0 in
+    input_some contents words (λ input o. Fetches (contents last) w (λ text. o ≡ M input text) o)
+    (λ input. fetches_some (contents last) w (λ text o. o ≡ M input text) last_known (λ text. is_some_one (M input text) (go input text)))
+    known.0 (known_front contents words.policies (last ∷ []) known.1)
 
 check_some : (contents : Contents) (policy : Word) (ids : Option (ℕ × ℕ)) (script : Option Word) → let check : CheckWords = record { policy = policy; script = script; ids = ids } in
     AreFilesKnown contents (names_of (command.Check check)) → HasOne (MeansCheck contents check script)
@@ -201,5 +219,6 @@ check_some contents policy ids (Some name) known =
     (λ text. script_some (script_in text (check_options check)) (λ script o. MeansCanon contents policy script.env o) (λ script. canon_some contents policy script.env known.1.0))
 
 pub some_meaning : (contents : Contents) (c : Command) → AreFilesKnown contents (names_of c) → HasOne (Means contents c)
-some_meaning contents (command.Step step) known = step_some contents step known
+some_meaning contents (command.Step step) known = last_some contents (step_input step) step.schedule which.Schedule (λ input text. Runs input (schedule_in text)) (λ input text. refl) known
+some_meaning contents (command.Replay replay) known = last_some contents (replay_input replay) replay.trace which.Trace Replays (λ input text. refl) known
 some_meaning contents (command.Check check) known = check_some contents check.policy check.ids check.script known

@@ -14,7 +14,7 @@ use Rattle.st_script.specs.declared.reading.ReadScript.{ReadScript}
 use Rattle.st_command.specs.Words.{Word}
 use Rattle.st_command.specs.Command.{StepWords}
 use Rattle.st_reading.specs.Files.{Has}
-use Rattle.st_reading.specs.Meaning.{Contents, Meaning, Stops, Refuses, Runs, Prints, Fetches, SaysScript, SaysPolicy, MeansPolicies, MeansSchedule, MeansAfterScript, MeansStep}
+use Rattle.st_reading.specs.Meaning.{Contents, InputWords, Meaning, Stops, Refuses, Runs, Replays, Prints, Fetches, SaysScript, SaysPolicy, MeansPolicies, MeansAfterScript, MeansInput, MeansSchedule, MeansStep, step_input}
 use Rattle.st_reading.specs.declared.refusal.Which.{Which}
 use Rattle.st_reading.specs.declared.refusal.Which.TheVariants as which
 
@@ -23,6 +23,7 @@ abbrev pub IsRead : Meaning → Type 0
 IsRead (Stops w) = ⊥
 IsRead (Refuses refusal) = ⊥
 IsRead (Runs input schedule) = Unit {0}
+IsRead (Replays input text) = Unit {0}
 IsRead (Prints text) = Unit {0}
 
 -- a property of policies that were read with this environment
@@ -70,6 +71,36 @@ module _ (contents : Contents) (outcome : Meaning) (read : IsRead outcome) where
       let y = text_read x.text env before n further x.says in
       policies_read P env Read names keeps.1 (n + 1) y.0 (keeps.0 env x.text before y.0 x.content y.1 kept) y.2
 
+-- ---- inputs
+
+-- what was read as an input, if a run, a replay or a text is meant
+pub record IsInputRead (P : PolicyProperty) (contents : Contents) (words : InputWords) (Read : Input → Type 0) : Type 0 where
+  pub script_text : List ℕ
+  pub script_held : CanHold (contents words.script) script_text
+  pub script_within : length script_text ≤ FILE_LIMIT
+  pub script : ReadScript
+  pub script_is : script_in script_text words.options ≡ Ok script
+  pub policies : List BinaryPolicy
+  pub kept : P script.env policies
+  pub says : Read (input_with policies words.options script)
+
+pub input_read : (P : PolicyProperty) → ((env : Env) → P env []) → (contents : Contents) (words : InputWords) → AreKept P contents words.policies → (outcome : Meaning) → IsRead outcome → (Read : Input → Type 0) →
+    MeansInput contents words Read outcome → IsInputRead P contents words Read
+input_read P none contents words keeps outcome read Read meant =
+    let x = fetched contents outcome read words.script which.Script (λ text. SaysScript (script_in text words.options) (λ script. MeansAfterScript contents words Read script outcome) outcome) meant in
+    let s = script_read contents outcome read (script_in x.text words.options) (λ script. MeansAfterScript contents words Read script outcome) x.says in
+    let p = policies_read contents outcome read P s.0.env (λ policies. Read (input_with policies words.options s.0)) words.policies keeps 1 [] (none s.0.env) s.2 in
+    record {
+      script_text = x.text;
+      script_held = x.content;
+      script_within = x.within;
+      script = s.0;
+      script_is = s.1;
+      policies = p.0;
+      kept = p.1;
+      says = p.2;
+    }
+
 -- ---- `step`
 
 -- what `step` has read, if it means a run or a text
@@ -87,18 +118,16 @@ pub record IsStepRead (P : PolicyProperty) (contents : Contents) (step : StepWor
 
 pub step_read : (P : PolicyProperty) → ((env : Env) → P env []) → (contents : Contents) (step : StepWords) → AreKept P contents step.policies → (outcome : Meaning) → IsRead outcome → MeansStep contents step outcome → IsStepRead P contents step outcome
 step_read P none contents step keeps outcome read meant =
-    let x = fetched contents outcome read step.script which.Script (λ text. SaysScript (script_in text step.options) (λ script. MeansAfterScript contents step script outcome) outcome) meant in
-    let s = script_read contents outcome read (script_in x.text step.options) (λ script. MeansAfterScript contents step script outcome) x.says in
-    let p = policies_read contents outcome read P s.0.env (λ policies. MeansSchedule contents step s.0 policies outcome) step.policies keeps 1 [] (none s.0.env) s.2 in
-    let c = fetched contents outcome read step.schedule which.Schedule (λ text. outcome ≡ Runs (input_with p.0 step.options s.0) (schedule_in text)) p.2 in
+    let x = input_read P none contents (step_input step) keeps outcome read (λ input. MeansSchedule contents step input outcome) meant in
+    let c = fetched contents outcome read step.schedule which.Schedule (λ text. outcome ≡ Runs (input_with x.policies step.options x.script) (schedule_in text)) x.says in
     record {
-      script_text = x.text;
-      script_held = x.content;
-      script_within = x.within;
-      script = s.0;
-      script_is = s.1;
-      policies = p.0;
-      kept = p.1;
+      script_text = x.script_text;
+      script_held = x.script_held;
+      script_within = x.script_within;
+      script = x.script;
+      script_is = x.script_is;
+      policies = x.policies;
+      kept = x.kept;
       schedule_text = c.text;
       schedule_held = c.content;
       outcome_is = c.says;
@@ -107,4 +136,5 @@ step_read P none contents step keeps outcome read meant =
 -- the input of a run, otherwise this other input
 abbrev pub input_or : Input → Meaning → Input
 input_or other (Runs i s) = i
+input_or other (Replays i text) = i
 input_or other _ = other

@@ -7,18 +7,15 @@ use Rattle.st_printing.specs.Canon.{canon}
 use Rattle.st_grammar.specs.Reading.{refusal_in}
 use Rattle.st_grammar.specs.Grammar as policy
 use Rattle.st_law.specs.declared.input.Options.{Options}
-use Rattle.st_law.specs.declared.input.ReadSchedule.{ReadSchedule}
-use Rattle.st_schedule.specs.Schedule.{schedule_in}
 use Rattle.st_script.specs.Reading.{script_in}
-use Rattle.st_script.specs.Startable.{input_with}
 use Rattle.st_script.specs.declared.reading.ReadScript.{ReadScript}
 use Rattle.st_command.specs.Words.{Word}
-use Rattle.st_command.specs.Command.{StepWords, CheckWords, check_options}
+use Rattle.st_command.specs.Command.{CheckWords, check_options}
 use Rattle.st_command.specs.Grammar.{maybe_word}
 use Rattle.st_command.specs.declared.command.Command.{Command}
 use Rattle.st_command.specs.declared.command.Command.TheVariants as command
-use Rattle.st_reading.specs.Meaning.{Contents, Meaning, is_stop, Stops, Refuses, Runs, Prints, SaysScript, SaysPolicy, Fetches, MeansPolicies, MeansSchedule, MeansAfterScript, MeansCanon, MeansCheck, Means, names_to}
-use Rattle.st_reading.specs.Files.{Has, FetchRefused, IsScript, ScriptRefused, PolicyRefused, ArePolicies, ReachesFile, PoliciesRefused, GivesEnv, EnvRefused}
+use Rattle.st_reading.specs.Meaning.{Contents, Meaning, is_stop, Stops, Refuses, Prints, SaysScript, SaysPolicy, Fetches, MeansPolicies, MeansCanon, MeansCheck, Means, names_to}
+use Rattle.st_reading.specs.Files.{FetchRefused, ScriptRefused, PolicyRefused, ArePolicies, ReachesFile, PoliciesRefused, GivesEnv, EnvRefused}
 use Rattle.st_reading.specs.Ends.{AreAskedTo, AskedTo, CanStopAt, RefusesFiles, RefusesReading, as_meaning, ending, EndsReading}
 use Rattle.st_reading.specs.declared.reading.Reading.{Reading}
 use Rattle.st_reading.specs.declared.reading.Reading.TheVariants as reading
@@ -109,56 +106,6 @@ pub append_nil : (names : List Word) → names ++ [] ≡ names
 append_nil [] = refl
 append_nil (name ∷ names) = ap (λ ns. name ∷ ns) (append_nil names)
 
--- ---- `step`
-
-module _ (contents : Contents) (step : StepWords) where
-  after_script : (script : ReadScript) → IsScript (contents step.script) step.options script → (o : Meaning) → MeansAfterScript contents step script o → Means contents (command.Step step) o
-  after_script script is o m = leads_script (contents step.script) step.options script (λ script. MeansAfterScript contents step script o) o is m
-
-  after_policies : (script : ReadScript) (policies : List BinaryPolicy) → IsScript (contents step.script) step.options script → ArePolicies contents script.env step.policies [] policies →
-      (o : Meaning) → MeansSchedule contents step script policies o → Means contents (command.Step step) o
-  after_policies script policies is are o m =
-      after_script script is o (subst (λ ns. MeansPolicies contents script.env 1 ns [] (λ ps. MeansSchedule contents step script ps o) o) (append_nil step.policies)
-      (leads_policies contents script.env (λ ps. MeansSchedule contents step script ps o) o step.policies [] 1 [] policies are m))
-
-  -- with all its files read, `step` means to run this input
-  pub step_means : (script : ReadScript) (policies : List BinaryPolicy) (schedule : ReadSchedule) → IsScript (contents step.script) step.options script →
-      ArePolicies contents script.env step.policies [] policies → Has (contents step.schedule) (λ text. schedule ≡ schedule_in text) → Means contents (command.Step step) (Runs (input_with policies step.options script) schedule)
-  step_means script policies schedule is are read =
-      let o : Meaning = Runs (input_with policies step.options script) schedule in
-      after_policies script policies is are o
-      (leads_has (contents step.schedule) which.Schedule (λ text. schedule ≡ schedule_in text) (λ text. o ≡ Runs (input_with policies step.options script) (schedule_in text)) o read
-      (ap (Runs (input_with policies step.options script)) read.says))
-
-  module _ (faults faults_after : ℕ) (old new : List Word) where
-    pub step_script_refused : new ≡ old ++ step.script ∷ [] → (r : Refusal) → ScriptRefused (contents step.script) step.options faults faults_after r →
-        RefusesReading contents (command.Step step) faults faults_after old new r
-    step_script_refused asked r p =
-        script_refused contents (Means contents (command.Step step)) (names_to (command.Step step)) faults faults_after old new step.script step.options (MeansAfterScript contents step) refl asked (λ o m. m) r p
-
-    pub step_policies_refused : (script : ReadScript) → IsScript (contents step.script) step.options script → (r : Refusal) →
-        PoliciesRefused contents script.env step.policies faults faults_after (old ++ step.script ∷ []) new r → RefusesReading contents (command.Step step) faults faults_after old new r
-    step_policies_refused script is r p =
-        policies_refused contents (Means contents (command.Step step)) (names_to (command.Step step)) faults faults_after old new script.env step.policies (step.script ∷ []) (MeansSchedule contents step script)
-        (after_script script is) (λ n. refl) r p
-
-    all_asked : new ≡ ((old ++ step.script ∷ []) ++ step.policies) ++ step.schedule ∷ [] → AskedTo (command.Step step) which.Schedule old new
-    all_asked asked =
-        asked ∙ append_assoc (old ++ step.script ∷ []) step.policies (step.schedule ∷ []) ∙ append_assoc old (step.script ∷ []) (step.policies ++ step.schedule ∷ [])
-
-    pub step_schedule_refused : (script : ReadScript) (policies : List BinaryPolicy) → IsScript (contents step.script) step.options script → ArePolicies contents script.env step.policies [] policies →
-        new ≡ ((old ++ step.script ∷ []) ++ step.policies) ++ step.schedule ∷ [] → (r : Refusal) → FetchRefused (contents step.schedule) which.Schedule faults faults_after r →
-        RefusesReading contents (command.Step step) faults faults_after old new r
-    step_schedule_refused script policies is are asked r p =
-        fetch_refused contents (Means contents (command.Step step)) (names_to (command.Step step)) faults faults_after old new which.Schedule step.schedule (step.script ∷ step.policies) refl (all_asked asked)
-        (λ text o. o ≡ Runs (input_with policies step.options script) (schedule_in text)) (after_policies script policies is are) r p
-
-    pub step_read : (script : ReadScript) (policies : List BinaryPolicy) (schedule : ReadSchedule) → IsScript (contents step.script) step.options script →
-        ArePolicies contents script.env step.policies [] policies → Has (contents step.schedule) (λ text. schedule ≡ schedule_in text) →
-        new ≡ ((old ++ step.script ∷ []) ++ step.policies) ++ step.schedule ∷ [] →
-        EndsReading contents (command.Step step) faults faults_after old new (Ok (reading.Run (input_with policies step.options script) schedule))
-    step_read script policies schedule is are read asked = (step_means script policies schedule is are read, all_asked asked)
-
 -- ---- `check`
 
 -- the environment that `check` reads its policy with leads to what is meant after it
@@ -212,6 +159,7 @@ module _ (contents : Contents) (faults faults_after : ℕ) (old new : List Word)
 
 as_no_stop : (read : Reading) → is_stop (as_meaning read) ≡ false
 as_no_stop (reading.Run input schedule) = refl
+as_no_stop (reading.Replay input text) = refl
 as_no_stop (reading.Text text) = refl
 
 -- if a command has one meaning, and no count rose, the answer is that meaning, unless memory runs out

@@ -4,7 +4,7 @@ use Rattle.st_outside.specs.Count.{HasRisen}
 use Rattle.st_outside.specs.Files.{CanFit}
 use Rattle.st_command.specs.Words.{Word}
 use Rattle.st_command.specs.declared.command.Command.{Command}
-use Rattle.st_reading.specs.Meaning.{Contents, Meaning, Stops, Refuses, Runs, Prints, Means, names_to, last_file}
+use Rattle.st_reading.specs.Meaning.{Contents, Meaning, Stops, Refuses, Runs, Replays, Prints, Means, names_to, last_file}
 use Rattle.st_reading.specs.declared.reading.Reading.{Reading}
 use Rattle.st_reading.specs.declared.reading.Reading.TheVariants as reading
 use Rattle.st_reading.specs.declared.refusal.Refusal.{Refusal}
@@ -60,9 +60,10 @@ ReadingIsOutOfMemory contents c old new = HasNoMemory contents (Means contents c
 abbrev pub RefusesReading : Contents → Command → ℕ → ℕ → List Word → List Word → Refusal → Type 0
 RefusesReading contents c faults faults_after old new refusal = RefusesFiles contents (Means contents c) (names_to c) faults faults_after old new refusal
 
--- what was read, as a meaning: a run, or a text to be printed
+-- what was read, as a meaning: a run, the replay of a trace, or a text to be printed
 abbrev pub as_meaning : Reading → Meaning
 as_meaning (reading.Run input schedule) = Runs input schedule
+as_meaning (reading.Replay input text) = Replays input text
 as_meaning (reading.Text text) = Prints text
 
 -- a command is read as what it means, with all its names asked for, or it is refused

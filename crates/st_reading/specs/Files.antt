@@ -1,5 +1,5 @@
 -- How the reading of each kind of file ends.
-use Rattle.std.specs.Prelude.{◌≡◌, ℕ, ◌+◌, ◌≤◌, List, [], ◌∷◌, ◌++◌, length, Option, Some, None, is_some, Result, Ok, Err}
+use Rattle.std.specs.Prelude.{◌≡◌, ◌⊎◌, ℕ, ◌+◌, ◌≤◌, List, [], ◌∷◌, ◌++◌, length, Option, Some, None, is_some, Result, Ok, Err}
 use Rattle.st_outside.specs.Count.{HasRisen}
 use Rattle.st_outside.specs.Files.{FileView, CanHold, CanLack, CanExceed, CanFit}
 use Rattle.st_outside.specs.declared.files.TheConstants.{FILE_LIMIT}
@@ -7,16 +7,18 @@ use Rattle.st_filter.specs.declared.set.BinaryPolicy.{BinaryPolicy}
 use Rattle.st_grammar.specs.declared.env.Env.{Env}
 use Rattle.st_grammar.specs.Reading.{refusal_in}
 use Rattle.st_grammar.specs.Grammar as policy
+use Rattle.st_law.specs.declared.input.Input.{Input}
 use Rattle.st_law.specs.declared.input.Options.{Options}
 use Rattle.st_law.specs.declared.input.ReadSchedule.{ReadSchedule}
 use Rattle.st_schedule.specs.Schedule.{schedule_in}
 use Rattle.st_script.specs.Reading.{script_in}
+use Rattle.st_script.specs.Startable.{input_with}
 use Rattle.st_script.specs.declared.reading.ReadScript.{ReadScript}
 use Rattle.st_command.specs.Words.{Word}
 use Rattle.st_command.specs.Command.{CheckWords, check_options}
 use Rattle.st_command.specs.Grammar.{maybe_word}
 use Rattle.st_reading.specs.Bare.{bare_env}
-use Rattle.st_reading.specs.Meaning.{Contents}
+use Rattle.st_reading.specs.Meaning.{Contents, InputWords}
 use Rattle.st_reading.specs.declared.refusal.Refusal.{Refusal}
 use Rattle.st_reading.specs.declared.refusal.Refusal.TheVariants.{Missing, TooLong, Script, Policy, ReadFault, NoMemory}
 use Rattle.st_reading.specs.declared.refusal.Which.{Which}
@@ -98,12 +100,40 @@ abbrev pub PoliciesEnd : Contents → Env → List Word → ℕ → ℕ → List
 PoliciesEnd contents env names faults faults_after old new (Ok policies) = ArePolicies contents env names [] policies × (new ≡ old ++ names)
 PoliciesEnd contents env names faults faults_after old new (Err refusal) = PoliciesRefused contents env names faults faults_after old new refusal
 
+-- ---- inputs
+
+-- the files of these words are read as this input
+pub record IsInput (contents : Contents) (words : InputWords) (input : Input) : Type 0 where
+  pub script : ReadScript
+  pub policies : List BinaryPolicy
+  pub script_is : IsScript (contents words.script) words.options script
+  pub policies_are : ArePolicies contents script.env words.policies [] policies
+  pub input_is : input ≡ input_with policies words.options script
+
+-- why an input was not read, and the names that were asked for: the script was refused, or after it one of the policy files
+abbrev pub InputRefused : Contents → InputWords → ℕ → ℕ → List Word → List Word → Refusal → Type 0
+InputRefused contents words faults faults_after old new refusal =
+    (ScriptRefused (contents words.script) words.options faults faults_after refusal × (new ≡ old ++ words.script ∷ [])) ⊎
+    ((script : ReadScript) × IsScript (contents words.script) words.options script × PoliciesRefused contents script.env words.policies faults faults_after (old ++ words.script ∷ []) new refusal)
+
+-- how the reading of an input ends
+abbrev pub InputEnds : Contents → InputWords → ℕ → ℕ → List Word → List Word → Result Input Refusal → Type 0
+InputEnds contents words faults faults_after old new (Ok input) = IsInput contents words input × (new ≡ old ++ words.script ∷ words.policies)
+InputEnds contents words faults faults_after old new (Err refusal) = InputRefused contents words faults faults_after old new refusal
+
 -- ---- schedules
 
 -- how the reading of a schedule ends
 abbrev pub ScheduleEnds : FileView → ℕ → ℕ → Result ReadSchedule Refusal → Type 0
 ScheduleEnds contents old new (Ok schedule) = Has contents (λ text. schedule ≡ schedule_in text)
 ScheduleEnds contents old new (Err refusal) = FetchRefused contents which.Schedule old new refusal
+
+-- ---- traces
+
+-- how the fetching of a trace ends
+abbrev pub TraceEnds : FileView → ℕ → ℕ → Result (List ℕ) Refusal → Type 0
+TraceEnds contents old new (Ok text) = Has contents (λ held. text ≡ held)
+TraceEnds contents old new (Err refusal) = FetchRefused contents which.Trace old new refusal
 
 -- ---- the environment that `check` reads its policy with
 

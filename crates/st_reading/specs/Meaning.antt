@@ -1,5 +1,5 @@
--- What a command and its files mean, before anything runs: a refusal, the input of a run and its schedule, or a text. Each case applies
--- only if those before it don't.
+-- What a command and its files mean, before anything runs: a refusal, the input of a run with its schedule or with a printed trace, or a text.
+-- Each case applies only if those before it don't.
 use Rattle.std.specs.Prelude.{◌≡◌, ℕ, ◌+◌, ◌≤◌, ◌⊎◌, Bool, true, false, List, [], ◌∷◌, ◌++◌, length, take, Option, Some, None, is_some, Result, Ok, Err}
 use Rattle.st_outside.specs.Files.{FileView, Unknown, Absent, FileBytes, CanHold, CanLack, CanExceed}
 use Rattle.st_outside.specs.declared.files.TheConstants.{FILE_LIMIT}
@@ -10,6 +10,7 @@ use Rattle.st_printing.specs.Canon.{canon}
 use Rattle.st_grammar.specs.Reading.{refusal_in}
 use Rattle.st_grammar.specs.Grammar as policy
 use Rattle.st_law.specs.declared.input.Input.{Input}
+use Rattle.st_law.specs.declared.input.Options.{Options}
 use Rattle.st_law.specs.declared.input.ReadSchedule.{ReadSchedule}
 use Rattle.st_schedule.specs.Schedule.{schedule_in}
 use Rattle.st_script_faults.specs.declared.fault.ScriptFault.{ScriptFault}
@@ -17,7 +18,7 @@ use Rattle.st_script.specs.Reading.{script_in}
 use Rattle.st_script.specs.Startable.{input_with}
 use Rattle.st_script.specs.declared.reading.ReadScript.{ReadScript}
 use Rattle.st_command.specs.Words.{Word}
-use Rattle.st_command.specs.Command.{StepWords, CheckWords, check_options}
+use Rattle.st_command.specs.Command.{StepWords, ReplayWords, CheckWords, check_options}
 use Rattle.st_command.specs.Grammar.{maybe_word}
 use Rattle.st_command.specs.declared.command.Command.{Command}
 use Rattle.st_command.specs.declared.command.Command.TheVariants as command
@@ -31,11 +32,13 @@ use Rattle.st_reading.specs.declared.refusal.Which.TheVariants as which
 abbrev pub Contents : Type 0
 Contents = Word → FileView
 
--- what a command means: a stop at a file that can't be read, a refusal, a run by this schedule, or a text that is printed without a run
+-- what a command means: a stop at a file that can't be read, a refusal, a run by this schedule, the replay of this printed trace, or a text
+-- that is printed without a run
 pub data Meaning : Type 0 where
   Stops : Which → Meaning
   Refuses : Refusal → Meaning
   Runs : Input → ReadSchedule → Meaning
+  Replays : Input → List ℕ → Meaning
   Prints : List ℕ → Meaning
 
 -- whether an outcome is a stop, which any file that is reached can cause
@@ -43,6 +46,7 @@ abbrev pub is_stop : Meaning → Bool
 is_stop (Stops w) = true
 is_stop (Refuses refusal) = false
 is_stop (Runs input schedule) = false
+is_stop (Replays input text) = false
 is_stop (Prints text) = false
 
 -- ---- files
@@ -77,22 +81,47 @@ MeansPolicies contents env n (name ∷ names) before Read outcome =
     (λ text. SaysPolicy text env before n (λ policies. MeansPolicies contents env (n + 1) names policies Read outcome) outcome)
     outcome
 
+-- ---- inputs
+
+-- what the input of a run is read from: the names of its policy files, the name of its script, and its options
+pub record InputWords : Type 0 where
+  pub policies : List Word
+  pub script : Word
+  pub options : Options
+
+-- what is meant once the script is read: the policies are read with its environment, and the input has this meaning
+abbrev pub MeansAfterScript : Contents → InputWords → (Input → Type 0) → ReadScript → Meaning → Type 0
+MeansAfterScript contents words Read script outcome =
+    MeansPolicies contents script.env 1 words.policies [] (λ policies. Read (input_with policies words.options script)) outcome
+
+-- what is meant if the script and the policies are read as an input that has this meaning
+abbrev pub MeansInput : Contents → InputWords → (Input → Type 0) → Meaning → Type 0
+MeansInput contents words Read outcome =
+    Fetches (contents words.script) which.Script
+    (λ text. SaysScript (script_in text words.options) (λ script. MeansAfterScript contents words Read script outcome) outcome) outcome
+
 -- ---- commands
 
--- what `step` means once its script and policies are read: its schedule is fetched and read, whatever it says
-abbrev pub MeansSchedule : Contents → StepWords → ReadScript → List BinaryPolicy → Meaning → Type 0
-MeansSchedule contents step script policies outcome =
-    Fetches (contents step.schedule) which.Schedule (λ text. outcome ≡ Runs (input_with policies step.options script) (schedule_in text)) outcome
+abbrev pub step_input : StepWords → InputWords
+step_input step = record { policies = step.policies; script = step.script; options = step.options }
 
--- what `step` means once its script is read: its policies are read with the script's environment
-abbrev pub MeansAfterScript : Contents → StepWords → ReadScript → Meaning → Type 0
-MeansAfterScript contents step script outcome =
-    MeansPolicies contents script.env 1 step.policies [] (λ policies. MeansSchedule contents step script policies outcome) outcome
+-- what `step` means once its input is read: its schedule is fetched and read, whatever it says
+abbrev pub MeansSchedule : Contents → StepWords → Input → Meaning → Type 0
+MeansSchedule contents step input outcome =
+    Fetches (contents step.schedule) which.Schedule (λ text. outcome ≡ Runs input (schedule_in text)) outcome
 
 abbrev pub MeansStep : Contents → StepWords → Meaning → Type 0
-MeansStep contents step outcome =
-    Fetches (contents step.script) which.Script
-    (λ text. SaysScript (script_in text step.options) (λ script. MeansAfterScript contents step script outcome) outcome) outcome
+MeansStep contents step outcome = MeansInput contents (step_input step) (λ input. MeansSchedule contents step input outcome) outcome
+
+abbrev pub replay_input : ReplayWords → InputWords
+replay_input replay = record { policies = replay.policies; script = replay.script; options = replay.options }
+
+-- what `replay` means once its input is read: its trace is fetched, whatever it says
+abbrev pub MeansTrace : Contents → ReplayWords → Input → Meaning → Type 0
+MeansTrace contents replay input outcome = Fetches (contents replay.trace) which.Trace (λ text. outcome ≡ Replays input text) outcome
+
+abbrev pub MeansReplay : Contents → ReplayWords → Meaning → Type 0
+MeansReplay contents replay outcome = MeansInput contents (replay_input replay) (λ input. MeansTrace contents replay input outcome) outcome
 
 -- what `check` means with this environment: the canonical text of its policies is printed
 abbrev pub MeansCanon : Contents → Word → Env → Meaning → Type 0
@@ -108,22 +137,31 @@ MeansCheck contents check (Some name) outcome =
 -- what a command means over files of which this much is known
 abbrev pub Means : Contents → Command → Meaning → Type 0
 Means contents (command.Step step) outcome = MeansStep contents step outcome
+Means contents (command.Replay replay) outcome = MeansReplay contents replay outcome
 Means contents (command.Check check) outcome = MeansCheck contents check check.script outcome
 
 -- ---- names
 
+-- the names that are asked for, in order, up to this file, if this last one is asked for after those of an input
+abbrev pub input_names_to : InputWords → Word → Which → List Word
+input_names_to words last which.Script = words.script ∷ []
+input_names_to words last (which.Policy n) = words.script ∷ take n words.policies
+input_names_to words last which.Schedule = words.script ∷ (words.policies ++ last ∷ [])
+input_names_to words last which.Trace = words.script ∷ (words.policies ++ last ∷ [])
+
 -- the names that a command asks for, in order, up to this file
 abbrev pub names_to : Command → Which → List Word
-names_to (command.Step step) which.Script = step.script ∷ []
-names_to (command.Step step) (which.Policy n) = step.script ∷ take n step.policies
-names_to (command.Step step) which.Schedule = step.script ∷ (step.policies ++ step.schedule ∷ [])
+names_to (command.Step step) w = input_names_to (step_input step) step.schedule w
+names_to (command.Replay replay) w = input_names_to (replay_input replay) replay.trace w
 names_to (command.Check check) which.Script = maybe_word check.script
 names_to (command.Check check) (which.Policy n) = maybe_word check.script ++ take n (check.policy ∷ [])
 names_to (command.Check check) which.Schedule = maybe_word check.script ++ check.policy ∷ []
+names_to (command.Check check) which.Trace = maybe_word check.script ++ check.policy ∷ []
 
 -- the file that a command asks for last
 abbrev pub last_file : Command → Which
 last_file (command.Step step) = which.Schedule
+last_file (command.Replay replay) = which.Trace
 last_file (command.Check check) = which.Policy 1
 
 -- all names of a command, in order

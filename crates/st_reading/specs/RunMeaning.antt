@@ -2,13 +2,10 @@
 use Rattle.std.specs.Prelude.{◌≡◌, ℕ, List, [], ◌∷◌, take, None, Result, Ok, Err}
 use Rattle.st_law.specs.declared.input.Input.{Input}
 use Rattle.st_law.specs.declared.input.ReadSchedule.{ReadSchedule}
-use Rattle.st_script.specs.Reading.{script_in}
-use Rattle.st_script.specs.Startable.{input_with}
-use Rattle.st_script.specs.declared.reading.ReadScript.{ReadScript}
 use Rattle.st_command.specs.Words.{Word}
 use Rattle.st_command.specs.Command.{RunWords, StepWords}
 use Rattle.st_reading.specs.Ends.{AreAskedTo, RefusesFiles}
-use Rattle.st_reading.specs.Meaning.{Contents, Fetches, Meaning, MeansPolicies, Runs, SaysScript}
+use Rattle.st_reading.specs.Meaning.{Contents, InputWords, Meaning, MeansInput, Runs}
 use Rattle.st_reading.specs.declared.refusal.Refusal.{Refusal}
 use Rattle.st_reading.specs.declared.refusal.Which.{Which}
 use Rattle.st_reading.specs.declared.refusal.Which.TheVariants as which
@@ -21,22 +18,19 @@ no_lines = record { lines = []; bad = None }
 abbrev pub starts : Input → Meaning
 starts input = Runs input no_lines
 
--- what `run` means once its script is read: its policies are read with the script's environment
-abbrev pub MeansRunAfterScript : Contents → RunWords → ReadScript → Meaning → Type 0
-MeansRunAfterScript contents run script outcome =
-    MeansPolicies contents script.env 1 run.policies [] (λ policies. outcome ≡ starts (input_with policies run.options script)) outcome
+abbrev pub run_input : RunWords → InputWords
+run_input run = record { policies = run.policies; script = run.script; options = run.options }
 
 -- what `run` means over files of which this much is known
 abbrev pub MeansRun : Contents → RunWords → Meaning → Type 0
-MeansRun contents run outcome =
-    Fetches (contents run.script) which.Script
-    (λ text. SaysScript (script_in text run.options) (λ script. MeansRunAfterScript contents run script outcome) outcome) outcome
+MeansRun contents run outcome = MeansInput contents (run_input run) (λ input. outcome ≡ starts input) outcome
 
--- the names that `run` asks for, in order, up to this file; it has no schedule, so that all names are asked for up to there
+-- the names that `run` asks for, in order, up to this file; it has no file after its policies, so that all names are asked for up to there
 abbrev pub run_names_to : RunWords → Which → List Word
 run_names_to run which.Script = run.script ∷ []
 run_names_to run (which.Policy n) = run.script ∷ take n run.policies
 run_names_to run which.Schedule = run.script ∷ run.policies
+run_names_to run which.Trace = run.script ∷ run.policies
 
 -- all names of `run`, in order
 abbrev pub run_names : RunWords → List Word

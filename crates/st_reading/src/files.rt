@@ -3,13 +3,14 @@ ghost use Rattle.st_outside.specs.Files.{CanHold};
 ghost use Rattle.st_outside.specs.declared.files.TheConstants.{FILE_LIMIT};
 ghost use Rattle.st_filter.specs.Policies.{filters_in};
 ghost use Rattle.st_filter.specs.declared.set.TheConstants.{MOST_FILTERS};
-ghost use Rattle.st_reading.specs.Files.{FetchRefused, ScriptEnds, PolicyEnds, PoliciesEnd, ScheduleEnds};
+ghost use Rattle.st_reading.specs.Files.{FetchRefused, ScriptEnds, PolicyEnds, PoliciesEnd, InputEnds, ScheduleEnds, TraceEnds};
 
+use crate::input::input_with;
 use crate::refusal::{Refusal, Which};
 use st_base::Text;
 use st_filter::PolicySet;
 use st_grammar::{Env, PolicyFault};
-use st_law::{Options, ReadSchedule};
+use st_law::{Input, Options, ReadSchedule};
 use st_outside::{FetchFault, Files};
 use st_policy::read_policies;
 use st_schedule::read_schedule;
@@ -103,6 +104,24 @@ pub(crate) fn read_policy_files<F: Files>(
     Ok(policies)
 }
 
+/// Fetches the files that an input is read from, and reads them: the script, then each policy file.
+pub(crate) fn read_input<F: Files>(
+    alloc: Global,
+    files: &mut F,
+    script: &Text,
+    policies: &[&Text],
+    options: Options,
+) -> Result<Input, Refusal>
+    requires { length policies.now ≤ 8 }
+    ensures contents { F.contents files.new ≡ F.contents files.old }
+    ensures ends { InputEnds (F.contents files.old) (record { policies = map (λ name. name.now) policies.now; script = script.now; options = options }) (F.faults files.old) (F.faults files.new) (F.asked files.old) (F.asked files.new) result }
+    ensures quiet { result ≢ Err Refusal.ReadFault → F.faults files.new ≡ F.faults files.old }
+{
+    let script = read_script_file(alloc, files, script, &options)?;
+    let policies = read_policy_files(alloc, files, &script.env, policies)?;
+    Ok(input_with(alloc, policies, options, script))
+}
+
 /// Fetches a schedule and reads it.
 pub(crate) fn read_schedule_file<F: Files>(
     alloc: Global,
@@ -116,4 +135,19 @@ pub(crate) fn read_schedule_file<F: Files>(
 {
     let text = fetch(alloc, files, name, Which::Schedule)?;
     Ok(read_schedule(alloc, text.bytes())?)
+}
+
+/// Fetches a printed trace.
+pub(crate) fn fetch_trace<F: Files>(
+    alloc: Global,
+    files: &mut F,
+    name: &Text,
+) -> Result<Text, Refusal>
+    ensures contents { F.contents files.new ≡ F.contents files.old }
+    ensures asked { F.asked files.new ≡ F.asked files.old ++ name.now ∷ [] }
+    ensures ends { TraceEnds (F.contents files.old name.now) (F.faults files.old) (F.faults files.new) result }
+    ensures within { IfOk result (λ text. length text ≤ FILE_LIMIT) }
+    ensures quiet { result ≢ Err Refusal.ReadFault → F.faults files.new ≡ F.faults files.old }
+{
+    fetch(alloc, files, name, Which::Trace)
 }

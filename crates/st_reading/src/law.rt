@@ -1,13 +1,14 @@
 ghost use Rattle.std.specs.Prelude.{◌≡◌, ◌≤◌, ℕ, List, false, length};
 ghost use Rattle.st_law.specs.declared.input.Input.{Input};
 ghost use Rattle.st_law.specs.declared.input.ReadSchedule.{ReadSchedule};
-ghost use Rattle.st_command.specs.Command.{StepWords, RunWords, CheckWords};
-ghost use Rattle.st_command.specs.Reading.{IsRunWithinLimits};
+ghost use Rattle.st_command.specs.Command.{StepWords, ReplayWords, RunWords, CheckWords};
+ghost use Rattle.st_command.specs.Reading.{IsRunWithinLimits, IsWithinLimits};
 ghost use Rattle.st_command.specs.Words.{Word};
 ghost use Rattle.st_command.specs.declared.command.Command.{Command};
 ghost use Rattle.st_command.specs.declared.command.Command.TheVariants as command;
-ghost use Rattle.st_reading.specs.Meaning.{Contents, Meaning, Means, Runs, Prints, is_stop, AreFilesKnown, names_of};
+ghost use Rattle.st_reading.specs.Meaning.{Contents, Meaning, Means, Runs, Replays, Prints, is_stop, AreFilesKnown, names_of};
 ghost use Rattle.st_reading.specs.RunMeaning.{MeansRun, starts, no_lines, run_names, with_schedule_of};
+ghost use Rattle.st_reading.specs.Kinds.{OnlyRuns, OnlyReplays, OnlyPrints};
 ghost use Rattle.st_reading.specs.Runnable.{IsRunnable};
 ghost use Rattle.st_outside.specs.Files.{CanHold};
 ghost use Rattle.st_outside.specs.declared.files.TheConstants.{FILE_LIMIT};
@@ -34,11 +35,21 @@ pub fn what_is_meant_to_run_can_run()
     what_is_reloaded_grants_no_ids_for_setting();
 }
 
-/// `step` never means a text without a run, and `check` never means a run.
+/// `step` only means runs, `replay` only replays, and `check` only texts without a run, besides stops and refusals.
 pub fn each_command_means_its_own_kind()
-    ensures step { (contents : Contents) (step : StepWords) (text : List ℕ) → Means contents (command.Step step) (Prints text) → ⊥ }
-    ensures check { (contents : Contents) (check : CheckWords) (input : Input) (schedule : ReadSchedule) → Means contents (command.Check check) (Runs input schedule) → ⊥ }
+    ensures step { (contents : Contents) (step : StepWords) (outcome : Meaning) → Means contents (command.Step step) outcome → OnlyRuns outcome }
+    ensures replay { (contents : Contents) (replay : ReplayWords) (outcome : Meaning) → Means contents (command.Replay replay) outcome → OnlyReplays outcome }
+    ensures check { (contents : Contents) (check : CheckWords) (outcome : Meaning) → Means contents (command.Check check) outcome → OnlyPrints outcome }
 {}
+
+/// Each input whose trace `replay` means to replay can be run, and the trace is what its file holds, no longer than a file may be.
+pub fn what_is_meant_to_be_replayed_can_run()
+    ensures { (contents : Contents) (replay : ReplayWords) (input : Input) (text : List ℕ) → IsWithinLimits (command.Replay replay) → Means contents (command.Replay replay) (Replays input text) →
+        CanRun input × (length text ≤ FILE_LIMIT) × CanHold (contents replay.trace) text }
+{
+    what_is_replied_grants_no_ids_for_setting();
+    what_is_reloaded_grants_no_ids_for_setting();
+}
 
 /// `run` over known files has exactly one meaning, besides the files at which reading may stop.
 pub fn a_run_has_one_meaning()

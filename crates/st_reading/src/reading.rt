@@ -7,11 +7,12 @@ ghost use Rattle.st_reading.specs.Files.{EnvEnds};
 ghost use Rattle.st_reading.specs.Ends.{EndsReading, ending};
 
 use crate::environment::bare_env;
-use crate::files::{read_policy_files, read_schedule_file, read_script_file};
-use crate::input::input_with;
+use crate::files::{
+    fetch_trace, read_input, read_policy_files, read_schedule_file, read_script_file,
+};
 use crate::refusal::Refusal;
 use st_base::Text;
-use st_command::{CheckWords, Command, StepWords};
+use st_command::{CheckWords, Command, ReplayWords, StepWords};
 use st_grammar::Env;
 use st_law::{Input, ReadSchedule};
 use st_outside::Files;
@@ -23,6 +24,8 @@ use std::alloc::Global;
 pub enum Reading {
     /// A run of this input by this schedule.
     Run(Input, ReadSchedule),
+    /// The replay of a printed trace, as a trace of this input.
+    Replay(Input, Text),
     /// A text to be written.
     Text(Text),
 }
@@ -38,11 +41,37 @@ fn read_step<F: Files>(
     ensures ends { EndsReading (F.contents files.old) (command.Step step.now) (F.faults files.old) (F.faults files.new) (F.asked files.old) (F.asked files.new) result }
     ensures quiet { result ≢ Err Refusal.ReadFault → F.faults files.new ≡ F.faults files.old }
 {
-    let script = read_script_file(alloc, files, step.script, &step.options)?;
-    let policies = read_policy_files(alloc, files, &script.env, step.policies.as_slice())?;
+    let input = read_input(
+        alloc,
+        files,
+        step.script,
+        step.policies.as_slice(),
+        step.options,
+    )?;
     let schedule = read_schedule_file(alloc, files, step.schedule)?;
-    let input = input_with(alloc, policies, step.options, script);
     Ok(Reading::Run(input, schedule))
+}
+
+// The replay that the words of `replay` ask for.
+fn read_replay<F: Files>(
+    alloc: Global,
+    replay: &ReplayWords<'_>,
+    files: &mut F,
+) -> Result<Reading, Refusal>
+    requires { IsWithinLimits (command.Replay replay.now) }
+    ensures contents { F.contents files.new ≡ F.contents files.old }
+    ensures ends { EndsReading (F.contents files.old) (command.Replay replay.now) (F.faults files.old) (F.faults files.new) (F.asked files.old) (F.asked files.new) result }
+    ensures quiet { result ≢ Err Refusal.ReadFault → F.faults files.new ≡ F.faults files.old }
+{
+    let input = read_input(
+        alloc,
+        files,
+        replay.script,
+        replay.policies.as_slice(),
+        replay.options,
+    )?;
+    let trace = fetch_trace(alloc, files, replay.trace)?;
+    Ok(Reading::Replay(input, trace))
 }
 
 // The environment that `check` reads its policy with.
@@ -80,7 +109,7 @@ fn read_check<F: Files>(
 }
 
 /// Fetches the files that a command names and reads them: the script, then each policy file, after the policies of the files before it and
-/// with the script's environment, then the schedule.
+/// with the script's environment, then the schedule or the trace.
 pub fn read_command<F: Files>(
     alloc: Global,
     command: &Command<'_>,
@@ -103,6 +132,7 @@ pub fn read_command<F: Files>(
 {
     match command {
         Command::Step(step) => read_step(alloc, step, files),
+        Command::Replay(replay) => read_replay(alloc, replay, files),
         Command::Check(check) => read_check(alloc, check, files),
     }
 }

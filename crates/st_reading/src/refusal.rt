@@ -11,6 +11,8 @@ pub enum Which {
     Policy(u32),
     Script,
     Schedule,
+    /// The printed trace of `replay`.
+    Trace,
 }
 
 /// Why a command was not read.

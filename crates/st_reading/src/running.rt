@@ -3,8 +3,7 @@ ghost use Rattle.std.specs.Prelude.{◌≡◌, ◌≢◌};
 ghost use Rattle.st_command.specs.Reading.{IsRunWithinLimits};
 ghost use Rattle.st_reading.specs.RunMeaning.{EndsReadingRun};
 
-use crate::files::{read_policy_files, read_script_file};
-use crate::input::input_with;
+use crate::files::read_input;
 use crate::refusal::Refusal;
 use st_command::RunWords;
 use st_law::Input;
@@ -26,7 +25,11 @@ pub fn read_run<F: Files>(
     ensures contents { F.contents files.new ≡ F.contents files.old }
     ensures quiet { result ≢ Err Refusal.ReadFault → F.faults files.new ≡ F.faults files.old }
 {
-    let script = read_script_file(alloc, files, run.script, &run.options)?;
-    let policies = read_policy_files(alloc, files, &script.env, run.policies.as_slice())?;
-    Ok(input_with(alloc, policies, run.options, script))
+    read_input(
+        alloc,
+        files,
+        run.script,
+        run.policies.as_slice(),
+        run.options,
+    )
 }

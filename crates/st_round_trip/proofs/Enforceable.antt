@@ -14,8 +14,8 @@ use Rattle.st_outside.specs.Files.{FileView, FileBytes, CanHold}
 use Rattle.st_outside.specs.declared.files.TheConstants.{FILE_LIMIT}
 use Rattle.st_reading.specs.Files.{ArePolicies, IsPolicy, IsScript}
 use Rattle.st_reading.specs.Meaning.{Contents, Means, Runs}
+use Rattle.st_reading.proofs.Inputs.{step_means}
 use Rattle.st_reading.proofs.ReadFiles.{IsStepRead, input_or}
-use Rattle.st_reading.proofs.Refusals.{step_means}
 use Rattle.st_reread.specs.Readable.{WasRead}
 use Rattle.st_schedule.specs.Schedule.{schedule_in}
 use Rattle.st_script.specs.Startable.{input_with}

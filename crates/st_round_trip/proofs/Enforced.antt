@@ -16,7 +16,7 @@ use Rattle.st_law.specs.declared.input.ReadSchedule.{ReadSchedule}
 use Rattle.st_outside.specs.Files.{FileView, FileBytes, CanHold}
 use Rattle.st_grammar.specs.Grammar.{Reads}
 use Rattle.st_grammar.specs.declared.env.Env.{Env}
-use Rattle.st_reading.specs.Meaning.{Contents, Meaning, Means, MeansAfterScript, MeansPolicies, MeansSchedule, Runs, SaysPolicy, SaysScript}
+use Rattle.st_reading.specs.Meaning.{Contents, Meaning, Means, MeansAfterScript, MeansPolicies, MeansSchedule, Runs, SaysPolicy, SaysScript, step_input}
 use Rattle.st_reading.specs.declared.refusal.Which.TheVariants as which
 use Rattle.st_reading.proofs.ReadFiles.{IsStepRead, fetched, input_or, script_read, text_read}
 use Rattle.st_reread.specs.Readable.{WasRead}
@@ -62,9 +62,10 @@ record IsReadAlone (contents : Contents) (step : StepWords) (name : Word) (i : I
 read_alone : (contents : Contents) (step : StepWords) (name : Word) (i : Input) (schedule : ReadSchedule) → step.policies ≡ name ∷ [] → Means contents (Step step) (Runs i schedule) → IsReadAlone contents step name i
 read_alone contents step name i schedule alone meant =
     let outcome : Meaning = Runs i schedule in
-    let x = fetched contents outcome tt step.script which.Script (λ text. SaysScript (script_in text step.options) (λ script. MeansAfterScript contents step script outcome) outcome) meant in
-    let s = script_read contents outcome tt (script_in x.text step.options) (λ script. MeansAfterScript contents step script outcome) x.says in
-    let following : List BinaryPolicy → Type 0 = λ policies. MeansSchedule contents step s.0 policies outcome in
+    let Scheduled : Input → Type 0 = λ input. MeansSchedule contents step input outcome in
+    let x = fetched contents outcome tt step.script which.Script (λ text. SaysScript (script_in text step.options) (λ script. MeansAfterScript contents (step_input step) Scheduled script outcome) outcome) meant in
+    let s = script_read contents outcome tt (script_in x.text step.options) (λ script. MeansAfterScript contents (step_input step) Scheduled script outcome) x.says in
+    let following : List BinaryPolicy → Type 0 = λ policies. Scheduled (input_with policies step.options s.0) in
     let p = subst (λ (names : List Word). MeansPolicies contents s.0.env 1 names [] following outcome) alone s.2 in
     let f = fetched contents outcome tt name (which.Policy 1) (λ text. SaysPolicy text s.0.env [] 1 following outcome) p in
     let y = text_read contents outcome tt f.text s.0.env [] 1 following f.says in

@@ -13,7 +13,7 @@ use Rattle.st_law.specs.declared.input.Input.{Input}
 use Rattle.st_law.specs.declared.input.ReadSchedule.{ReadSchedule}
 use Rattle.st_outside.specs.Files.{FileView, FileBytes, CanHold}
 use Rattle.st_outside.specs.declared.files.TheConstants.{FILE_LIMIT}
-use Rattle.st_reading.specs.Meaning.{Fetches, Contents, Means, MeansAfterScript, MeansPolicies, MeansSchedule, Runs, SaysPolicy, SaysScript}
+use Rattle.st_reading.specs.Meaning.{Fetches, Contents, Means, MeansAfterScript, MeansPolicies, MeansSchedule, Runs, SaysPolicy, SaysScript, step_input}
 use Rattle.st_reading.specs.Runnable.{IsRunnable}
 use Rattle.st_reading.specs.declared.refusal.Which.{Which}
 use Rattle.st_reading.specs.declared.refusal.Which.TheVariants as which
@@ -62,7 +62,7 @@ module _ (contents : Contents) (step : StepWords) (i : Input) (before : ReadSche
   input_same : (policies : List BinaryPolicy) (script : ReadScript) (read : ReadSchedule) → Runs i before ≡ Runs (input_with policies step.options script) read → i ≡ input_with policies step.options script
   input_same policies script read e = cc
 
-  schedule_again : (script : ReadScript) (policies : List BinaryPolicy) → MeansSchedule contents step script policies (Runs i before) → MeansSchedule contents (with_schedule step name) script policies (Runs i (schedule_in text))
+  schedule_again : (script : ReadScript) (policies : List BinaryPolicy) → MeansSchedule contents step (input_with policies step.options script) (Runs i before) → MeansSchedule contents (with_schedule step name) (input_with policies step.options script) (Runs i (schedule_in text))
   schedule_again script policies (inl e) = absurd (cc)
   schedule_again script policies (inr (inl p)) = let e = p.1 in absurd (cc)
   schedule_again script policies (inr (inr (inl p))) = let e = p.1 in absurd (cc)
@@ -73,11 +73,13 @@ module _ (contents : Contents) (step : StepWords) (i : Input) (before : ReadSche
   step_again meant =
       let later : ReadSchedule = schedule_in text in
       let again : StepWords = with_schedule step name in
+      let One : Input → Type 0 = λ input. MeansSchedule contents step input (Runs i before) in
+      let Other : Input → Type 0 = λ input. MeansSchedule contents again input (Runs i later) in
       file_again contents i before later (contents step.script) which.Script
-      (λ words. SaysScript (script_in words step.options) (λ script. MeansAfterScript contents step script (Runs i before)) (Runs i before))
-      (λ words. SaysScript (script_in words step.options) (λ script. MeansAfterScript contents again script (Runs i later)) (Runs i later))
-      (λ words. script_again contents i before later (script_in words step.options) (λ script. MeansAfterScript contents step script (Runs i before)) (λ script. MeansAfterScript contents again script (Runs i later))
-      (λ script. policies_again contents i before later script.env 1 step.policies [] (λ policies. MeansSchedule contents step script policies (Runs i before)) (λ policies. MeansSchedule contents again script policies (Runs i later))
+      (λ words. SaysScript (script_in words step.options) (λ script. MeansAfterScript contents (step_input step) One script (Runs i before)) (Runs i before))
+      (λ words. SaysScript (script_in words step.options) (λ script. MeansAfterScript contents (step_input again) Other script (Runs i later)) (Runs i later))
+      (λ words. script_again contents i before later (script_in words step.options) (λ script. MeansAfterScript contents (step_input step) One script (Runs i before)) (λ script. MeansAfterScript contents (step_input again) Other script (Runs i later))
+      (λ script. policies_again contents i before later script.env 1 step.policies [] (λ policies. One (input_with policies step.options script)) (λ policies. Other (input_with policies step.options script))
       (λ policies. schedule_again script policies)))
       meant
 

@@ -14,15 +14,16 @@ use Rattle.st_grammar.specs.declared.fault.PolicyRefusal.{PolicyRefusal}
 use Rattle.st_script_faults.specs.declared.fault.ScriptFault.{ScriptFault}
 use Rattle.st_command.specs.Reading.{command_in}
 use Rattle.st_command.specs.Words.{Word}
-use Rattle.st_command.specs.Command.{StepWords, CheckWords}
+use Rattle.st_command.specs.Command.{StepWords, ReplayWords, CheckWords}
 use Rattle.st_command.specs.declared.command.Command.{Command}
-use Rattle.st_command.specs.declared.command.Command.TheVariants.{Step, Check}
-use Rattle.st_reading.specs.Meaning.{Contents, Means, Stops, Refuses, Runs, Prints}
+use Rattle.st_command.specs.declared.command.Command.TheVariants.{Step, Replay, Check}
+use Rattle.st_reading.specs.Meaning.{Contents, Means, Stops, Refuses, Runs, Replays, Prints}
 use Rattle.st_reading.specs.declared.refusal.Refusal.TheVariants as refusal
 use Rattle.st_reading.specs.declared.refusal.Which.{Which}
 use Rattle.st_reading.specs.declared.refusal.Which.TheVariants as which
+use Rattle.st_trace_replay.specs.Replayed.{BreaksAt, IsLawfulText}
 use Rattle.st_top.specs.Ends.{EndsCommand, IsMeant, IsMeantBy, WordsMeanUpTo, WantsMemoryFor, names_asked}
-use Rattle.st_top.specs.Outcome.{printed}
+use Rattle.st_top.specs.Outcome.{lawful_text, printed}
 use Rattle.st_top.specs.declared.status.Status.{Status}
 use Rattle.st_top.specs.declared.status.Status.TheVariants as status
 
@@ -42,6 +43,13 @@ module _ (words : List Word) (contents : Contents) (c : Command) (faults faults_
       let x = (of status.Done is).0 in
       let m = subst (λ (d : Command). IsMeant contents d x.0) (same (Step step) spells) x.1 in
       (m.input, m.schedule, m.choices, m.meant, m.played_to, m.lawful, m.by_number, subst (Appends old new) m.text_is x.2)
+
+  pub replay_written : end ≡ status.Done → (replay : ReplayWords) → command_in words ≡ Some (Replay replay) →
+      (input : Input) × (trace : List ℕ) × Means contents (Replay replay) (Replays input trace) × IsLawfulText input trace × Appends old new lawful_text
+  replay_written is replay spells =
+      let x = (of status.Done is).0 in
+      let m = subst (λ (d : Command). IsMeant contents d x.0) (same (Replay replay) spells) x.1 in
+      (m.input, m.trace, m.meant, m.lawful, subst (Appends old new) m.text_is x.2)
 
   pub canon_written : end ≡ status.Done → (check : CheckWords) → command_in words ≡ Some (Check check) → (text : List ℕ) × Means contents (Check check) (Prints text) × Appends old new text
   canon_written is check spells =
@@ -68,6 +76,9 @@ module _ (words : List Word) (contents : Contents) (c : Command) (faults faults_
 
   pub bad_line : (line : ℕ) → end ≡ status.Schedule line → (input : Input) × (schedule : ReadSchedule) × WordsMeanUpTo words contents (Runs input schedule) which.Schedule asked asked_after × (played input schedule ≡ BadLine line)
   bad_line line is = let x = (of (status.Schedule line) is).0 in (x.0.input, x.0.schedule, record { served = c; spelled = spelled; meant = x.0.meant; asked = x.1 }, x.0.bad)
+
+  pub illegal_line : (line : ℕ) → end ≡ status.Illegal line → (input : Input) × (trace : List ℕ) × WordsMeanUpTo words contents (Replays input trace) which.Trace asked asked_after × BreaksAt input trace line
+  illegal_line line is = let x = (of (status.Illegal line) is).0 in (x.0.input, x.0.trace, record { served = c; spelled = spelled; meant = x.0.meant; asked = x.1 }, x.0.breaks)
 
   pub unreadable : end ≡ status.ReadFault → HasRisen faults faults_after × ((w : Which) × WordsMeanUpTo words contents (Stops w) w asked asked_after)
   unreadable is = let x = (of status.ReadFault is).0 in (x.0, (x.1.0, record { served = c; spelled = spelled; meant = x.1.1.meant; asked = x.1.1.asked }))
@@ -102,3 +113,4 @@ module _ (words : List Word) (contents : Contents) (c : Command) (faults faults_
       by status.NoMemory x no_done no_fault = x.1
       by (status.Schedule line) x no_done no_fault = x.1
       by (status.TooLong w) x no_done no_fault = x.1
+      by (status.Illegal line) x no_done no_fault = x.1

@@ -1,12 +1,12 @@
 -- What `gen` means, and the end of it.
-use Rattle.std.proofs.Common.{◌≡◌, ℕ, inl, inr, List, [], Option, Result, Ok, Err, refl, sym, ap, ◌∙◌, subst, arith}
+use Rattle.std.proofs.Common.{◌≡◌, ℕ, inl, inr, Bool, true, false, List, [], Option, Result, Ok, Err, refl, sym, ap, ◌∙◌, subst, arith}
 use Rattle.st_grammar.specs.declared.fault.PolicyRefusal.{PolicyRefusal}
 use Rattle.st_law.specs.declared.input.Input.{Input}
 use Rattle.st_audit.specs.Summary.{summary_text}
 use Rattle.st_generator.specs.Policy.{generated_policy}
 use Rattle.st_generator.specs.Script.{generated_script}
 use Rattle.st_generated_run.specs.Generated.{IsGeneratedLine, RefusesInput, generated_options, rested_run}
-use Rattle.st_reading.specs.Meaning.{Meaning, Prints, Refuses, SaysPolicy, SaysScript}
+use Rattle.st_reading.specs.Meaning.{Meaning, Prints, Refuses, Replays, SaysPolicy, SaysScript}
 use Rattle.st_reading.specs.declared.refusal.Refusal.{Refusal}
 use Rattle.st_reading.specs.declared.refusal.Refusal.TheVariants as refusal
 use Rattle.st_reading.proofs.Meanings.{HasOne, IsOne, is_one, is_some_one, policy_one, policy_some, script_one, script_some}
@@ -19,6 +19,11 @@ use Rattle.st_top.specs.Outcome.{status_of}
 -- what is printed of a script that was read, or why its policy is refused
 abbrev SaysRun : ReadScript → Meaning → Type 0
 SaysRun script outcome = SaysPolicy generated_policy script.env [] 1 (λ policies. outcome ≡ Prints (line_of_run script policies)) outcome
+
+-- whether a replay is meant
+abbrev is_replay : Meaning → Bool
+is_replay (Replays i trace) = true
+is_replay _ = false
 
 module _ (rounds : ℕ) where
   abbrev read : Result ReadScript ScriptFault
@@ -40,6 +45,18 @@ module _ (rounds : ℕ) where
       script_some read SaysRun
       (λ script. policy_some generated_policy script.env [] 1 (λ policies o. o ≡ Prints (line_of_run script policies)) (omega arith)
       (λ policies few. is_some_one (Prints (line_of_run script policies)) refl))
+
+  -- nothing is replayed
+  pub generates_no_replay : (i : Input) (trace : List ℕ) → MeansGenerated rounds (Replays i trace) → ⊥
+  generates_no_replay i trace meant = by read meant
+    where
+      said : (script : ReadScript) → SaysRun script (Replays i trace) → ⊥
+      said script (inl p) = let clash : is_replay (Prints (line_of_run script p.0)) ≡ true = ap is_replay (sym p.2) in cc
+      said script (inr p) = let clash : is_replay (Refuses (refusal.Policy 1 p.0)) ≡ true = ap is_replay (sym p.2) in cc
+
+      by : (other : Result ReadScript ScriptFault) → SaysScript other (λ script. SaysRun script (Replays i trace)) (Replays i trace) → ⊥
+      by (Ok script) x = said script x
+      by (Err fault) x = let clash : is_replay (Refuses (refusal.Script fault)) ≡ true = ap is_replay (sym x) in cc
 
   -- ---- the end
 

@@ -45,6 +45,7 @@ module _ (contents : Contents) (threaded : RunWords) (faults faults_after : ℕ)
   refusal_ends status.NoMemory x same = ((x, same), refl)
   refusal_ends (status.Schedule line) x same = absurd x
   refusal_ends (status.TooLong w) x same = ((x, same), refl)
+  refusal_ends (status.Illegal line) x same = absurd x
 
   ends_so : (ended : Ended) (choices : List Choice) (end : Status) → ended.status ≡ end → ended.schedule ≡ choices → EndsSo choices end → EndsSo ended.schedule ended.status
   ends_so ended choices end is made x = subst (EndsSo ended.schedule) (sym is) (subst (λ (cs : List Choice). EndsSo cs end) (sym made) x)
@@ -98,6 +99,9 @@ module _ (words : List Word) (contents : Contents) (threaded : RunWords) (faults
   pub no_bad_line : (line : ℕ) → ended.status ≢ status.Schedule line
   no_bad_line line is = (of (status.Schedule line) is).0.0
 
+  pub no_illegal_line : (line : ℕ) → ended.status ≢ status.Illegal line
+  no_illegal_line line is = (of (status.Illegal line) is).0.0
+
   pub unreadable : ended.status ≡ status.ReadFault → HasRisen faults faults_after × ((w : Which) × RunMeansUpTo words contents (Stops w) w asked asked_after)
   unreadable is = let x = (of status.ReadFault is).0.0 in (x.0, (x.1.0, record { threaded = threaded; spelled = spelled; meant = x.1.1.meant; asked = x.1.1.asked }))
 
@@ -131,6 +135,7 @@ module _ (words : List Word) (contents : Contents) (threaded : RunWords) (faults
       by status.NoMemory x no_done = x.1
       by (status.Schedule line) x no_done = x.1
       by (status.TooLong w) x no_done = x.1
+      by (status.Illegal line) x no_done = x.1
 
   pub nothing_written : ended.status ≢ status.Done → ended.status ≢ status.WriteFault → new ≡ old
   nothing_written not_done not_failed = by ended.status ends not_done not_failed
@@ -146,6 +151,7 @@ module _ (words : List Word) (contents : Contents) (threaded : RunWords) (faults
       by status.NoMemory x no_done no_fault = x.0.1
       by (status.Schedule line) x no_done no_fault = x.0.1
       by (status.TooLong w) x no_done no_fault = x.0.1
+      by (status.Illegal line) x no_done no_fault = x.0.1
 
   -- ---- its outcome
 
@@ -162,11 +168,13 @@ module _ (words : List Word) (contents : Contents) (threaded : RunWords) (faults
   meant_so status.NoMemory x quiet sink_quiet = inl refl
   meant_so (status.Schedule line) x quiet sink_quiet = absurd x.0.0
   meant_so (status.TooLong w) x quiet sink_quiet = inr (Refuses (refusal.TooLong w), refl, x.0.0.0, refl)
+  meant_so (status.Illegal line) x quiet sink_quiet = absurd x.0.0
 
   goes_on : (m : Meaning) (o : CommandOutcome) → is_stop o ≡ false → o ≡ run_outcome threaded.print ended.schedule m → meaning.is_stop m ≡ false
   goes_on (Stops w) o go is = let e = sym go ∙ ap is_stop is in absurd (cc)
   goes_on (Refuses r) o go is = refl
   goes_on (meaning.Runs i schedule) o go is = refl
+  goes_on (meaning.Replays i trace) o go is = refl
   goes_on (meaning.Prints text) o go is = refl
 
   -- so the call ended with the outcome of its words, unless memory ran out

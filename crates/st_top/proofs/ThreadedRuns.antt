@@ -69,6 +69,11 @@ merely_same text other there is = ∥∥₁_elim there (Coded-set (coded_list co
 
 -- ---- what is prepared
 
+-- an error that is passed on as this status
+pub passed_on : {A : Type 0} (P : Result A Status → Type 0) (s : Status) (r : Result A Status) → IsErr r → IsErrAnd r (λ e. e ≡ s) → P (Err s) → P r
+passed_on P s (Ok made) failed same p = cc
+passed_on P s (Err e) failed same p = subst (λ (end : Status). P (Err end)) (sym same) p
+
 -- a refusal of the reader is a refusal of `run`
 pub refused_run : (contents : Contents) (threaded : RunWords) (faults faults_after : ℕ) (old new : List Word) (refused : Refusal) →
     RefusesFiles contents (MeansRun contents threaded) (run_names_to threaded) faults faults_after old new refused → RefusesRun contents threaded faults faults_after old new (status_of refused)

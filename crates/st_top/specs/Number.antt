@@ -1,6 +1,6 @@
 use Rattle.std.specs.Prelude.{ℕ}
 use Rattle.st_top.specs.declared.status.Status.{Status}
-use Rattle.st_top.specs.declared.status.Status.TheVariants.{Done, Missing, Usage, Policy, Script, ReadFault, WriteFault, NoMemory, Schedule, TooLong}
+use Rattle.st_top.specs.declared.status.Status.TheVariants.{Done, Missing, Usage, Policy, Script, ReadFault, WriteFault, NoMemory, Schedule, TooLong, Illegal}
 
 -- the exit status of the program, as a number
 abbrev pub number_of_status : Status → ℕ
@@ -14,3 +14,4 @@ number_of_status WriteFault = 6
 number_of_status NoMemory = 7
 number_of_status (Schedule line) = 8
 number_of_status (TooLong which) = 9
+number_of_status (Illegal line) = 10

@@ -1,5 +1,5 @@
 -- The outcome of words and files: a refusal, or a text that is written.
-use Rattle.std.specs.Prelude.{◌≡◌, ℕ, Bool, true, false, List, Option, Some, None}
+use Rattle.std.specs.Prelude.{◌≡◌, ℕ, Bool, true, false, List, codes, Option, Some, None}
 use Rattle.st_trace.specs.declared.entry.Choice.{Choice}
 use Rattle.st_law.specs.declared.input.Input.{Input}
 use Rattle.st_law.specs.Machine.{run}
@@ -22,9 +22,10 @@ use Rattle.st_reading.specs.Meaning.{Contents, Meaning, Means}
 use Rattle.st_reading.specs.declared.refusal.Refusal.{Refusal}
 use Rattle.st_reading.specs.declared.refusal.Refusal.TheVariants as refusal
 use Rattle.st_reading.specs.declared.refusal.Which.{Which}
+use Rattle.st_trace_replay.specs.Replayed.{IsReplayed}
 use Rattle.st_top.specs.Generated.{MeansGenerated}
 use Rattle.st_top.specs.declared.status.Status.{Status}
-use Rattle.st_top.specs.declared.status.Status.TheVariants.{Missing, Usage, Policy, Script, ReadFault, NoMemory, Schedule, TooLong}
+use Rattle.st_top.specs.declared.status.Status.TheVariants.{Missing, Usage, Policy, Script, ReadFault, NoMemory, Schedule, TooLong, Illegal}
 
 -- ---- statuses
 
@@ -54,7 +55,12 @@ printed print.Policy i choices = policy_text i (run i choices)
 -- what a command asks to be printed of its run
 abbrev pub print_of : Command → Print
 print_of (command.Step step) = step.print
+print_of (command.Replay replay) = print.Audit
 print_of (command.Check check) = print.Audit
+
+-- what is written of a lawful trace
+abbrev pub lawful_text : List ℕ
+lawful_text = codes "lawful\n"
 
 -- ---- outcomes
 
@@ -75,22 +81,28 @@ abbrev pub outcome_of_play : Print → Input → ScheduleOutcome → CommandOutc
 outcome_of_play print i (Choices choices) = Writes (printed print i choices)
 outcome_of_play print i (BadLine line) = Refuses (Schedule line)
 
--- the outcome of a command, by what it and its files mean
-abbrev pub command_outcome : Print → Meaning → CommandOutcome
-command_outcome print (meaning.Stops which) = Stops which
-command_outcome print (meaning.Refuses refusal) = Refuses (status_of refusal)
-command_outcome print (meaning.Runs i schedule) = outcome_of_play print i (played i schedule)
-command_outcome print (meaning.Prints text) = Writes text
+-- the outcome of a replay, by the first line of the trace that isn't lawful
+abbrev pub outcome_of_replay : Option ℕ → CommandOutcome
+outcome_of_replay None = Writes lawful_text
+outcome_of_replay (Some line) = Refuses (Illegal line)
 
--- the outcome of words that spell neither `check` nor `step`: that of `gen`, or wrong usage
+-- the outcome of a command, by what it and its files mean
+abbrev pub IsOutcomeOf : Print → Meaning → CommandOutcome → Type 0
+IsOutcomeOf print (meaning.Stops which) outcome = outcome ≡ Stops which
+IsOutcomeOf print (meaning.Refuses refusal) outcome = outcome ≡ Refuses (status_of refusal)
+IsOutcomeOf print (meaning.Runs i schedule) outcome = outcome ≡ outcome_of_play print i (played i schedule)
+IsOutcomeOf print (meaning.Replays i trace) outcome = (broken : Option ℕ) × IsReplayed i trace broken × (outcome ≡ outcome_of_replay broken)
+IsOutcomeOf print (meaning.Prints text) outcome = outcome ≡ Writes text
+
+-- the outcome of words that spell no other command: that of `gen`, or wrong usage
 abbrev pub HasOtherOutcome : Option ℕ → CommandOutcome → Type 0
 HasOtherOutcome None outcome = outcome ≡ Refuses Usage
-HasOtherOutcome (Some rounds) outcome = (m : Meaning) × MeansGenerated rounds m × (outcome ≡ command_outcome print.Audit m)
+HasOtherOutcome (Some rounds) outcome = (m : Meaning) × MeansGenerated rounds m × IsOutcomeOf print.Audit m outcome
 
 -- the outcome of words, by the command or the rounds of `gen` that they spell
 abbrev pub HasOutcome : Contents → Option Command → Option ℕ → CommandOutcome → Type 0
 HasOutcome contents None rounds outcome = HasOtherOutcome rounds outcome
-HasOutcome contents (Some c) rounds outcome = (m : Meaning) × Means contents c m × (outcome ≡ command_outcome (print_of c) m)
+HasOutcome contents (Some c) rounds outcome = (m : Meaning) × Means contents c m × IsOutcomeOf (print_of c) m outcome
 
 -- the outcome of words over files of which this much is known
 abbrev pub WordsHaveOutcome : List Word → Contents → CommandOutcome → Type 0

@@ -22,7 +22,7 @@ use Rattle.st_reading.specs.declared.refusal.Which.TheVariants as which
 use Rattle.st_top.specs.Outcome.{CommandOutcome, Refuses, Stops, Writes, printed, status_of}
 use Rattle.st_top.specs.declared.ended.Ended.{Ended}
 use Rattle.st_top.specs.declared.status.Status.{Status}
-use Rattle.st_top.specs.declared.status.Status.TheVariants.{Done, Missing, Usage, Policy, Script, ReadFault, WriteFault, NoMemory, Schedule, TooLong}
+use Rattle.st_top.specs.declared.status.Status.TheVariants.{Done, Missing, Usage, Policy, Script, ReadFault, WriteFault, NoMemory, Schedule, TooLong, Illegal}
 
 -- ---- whole runs
 
@@ -75,6 +75,7 @@ RefusesRun contents threaded faults faults_after old new (Policy n fault) = Mean
 RefusesRun contents threaded faults faults_after old new ReadFault = HasRisen faults faults_after × ((w : Which) × CanStopAt (MeansRun contents threaded) (run_names_to threaded) old new w)
 RefusesRun contents threaded faults faults_after old new NoMemory = ThreadsAreOutOfMemory contents threaded old new
 RefusesRun contents threaded faults faults_after old new (Schedule line) = ⊥
+RefusesRun contents threaded faults faults_after old new (Illegal line) = ⊥
 RefusesRun contents threaded faults faults_after old new Usage = ⊥
 RefusesRun contents threaded faults faults_after old new Done = ⊥
 RefusesRun contents threaded faults faults_after old new WriteFault = ⊥
@@ -136,6 +137,7 @@ abbrev pub run_outcome : Print → List Choice → Meaning → CommandOutcome
 run_outcome print choices (meaning.Stops w) = Stops w
 run_outcome print choices (meaning.Refuses refusal) = Refuses (status_of refusal)
 run_outcome print choices (meaning.Runs i schedule) = Writes (printed print i choices)
+run_outcome print choices (meaning.Replays i trace) = Writes (printed print i choices)
 run_outcome print choices (meaning.Prints text) = Writes text
 
 -- the outcome of words of `run` whose threads made these choices: wrong usage if they spell no `run`

@@ -10,20 +10,23 @@ ghost use Rattle.st_law.specs.declared.input.Mode.TheVariants.{Learn};
 ghost use Rattle.st_law.specs.declared.input.ReadSchedule.{ReadSchedule};
 ghost use Rattle.st_printing.specs.Canon.{canon};
 ghost use Rattle.st_reading.specs.Meaning.{Contents, AreFilesKnown, Means, Runs};
-ghost use Rattle.st_top.specs.Ends.{names_asked};
+ghost use Rattle.st_top.specs.Ends.{IsTraceOfBytes, names_asked};
 ghost use Rattle.st_top.specs.Learning.{PermitsWhatWasMade, policies_after};
 ghost use Rattle.st_top.specs.Outcome.{CommandOutcome, WordsHaveOutcome, is_stop, printed};
 ghost use Rattle.st_trace.specs.declared.entry.Choice.{Choice};
 
 use st_learn::law::what_was_made_is_permitted_by_what_was_learnt;
-use st_reading::law::what_is_meant_to_run_can_run;
+use st_reading::law::{what_is_meant_to_be_replayed_can_run, what_is_meant_to_run_can_run};
 
-/// Over known files words have exactly one outcome, besides the files at which reading may stop.
+/// Over known files words have exactly one outcome, besides the files at which reading may stop. A trace that is replayed is of bytes, as
+/// each file is.
 pub fn words_have_one_outcome()
-    ensures some { (words : List Word) (contents : Contents) → AreFilesKnown contents (names_asked (command_in words)) → (outcome : CommandOutcome) × (is_stop outcome ≡ false) × WordsHaveOutcome words contents outcome }
+    ensures some { (words : List Word) (contents : Contents) → AreFilesKnown contents (names_asked (command_in words)) → IsTraceOfBytes contents (command_in words) → (outcome : CommandOutcome) × (is_stop outcome ≡ false) × WordsHaveOutcome words contents outcome }
     ensures one { (words : List Word) (contents : Contents) (a b : CommandOutcome) → AreFilesKnown contents (names_asked (command_in words)) → is_stop a ≡ false → is_stop b ≡ false →
         WordsHaveOutcome words contents a → WordsHaveOutcome words contents b → a ≡ b }
-{}
+{
+    what_is_meant_to_be_replayed_can_run();
+}
 
 /// Each held call that a run which learns has made is permitted, under the ids that it was made under, by the policies that `step` writes
 /// of the run if it is asked for them. These policies alone suffice.

@@ -5,6 +5,7 @@ pub mod ended;
 mod generated;
 pub mod law;
 pub mod plain;
+mod replaying;
 mod run;
 pub mod running;
 pub mod status;

@@ -8,27 +8,29 @@ ghost use Rattle.st_law.specs.Lawful.{Lawful};
 ghost use Rattle.st_law.specs.Machine.{run};
 ghost use Rattle.st_law.specs.Numbers.{IsLawfulByNumber, numbered};
 ghost use Rattle.st_law.specs.Schedules.{Choices, BadLine, played};
-ghost use Rattle.st_command.specs.Command.{StepWords, CheckWords};
+ghost use Rattle.st_command.specs.Command.{StepWords, ReplayWords, CheckWords};
 ghost use Rattle.st_command.specs.Reading.{command_in, gen_of_words, IsWithinLimits};
-ghost use Rattle.st_command.specs.declared.command.Command.TheVariants.{Step, Check};
+ghost use Rattle.st_command.specs.declared.command.Command.TheVariants.{Step, Replay, Check};
 ghost use Rattle.st_grammar.specs.declared.fault.PolicyRefusal.{PolicyRefusal};
 ghost use Rattle.st_script_faults.specs.declared.fault.ScriptFault.{ScriptFault};
-ghost use Rattle.st_reading.specs.Meaning.{Means, Stops, Refuses, Runs, Prints, AreFilesKnown};
+ghost use Rattle.st_reading.specs.Meaning.{Means, Stops, Refuses, Runs, Replays, Prints, AreFilesKnown};
 ghost use Rattle.st_reading.specs.declared.refusal.Refusal.TheVariants as refusal;
 ghost use Rattle.st_reading.specs.declared.refusal.Which.{Which};
 ghost use Rattle.st_reading.specs.declared.refusal.Which.TheVariants as which;
-ghost use Rattle.st_top.specs.Outcome.{CommandOutcome, WordsHaveOutcome, is_stop, print_of, printed};
+ghost use Rattle.st_top.specs.Outcome.{CommandOutcome, WordsHaveOutcome, is_stop, lawful_text, print_of, printed};
+ghost use Rattle.st_trace_replay.specs.Replayed.{BreaksAt, IsLawfulText};
 ghost use Rattle.st_generated_run.specs.Generated.{IsGeneratedLine};
 ghost use Rattle.st_top.specs.Generated.{IsGeneratedBy, WordsMeanGenerated};
 ghost use Rattle.st_top.specs.Ends.{Prepares, EndsCommand, IsMeantBy, WordsMeanUpTo, WantsMemoryFor, EndsAs, names_asked};
 
 use crate::generated::serve_generated;
+use crate::replaying::text_of_replay;
 use crate::run::text_of_run;
 use crate::status::Status;
 use st_base::Text;
 use st_command::{Command, Print, read_gen_words, read_words};
 use st_outside::{Files, Sink, write_all};
-use st_reading::law::what_is_meant_to_run_can_run;
+use st_reading::law::{what_is_meant_to_be_replayed_can_run, what_is_meant_to_run_can_run};
 use st_reading::{Reading, read_command};
 use std::alloc::Global;
 
@@ -38,7 +40,7 @@ fn print_of(command: &Command<'_>) -> Print
 {
     match command {
         Command::Step(step) => step.print,
-        Command::Check(_) => Print::Audit,
+        Command::Replay(_) | Command::Check(_) => Print::Audit,
     }
 }
 
@@ -50,8 +52,10 @@ fn prepare<F: Files>(alloc: Global, command: &Command<'_>, files: &mut F) -> Res
     ensures quiet { result ≢ Err Status.ReadFault → F.faults files.new ≡ F.faults files.old }
 {
     what_is_meant_to_run_can_run();
+    what_is_meant_to_be_replayed_can_run();
     match read_command(alloc, command, files)? {
         Reading::Run(input, schedule) => text_of_run(alloc, print_of(command), &input, &schedule),
+        Reading::Replay(input, trace) => text_of_replay(alloc, &input, trace.bytes()),
         Reading::Text(text) => Ok(text),
     }
 }
@@ -78,9 +82,9 @@ fn serve<F: Files, S: Sink>(
     }
 }
 
-/// Runs the command of the words after the program's name: `step`, `check` or `gen`, with these files and this sink.
+/// Runs the command of the words after the program's name: `step`, `replay`, `check` or `gen`, with these files and this sink.
 ///
-/// The words are read first, then the script, then each policy file, then the schedule. The first of them that is refused decides. `gen`
+/// The words are read first, then the script, then each policy file, then the schedule or the trace. The first of them that is refused decides. `gen`
 /// asks for no file: its script and its policy are generated.
 pub fn systrace_plain<F: Files, S: Sink>(
     alloc: Global,
@@ -97,6 +101,10 @@ pub fn systrace_plain<F: Files, S: Sink>(
         Lawful input (run input choices) ×
         IsLawfulByNumber input (numbered input (run input choices)) ×
         Appends (S.written out.old) (S.written out.new) (printed step.print input choices) }
+    // `replay` writes `lawful` if the trace that its words and files mean is lawful: each line is that of one entry, and the entries are a
+    // lawful trace, by the numbers of its messages.
+    ensures replay { result ≡ Status.Done → (replay : ReplayWords) → command_in words.now ≡ Some (Replay replay) →
+        (input : Input) × (trace : List ℕ) × Means (F.contents files.old) (Replay replay) (Replays input trace) × IsLawfulText input trace × Appends (S.written out.old) (S.written out.new) lawful_text }
     // `check` writes the canonical text of the policies that its words and files mean.
     ensures check { result ≡ Status.Done → (check : CheckWords) → command_in words.now ≡ Some (Check check) →
         (text : List ℕ) × Means (F.contents files.old) (Check check) (Prints text) × Appends (S.written out.old) (S.written out.new) text }
@@ -118,6 +126,8 @@ pub fn systrace_plain<F: Files, S: Sink>(
         WordsMeanGenerated words.now (Refuses (refusal.Policy n fault)) (F.asked files.old) (F.asked files.new) }
     ensures schedule { (line : ℕ) → result ≡ Status.Schedule line → (input : Input) × (schedule : ReadSchedule) ×
         WordsMeanUpTo words.now (F.contents files.old) (Runs input schedule) which.Schedule (F.asked files.old) (F.asked files.new) × (played input schedule ≡ BadLine line) }
+    ensures illegal { (line : ℕ) → result ≡ Status.Illegal line → (input : Input) × (trace : List ℕ) ×
+        WordsMeanUpTo words.now (F.contents files.old) (Replays input trace) which.Trace (F.asked files.old) (F.asked files.new) × BreaksAt input trace line }
     ensures read_fault { result ≡ Status.ReadFault → HasRisen (F.faults files.old) (F.faults files.new) × ((w : Which) × WordsMeanUpTo words.now (F.contents files.old) (Stops w) w (F.asked files.old) (F.asked files.new)) }
     ensures write_fault { result ≡ Status.WriteFault → HasRisen (S.faults out.old) (S.faults out.new) ×
         ((text : List ℕ) × (IsMeantBy words.now (F.contents files.old) text ⊎ IsGeneratedBy words.now text) × AppendsPrefix (S.written out.old) (S.written out.new) text) }

@@ -107,6 +107,7 @@ pub fn systrace_run<F: Files, S: Sink, G: Gate + Sync, T: Threads + Wait + Sync>
     ensures script { (fault : ScriptFault) → result.status ≡ Status.Script fault → RunMeansUpTo words.now (F.contents files.old) (Refuses (refusal.Script fault)) which.Script (F.asked files.old) (F.asked files.new) }
     ensures policy { (n : ℕ) (fault : PolicyRefusal) → result.status ≡ Status.Policy n fault → RunMeansUpTo words.now (F.contents files.old) (Refuses (refusal.Policy n fault)) (which.Policy n) (F.asked files.old) (F.asked files.new) }
     ensures schedule { (line : ℕ) → result.status ≢ Status.Schedule line }
+    ensures illegal { (line : ℕ) → result.status ≢ Status.Illegal line }
     ensures read_fault { result.status ≡ Status.ReadFault → HasRisen (F.faults files.old) (F.faults files.new) × ((w : Which) × RunMeansUpTo words.now (F.contents files.old) (Stops w) w (F.asked files.old) (F.asked files.new)) }
     ensures write_fault { result.status ≡ Status.WriteFault → HasRisen (S.faults out.old) (S.faults out.new) ×
         ((text : List ℕ) × IsMeantOfThreads words.now (F.contents files.old) text × AppendsPrefix (S.written out.old) (S.written out.new) text) }

@@ -29,6 +29,8 @@ pub enum Status {
     Schedule(u32),
     /// The file holds more than 1,048,576 bytes.
     TooLong(Which),
+    /// This line of the printed trace, from 1, is the first that is no entry's or whose entry isn't lawful after those before it.
+    Illegal(u32),
 }
 
 impl Status {
@@ -47,6 +49,7 @@ impl Status {
             Status::NoMemory => 7,
             Status::Schedule(_) => 8,
             Status::TooLong(_) => 9,
+            Status::Illegal(_) => 10,
         }
     }
 }
