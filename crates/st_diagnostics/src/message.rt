@@ -48,6 +48,7 @@ pub fn message(
         }
         Status::Script(_) => return about_file(alloc, command, Which::Script, REFUSED),
         Status::Schedule(_) => return about_file(alloc, command, Which::Schedule, REFUSED),
+        Status::Illegal(_) => return about_file(alloc, command, Which::Trace, REFUSED),
         Status::Usage => return usage_lines(alloc),
         Status::ReadFault => "systrace: a file could not be read",
         Status::WriteFault => "systrace: standard output could not be written",

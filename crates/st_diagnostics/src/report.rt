@@ -14,6 +14,7 @@ use st_schedule_diagnostics::sources::{env_of, text_of};
 use st_script_diagnostics::script_fault::script_message;
 use st_script_faults::ScriptFault;
 use st_top::{Status, Which};
+use st_trace_diagnostics::trace_message;
 use st_usage::wrong_words::usage_message;
 use std::alloc::{AllocError, Global};
 
@@ -39,6 +40,7 @@ fn policy_line<F: Files>(
 fn options_of(command: &Command<'_>) -> Options {
     match command {
         Command::Step(step) => step.options,
+        Command::Replay(replay) => replay.options,
         Command::Check(check) => check.options(),
     }
 }
@@ -73,6 +75,7 @@ fn refused_file_message<F: Files>(
         Status::Policy(number, refused) => policy_line(alloc, files, command, number, refused),
         Status::Script(fault) => script_line(alloc, files, command, fault),
         Status::Schedule(number) => schedule_message(alloc, files, command, number),
+        Status::Illegal(number) => trace_message(alloc, files, command, number),
         _ => Ok(None),
     }
 }

@@ -3,8 +3,8 @@ ghost use Rattle.st_command.specs.Reading.{IsWithinLimits};
 ghost use Rattle.st_outside.specs.declared.files.TheConstants.{FILE_LIMIT};
 
 use crate::names::file_in;
-use crate::replay::reason_at;
 use crate::sources::text_of;
+use crate::turn::reason_at;
 use st_base::Text;
 use st_command::Command;
 use st_outside::Files;

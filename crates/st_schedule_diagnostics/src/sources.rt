@@ -51,6 +51,7 @@ pub fn env_of<F: Files>(
 ) -> Result<Option<Env>, AllocError> {
     match command {
         Command::Step(step) => env_of_script(alloc, files, step.script, &step.options),
+        Command::Replay(replay) => env_of_script(alloc, files, replay.script, &replay.options),
         Command::Check(check) => match check.script {
             Some(name) => env_of_script(alloc, files, name, &check.options()),
             None => Ok(Some(bare_env(alloc, check.ids.is_some())?)),

@@ -4,6 +4,7 @@
 #[derive(Clone, Copy)]
 pub enum CommandName {
     Step,
+    Replay,
     Check,
     Run,
     Gen,
@@ -29,7 +30,7 @@ pub fn value_of(word: &[u8]) -> Option<&'static str> {
     }
 }
 
-// Whether a word is an option of `step` and of `run`.
+// Whether a word is an option of `step` and of `run`. All but one are options of `replay`.
 fn is_of_runs(word: &[u8]) -> bool {
     is_mode(word)
         || word == b"-i".as_slice()
@@ -42,6 +43,8 @@ impl CommandName {
     pub fn of(word: &[u8]) -> Option<Self> {
         if word == b"step".as_slice() {
             Some(CommandName::Step)
+        } else if word == b"replay".as_slice() {
+            Some(CommandName::Replay)
         } else if word == b"check".as_slice() {
             Some(CommandName::Check)
         } else if word == b"run".as_slice() {
@@ -57,6 +60,7 @@ impl CommandName {
     pub fn has_option(self, word: &[u8]) -> bool {
         match self {
             CommandName::Step | CommandName::Run => is_of_runs(word),
+            CommandName::Replay => is_of_runs(word) && word != b"--print".as_slice(),
             CommandName::Check => word == b"-c".as_slice(),
             CommandName::Gen => false,
         }
@@ -65,7 +69,7 @@ impl CommandName {
     /// The most operands that the command has.
     pub fn most_operands(self) -> u32 {
         match self {
-            CommandName::Step | CommandName::Check => 2,
+            CommandName::Step | CommandName::Replay | CommandName::Check => 2,
             CommandName::Run | CommandName::Gen => 1,
         }
     }
@@ -73,8 +77,9 @@ impl CommandName {
     /// The operand that is missing after so many others; none where they are enough.
     pub fn missing_after(self, count: u32) -> Option<&'static str> {
         match (self, count) {
-            (CommandName::Step | CommandName::Run, 0) => Some("SCRIPT"),
+            (CommandName::Step | CommandName::Replay | CommandName::Run, 0) => Some("SCRIPT"),
             (CommandName::Step, 1) => Some("SCHEDULE"),
+            (CommandName::Replay, 1) => Some("TRACE"),
             (CommandName::Check, 0) => Some("POLICY"),
             (CommandName::Gen, 0) => Some("N"),
             _ => None,
@@ -85,6 +90,7 @@ impl CommandName {
     pub fn not_an_option(self) -> &'static str {
         match self {
             CommandName::Step => " is no option of step",
+            CommandName::Replay => " is no option of replay",
             CommandName::Check => " is no option of check",
             CommandName::Run => " is no option of run",
             CommandName::Gen => " is no option of gen",
@@ -94,7 +100,7 @@ impl CommandName {
     /// What is wrong with an option after an operand.
     pub fn option_too_late(self) -> &'static str {
         match self {
-            CommandName::Step | CommandName::Run => {
+            CommandName::Step | CommandName::Replay | CommandName::Run => {
                 " stands after SCRIPT; options stand before it"
             }
             CommandName::Check => " stands after POLICY; options stand before it",
@@ -106,6 +112,7 @@ impl CommandName {
     pub fn operand_too_many(self) -> &'static str {
         match self {
             CommandName::Step => " is an operand too many after SCRIPT and SCHEDULE",
+            CommandName::Replay => " is an operand too many after SCRIPT and TRACE",
             CommandName::Check => " is an operand too many after POLICY and SCRIPT",
             CommandName::Run => " is an operand too many after SCRIPT",
             CommandName::Gen => " is an operand too many after N",

@@ -34,8 +34,8 @@ struct Described {
     help: &'static str,
 }
 
-// The options of `step` and of `run`.
-const OF_RUNS: [Described; 9] = [
+// The options of `step`, `replay` and `run`.
+const OF_RUNS: [Described; 8] = [
     Described {
         name: "POLICY",
         form: Form::LetterAndValue('f'),
@@ -77,15 +77,17 @@ const OF_RUNS: [Described; 9] = [
         form: Form::LetterAndValue('w'),
         help: "how many workers copy and judge the arguments of calls, 1 to 8; without it 1",
     },
-    Described {
-        name: "print",
-        form: Form::NameAndValue("KIND"),
-        help: "audit: a line for each call of a traced process, as without it{n}\
-               trace: a line for each thing that happens{n}\
-               schedule: the choices that were made, as a schedule{n}\
-               policy: the policies, with the filters that were kept after those that were read",
-    },
 ];
+
+// An option of `step` and of `run` alone.
+const PRINT: Described = Described {
+    name: "print",
+    form: Form::NameAndValue("KIND"),
+    help: "audit: a line for each call of a traced process, as without it{n}\
+           trace: a line for each thing that happens{n}\
+           schedule: the choices that were made, as a schedule{n}\
+           policy: the policies, with the filters that were kept after those that were read",
+};
 
 const SCRIPT: Described = Described {
     name: "SCRIPT",
@@ -100,6 +102,12 @@ const SCHEDULE: Described = Described {
     form: Form::Operand,
     help: "for step, who moves when: lines 'thread N', 'worker N' and 'operator', after which{n}\
            a count may stand, and 'rest', which goes on until nobody can move",
+};
+
+const TRACE: Described = Described {
+    name: "TRACE",
+    form: Form::Operand,
+    help: "for replay, what happened: a trace as --print trace writes it",
 };
 
 const OF_CHECK: [Described; 3] = [
@@ -190,7 +198,18 @@ fn step<'a>(alloc: Global) -> Result<Command<'a>, AllocError> {
         "runs a script under policies, in the order of a schedule",
     )?;
     let command = with_all(alloc, command, &OF_RUNS)?;
-    with_all(alloc, command, &[SCRIPT, SCHEDULE])
+    with_all(alloc, command, &[PRINT, SCRIPT, SCHEDULE])
+}
+
+fn replay<'a>(alloc: Global) -> Result<Command<'a>, AllocError> {
+    let command = named(
+        alloc,
+        "replay",
+        "systrace replay",
+        "checks that a printed trace is lawful: that a run of a script can be so",
+    )?;
+    let command = with_all(alloc, command, &OF_RUNS)?;
+    with_all(alloc, command, &[SCRIPT, TRACE])
 }
 
 fn check<'a>(alloc: Global) -> Result<Command<'a>, AllocError> {
@@ -211,7 +230,7 @@ fn run<'a>(alloc: Global) -> Result<Command<'a>, AllocError> {
         "runs a script under policies, by threads of the host",
     )?;
     let command = with_all(alloc, command, &OF_RUNS)?;
-    with_all(alloc, command, &[SCRIPT])
+    with_all(alloc, command, &[PRINT, SCRIPT])
 }
 
 fn generated<'a>(alloc: Global) -> Result<Command<'a>, AllocError> {
@@ -229,6 +248,7 @@ fn commands<'a>(alloc: Global) -> Result<Vec<Command<'a>>, AllocError> {
     let mut commands = Vec::new(alloc);
     commands.push(step(alloc)?)?;
     commands.push(run(alloc)?)?;
+    commands.push(replay(alloc)?)?;
     commands.push(check(alloc)?)?;
     commands.push(generated(alloc)?)?;
     Ok(commands)
@@ -257,11 +277,13 @@ fn usage_of(alloc: Global, mut command: Command<'_>) -> Result<String, AllocErro
     String::from_str(alloc, line.strip_prefix(TITLE).unwrap_or(line))
 }
 
-// How `step` and `run` are written, without the title.
+// How `step`, `run` and `replay` are written, without the title.
 fn usage_of_runs(alloc: Global) -> Result<String, AllocError> {
     let mut usage = usage_of(alloc, step(alloc)?)?;
     usage.push_str(NEXT_LINE)?;
     usage.push_str(usage_of(alloc, run(alloc)?)?.as_str())?;
+    usage.push_str(NEXT_LINE)?;
+    usage.push_str(usage_of(alloc, replay(alloc)?)?.as_str())?;
     Ok(usage)
 }
 
@@ -271,15 +293,16 @@ fn append_help(text: &mut Text, mut command: Command<'_>) -> Result<(), AllocErr
     text.append(command.render_help()?.as_bytes())
 }
 
-// Appends the help of `step` and `run`, after an empty line. They have the same options and the same script.
+// Appends the help of `step`, `run` and `replay`, after an empty line. They have the same options, but for one, and the same script.
 fn append_help_of_runs(alloc: Global, text: &mut Text) -> Result<(), AllocError> {
     let usage = usage_of_runs(alloc)?;
     let command = step(alloc)?
         .about(
-            "runs a script under policies: step in the order of a schedule, run by threads of the host",
+            "runs a script under policies: step in the order of a schedule, run by threads of the host;{n}\
+             replay checks that a printed trace is lawful: that a run of the script can be so",
         )
         .override_usage(usage.as_str());
-    append_help(text, command)
+    append_help(text, with_all(alloc, command, &[TRACE])?)
 }
 
 /// What `--help` prints: the program, then each command.

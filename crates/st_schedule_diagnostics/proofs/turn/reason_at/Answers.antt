@@ -1,5 +1,5 @@
 use Rattle.st_reading.proofs.Runnable.{ready}
-use Rattle.st_schedule_diagnostics.proofs.replay.reason_at.Goals as goal
+use Rattle.st_schedule_diagnostics.proofs.turn.reason_at.Goals as goal
 
 pub reason_in-requires : goal.reason_in-requires
 reason_in-requires g c =

@@ -166,6 +166,6 @@ pub fn reason_at<F: Files>(
     what_is_meant_to_run_can_run();
     match read_command(alloc, command, files)? {
         Reading::Run(input, schedule) => reason_in(alloc, &input, &schedule, number),
-        Reading::Text(_) => Ok(None),
+        Reading::Replay(..) | Reading::Text(_) => Ok(None),
     }
 }
