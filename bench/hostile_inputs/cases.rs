@@ -21,7 +21,7 @@ impl Case {
 
     /// The name of the command, or `others` for words that begin with none.
     pub fn command(&self) -> &'static str {
-        let names = ["step", "run", "check", "gen"];
+        let names = ["step", "run", "replay", "check", "gen"];
         names.into_iter().find(|name| self.words.first().is_some_and(|word| word == name)).unwrap_or("others")
     }
 
@@ -38,9 +38,9 @@ impl Case {
         }
     }
 
-    /// The name of the file of this role: the policy, the script or the schedule. None if a word that has it is missing.
+    /// The name of the file of this role: the policy, the script, and the schedule or the trace. None if a word that has it is missing.
     pub fn name_of(&self, role: Role) -> Option<String> {
-        let is_step = self.command() == "step";
+        let is_step = matches!(self.command(), "step" | "replay");
         let is_check = self.command() == "check";
         let last = self.words.len().checked_sub(1)?;
         let place = match role {
@@ -66,9 +66,11 @@ pub fn read_all(names: &[String]) -> Vec<Case> {
 }
 
 /// The calls of a table. A file begins with its name after `=`, and has the lines after `|`, and the bytes after `.`.
-/// `x` says how often the next of them are repeated. `@` drops all files.
+/// `x` says how often the next of them are repeated. `b` keeps the file so far, and `<` and `>` add its lines before a line and from it on.
+/// `@` drops all files.
 fn read(table: &[u8]) -> Vec<Case> {
     let (mut cases, mut files, mut times) = (Vec::new(), Vec::<(String, Vec<u8>)>::new(), 1);
+    let mut kept: Vec<Vec<u8>> = Vec::new();
     for line in table.split(|&byte| byte == b'\n') {
         let Some((&mark, rest)) = line.split_first() else { continue };
         let text = String::from_utf8_lossy(rest).into_owned();
@@ -85,6 +87,16 @@ fn read(table: &[u8]) -> Vec<Case> {
                 times = 1;
                 if let Some((_, content)) = files.last_mut() {
                     content.extend(added);
+                }
+            }
+            b'b' => {
+                let content = files.last().map_or(&[][..], |(_, content)| content);
+                kept = content.split_inclusive(|&byte| byte == b'\n').map(<[u8]>::to_vec).collect();
+            }
+            b'<' | b'>' => {
+                let (before, from) = kept.split_at(text.parse().unwrap_or(1usize).saturating_sub(1).min(kept.len()));
+                if let Some((_, content)) = files.last_mut() {
+                    content.extend((if mark == b'<' { before } else { from }).concat());
                 }
             }
             b'$' | b'&' | b'?' | b'!' | b'^' => {

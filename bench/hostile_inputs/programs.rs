@@ -13,6 +13,8 @@ const MOST_SECONDS: u64 = 10;
 /// How the difference ends that a program doesn't end.
 pub const NO_END: &str = "doesn't end";
 const OUT_OF_MEMORY: i32 = 7;
+/// The status of a trace that isn't lawful.
+const ILLEGAL: i32 = 10;
 
 /// Ends the programs that don't end by themselves.
 pub struct Watch {
@@ -90,6 +92,12 @@ impl<'a> Players<'a> {
                 proved.status, unverified.status
             ));
         }
+        if proved.status == ILLEGAL {
+            let lines = [illegal_line(&proved.message, case), illegal_line(&unverified.message, case)];
+            if lines[0] != lines[1] {
+                return Err(format!("lines of the trace: {lines:?}"));
+            }
+        }
         let is_run = case.command() == "run";
         if is_run && proved.status == 0 {
             self.play_again(case)?;
@@ -138,7 +146,7 @@ impl<'a> Players<'a> {
         }
         let output = output.map_err(|error| format!("{name} isn't read: {error}"))?;
         match output.status.code() {
-            Some(status @ 0..=9) if status != OUT_OF_MEMORY => {
+            Some(status @ 0..=10) if status != OUT_OF_MEMORY => {
                 Ok(Ended { status, text: output.stdout, message: output.stderr })
             }
             _ => Err(format!("{name} crashes: {}", output.status)),
@@ -162,4 +170,15 @@ fn is_told(ended: &Ended) -> Result<(), String> {
 fn first_line(one: &[u8], other: &[u8]) -> usize {
     let same = one.iter().zip(other).take_while(|(a, b)| a == b).count();
     one[..same].iter().filter(|&&byte| byte == b'\n').count() + 1
+}
+
+/// The line of the trace that a message names: the proved program's after the name of the file.
+fn illegal_line<'a>(message: &'a [u8], case: &Case) -> Option<&'a str> {
+    let text = std::str::from_utf8(message).ok()?;
+    let name = case.words.last()?.to_str()?;
+    let after = match text.strip_prefix("unverified: line ") {
+        Some(after) => after,
+        None => text.strip_prefix("systrace: ")?.strip_prefix(name)?.strip_prefix(':')?,
+    };
+    Some(&after[..after.bytes().take_while(u8::is_ascii_digit).count()])
 }

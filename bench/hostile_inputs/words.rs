@@ -6,7 +6,7 @@ use std::os::unix::ffi::OsStringExt;
 
 /// Words with a blank between two; one is empty.
 const WORDS: &str = concat!(
-    "step run check gen -A -a -t -i -u -c -w -f --print audit trace schedule policy P S C 0:0 67:67 1000:1000 ",
+    "step run replay check gen -A -a -t -i -u -c -w -f --print audit trace schedule policy P S C 0:0 67:67 1000:1000 ",
     "4294967295:0 4294967296:0 0: :0 0:0:0 00:1 -1:0 1 2 8 9 0 01 3 512 513  - -- -w2 --print=trace -At --help ",
     "--version nothing dir . / S/x /dev/null /dev/zero /proc/self/mem \u{e9} -\u{e9} +1 0x1"
 );

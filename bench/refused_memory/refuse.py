@@ -14,7 +14,7 @@ from pathlib import Path
 SECONDS = 10
 OUT_OF_MEMORY = 7
 # Threads may ask for memory in another order each time.
-TIMES = {"step": 1, "run": 3}
+TIMES = {"step": 1, "replay": 1, "run": 3}
 
 HELD = """\
 dir "/etc" 0 0 755
@@ -82,6 +82,9 @@ INPUTS = {
     "a web server": (["-c", "67:67", "-w", "2", "-f", "httpd.policy"], "httpd.script"),
 }
 
+# Of this input the trace is replayed with a line too many as well.
+BROKEN, TOO_MANY = "a held call", ", and a line too many"
+
 # What is refused, and the settings of the library.
 SETTINGS = {
     "an allocation": {},
@@ -89,7 +92,8 @@ SETTINGS = {
     "a thread": {"THREADS": "1"},
     "threads from one on": {"THREADS": "1", "LATER": "1"},
 }
-KINDS = {"step": ["an allocation", "all from one on"], "run": list(SETTINGS)}
+OF_ONE_THREAD = ["an allocation", "all from one on"]
+KINDS = {"step": OF_ONE_THREAD, "replay": OF_ONE_THREAD, "run": list(SETTINGS)}
 
 
 class Differs(Exception):
@@ -97,8 +101,20 @@ class Differs(Exception):
 
 
 def words_of(command, title):
+    if command == "replay":
+        trace = f"{title}.trace"
+        return ["replay", *unprinted(title), trace]
     options, script = INPUTS[title]
     return [command, *options, script, *(["rest.schedule"] if command == "step" else [])]
+
+
+def unprinted(title):
+    """The options of an input without what is printed, and its script."""
+    options, script = INPUTS[title.removesuffix(TOO_MANY)]
+    if "--print" in options:
+        at = options.index("--print")
+        options = options[:at] + options[at + 2 :]
+    return [*options, script]
 
 
 def lines_of(text):
@@ -143,7 +159,7 @@ class Refuser:
             return True
         if ended.returncode != own.returncode:
             raise Differs(f"status {ended.returncode}: {ended.stderr}")
-        same = ended.stdout == own.stdout if command == "step" else lines_of(ended.stdout) == lines_of(own.stdout)
+        same = ended.stdout == own.stdout if command != "run" else lines_of(ended.stdout) == lines_of(own.stdout)
         if not same:
             raise Differs(f"another text: {ended.stdout}")
         return False
@@ -175,10 +191,19 @@ def files(examples):
         yield name, Path(examples, name).read_text()
 
 
+def make_traces(refuser):
+    """Writes the traces that are replayed."""
+    for title in INPUTS:
+        ended, _ = refuser.end(["step", "--print", "trace", *unprinted(title), "rest.schedule"], {}, 0)
+        Path(refuser.folder, f"{title}.trace").write_bytes(ended.stdout)
+        if title == BROKEN:
+            Path(refuser.folder, f"{title}{TOO_MANY}.trace").write_bytes(ended.stdout + b"ended 1\n")
+
+
 def trials():
     """Each command with an input, and what is refused."""
     for command in TIMES:
-        for title in INPUTS:
+        for title in [*INPUTS, *([BROKEN + TOO_MANY] if command == "replay" else [])]:
             for kind in KINDS[command]:
                 yield command, title, kind
 
@@ -189,6 +214,7 @@ def main(program, library, examples):
         for name, text in files(examples):
             Path(folder, name).write_text(text)
         refuser = Refuser(program, library, folder)
+        make_traces(refuser)
         print("| command | input | refused | in all | ends out of memory | ends as otherwise |\n|---|---|---|---|---|---|")
         for command, title, kind in trials():
             try:

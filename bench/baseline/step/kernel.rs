@@ -218,6 +218,17 @@ impl Kernel {
         self.printer.finish()
     }
 
+    /// What was written since the last call.
+    pub fn take_text(&mut self) -> String {
+        self.printer.take_text()
+    }
+
+    /// The worker that is at the message of this number.
+    pub fn worker_at(&self, seq: u16) -> Option<usize> {
+        let is_at_it = |turn: &Turn| self.messages.number(turn.drawing) == seq;
+        self.workers.iter().position(|turn| turn.as_ref().is_some_and(is_at_it))
+    }
+
     fn is_enabled(&self, choice: Choice) -> bool {
         match choice {
             Choice::Thread(tid) => self.threads.get(tid).is_some_and(|thread| self.can_move(thread)),

@@ -7,6 +7,7 @@ mod kernel;
 mod operator;
 mod policy;
 mod print;
+mod replay;
 mod run;
 mod script;
 mod system;
@@ -16,7 +17,8 @@ mod tree;
 use kernel::{Kernel, Options};
 use operator::Mode;
 use policy::{Env, Policies};
-use print::{PrintKind, Printer};
+use print::{Choice, PrintKind, Printer};
+use replay::Mover;
 use script::SchedLine;
 use std::ffi::OsString;
 use std::io::{self, Read, Write};
@@ -27,23 +29,42 @@ const MOST_POLICIES: usize = 8;
 
 #[derive(Clone, Copy, Debug)]
 enum Status {
-    Missing = 1,
-    Usage = 2,
-    Policy = 3,
-    Script = 4,
-    ReadFault = 5,
-    WriteFault = 6,
-    Schedule = 8,
-    TooLong = 9,
+    Missing,
+    Usage,
+    Policy,
+    Script,
+    ReadFault,
+    WriteFault,
+    Schedule,
+    TooLong,
+    /// The first line that the machine can't have written.
+    Illegal(u32),
+}
+
+impl Status {
+    fn number(self) -> u8 {
+        match self {
+            Status::Missing => 1,
+            Status::Usage => 2,
+            Status::Policy => 3,
+            Status::Script => 4,
+            Status::ReadFault => 5,
+            Status::WriteFault => 6,
+            Status::Schedule => 8,
+            Status::TooLong => 9,
+            Status::Illegal(_) => 10,
+        }
+    }
 }
 
 struct Command {
     policies: Vec<String>,
     options: Options,
-    kind: PrintKind,
+    /// What `step` and `run` print.
+    kind: Option<PrintKind>,
     script: String,
-    /// Of `step`.
-    schedule: Option<String>,
+    /// The schedule of `step`, the trace of `replay`.
+    last: Option<String>,
 }
 
 fn main() -> ExitCode {
@@ -53,8 +74,11 @@ fn main() -> ExitCode {
     match text.and_then(|text| io::stdout().lock().write_all(text.as_bytes()).map_err(|_| Status::WriteFault)) {
         Ok(()) => ExitCode::SUCCESS,
         Err(status) => {
-            eprintln!("unverified: {status:?}");
-            ExitCode::from(status as u8)
+            match status {
+                Status::Illegal(line) => eprintln!("unverified: line {line} is illegal"),
+                _ => eprintln!("unverified: {status:?}"),
+            }
+            ExitCode::from(status.number())
         }
     }
 }
@@ -64,6 +88,7 @@ fn text_of(words: &[String]) -> Result<String, Status> {
     match name.as_str() {
         "step" => play(&parse(rest, true).ok_or(Status::Usage)?),
         "run" => play(&parse(rest, false).ok_or(Status::Usage)?),
+        "replay" => replay(&parse(rest, true).ok_or(Status::Usage)?),
         "check" => check(rest),
         "gen" => generate(rest),
         _ => Err(Status::Usage),
@@ -108,20 +133,22 @@ fn generate(words: &[String]) -> Result<String, Status> {
     Ok(kernel.finish())
 }
 
-/// The text of the run that a schedule gives, or that threads make where there is none.
-fn play(command: &Command) -> Result<String, Status> {
+/// The machine before its first step, by the files of a command.
+fn machine(command: &Command, kind: PrintKind) -> Result<Kernel, Status> {
     let script = script::read_script(&fetch(&command.script)?, &command.options).map_err(|_| Status::Script)?;
-    let mut printer = Printer::new(command.kind);
+    let mut printer = Printer::new(kind);
     let mut policies = Policies::default();
     for name in &command.policies {
         policies.read(&fetch(name)?, &script.env, &mut printer).map_err(|_| Status::Policy)?;
     }
-    let schedule = match &command.schedule {
-        Some(name) => Some(script::read_schedule(&fetch(name)?).map_err(|_| Status::Schedule)?),
-        None => None,
-    };
-    let mut kernel = Kernel::start(script, policies, &command.options, printer);
-    let Some(schedule) = schedule else { return Ok(run::run(kernel).finish()) };
+    Ok(Kernel::start(script, policies, &command.options, printer))
+}
+
+/// The text of the run that a schedule gives, or that threads make where there is none.
+fn play(command: &Command) -> Result<String, Status> {
+    let mut kernel = machine(command, command.kind.unwrap_or(PrintKind::Audit))?;
+    let Some(name) = &command.last else { return Ok(run::run(kernel).finish()) };
+    let schedule = script::read_schedule(&fetch(name)?).map_err(|_| Status::Schedule)?;
     for line in schedule {
         match line {
             SchedLine::Rest => kernel.rest(),
@@ -137,6 +164,34 @@ fn play(command: &Command) -> Result<String, Status> {
     Ok(kernel.finish())
 }
 
+/// Whether the machine writes a trace line by line, where the one moves who moved by the line.
+fn replay(command: &Command) -> Result<String, Status> {
+    let (None, Some(name)) = (command.kind, &command.last) else { return Err(Status::Usage) };
+    let mut kernel = machine(command, PrintKind::Trace)?;
+    for (line, number) in replay::lines(&fetch(name)?).zip(1..) {
+        if !is_written(&mut kernel, line) {
+            return Err(Status::Illegal(number));
+        }
+    }
+    Ok("lawful\n".to_string())
+}
+
+/// Whether the machine makes a step that it writes as this line.
+fn is_written(kernel: &mut Kernel, line: &[u8]) -> bool {
+    let at = |number: u32| (number as usize).wrapping_sub(1);
+    let choice = match replay::mover(line) {
+        None => return false,
+        Some(Mover::Thread(tid)) => Choice::Thread(at(tid)),
+        Some(Mover::Worker(worker)) => Choice::Worker(at(worker)),
+        Some(Mover::WorkerAt(seq)) => match kernel.worker_at(seq) {
+            None => return false,
+            Some(worker) => Choice::Worker(worker),
+        },
+        Some(Mover::Operator) => Choice::Operator,
+    };
+    kernel.advance(choice) && kernel.take_text().strip_suffix('\n').is_some_and(|text| text.as_bytes() == line)
+}
+
 fn fetch(name: &str) -> Result<Vec<u8>, Status> {
     let file = std::fs::File::open(name).map_err(|error| match error.kind() {
         io::ErrorKind::NotFound => Status::Missing,
@@ -147,8 +202,8 @@ fn fetch(name: &str) -> Result<Vec<u8>, Status> {
     if text.len() as u64 > MOST_BYTES { Err(Status::TooLong) } else { Ok(text) }
 }
 
-/// What `step` or `run` is asked to do by the words after it, or none where they are none that is served.
-fn parse(words: &[String], has_schedule: bool) -> Option<Command> {
+/// What `step`, `run` or `replay` is asked to do by the words after it, or none where they are none that is served.
+fn parse(words: &[String], has_last: bool) -> Option<Command> {
     let mut words = words.iter().map(String::as_str);
     let mut policies = Vec::new();
     let (mut inherit, mut whole_names) = (false, false);
@@ -183,14 +238,13 @@ fn parse(words: &[String], has_schedule: bool) -> Option<Command> {
             return None;
         }
     };
-    let schedule = if has_schedule { Some(words.next()?) } else { None };
-    if words.next().is_some() || script.starts_with('-') || schedule.is_some_and(|word| word.starts_with('-')) {
+    let last = if has_last { Some(words.next()?) } else { None };
+    if words.next().is_some() || script.starts_with('-') || last.is_some_and(|word| word.starts_with('-')) {
         return None;
     }
     let mode = mode.unwrap_or(Mode::Enforce);
     let options = Options { mode, inherit, aliasing: !whole_names, ids, workers: workers.unwrap_or(1) as usize };
-    let kind = kind.unwrap_or(PrintKind::Audit);
-    Some(Command { policies, options, kind, script: script.to_string(), schedule: schedule.map(String::from) })
+    Some(Command { policies, options, kind, script: script.to_string(), last: last.map(String::from) })
 }
 
 /// A user and a group, with a colon between them.

@@ -161,6 +161,11 @@ impl Printer {
         }
     }
 
+    /// What was written since the last call.
+    pub fn take_text(&mut self) -> String {
+        std::mem::take(&mut self.text)
+    }
+
     fn line(&mut self, line: impl Display) {
         // Writing to a String does not fail.
         let _ = writeln!(self.text, "{line}");

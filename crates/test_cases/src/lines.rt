@@ -45,3 +45,25 @@ pub fn last_lines(text: &[u8], count: u32) -> &[u8] {
     }
     &text[text.len().saturating_sub(len)..]
 }
+
+// How many bytes the lines of a text before the line of this number have with their newlines, which the last one may lack.
+fn len_before(text: &[u8], number: u32) -> usize {
+    let mut len = 0usize;
+    for line in text
+        .split(|byte| *byte == b'\n')
+        .take(number.saturating_sub(1) as usize)
+    {
+        len = len.saturating_add(line.len()).saturating_add(1);
+    }
+    len
+}
+
+/// The lines of a text before the line of this number, counted from 1.
+pub fn lines_before(text: &[u8], number: u32) -> &[u8] {
+    &text[..text.len().min(len_before(text, number))]
+}
+
+/// The lines of a text from the line of this number on, counted from 1.
+pub fn lines_from(text: &[u8], number: u32) -> &[u8] {
+    &text[text.len().min(len_before(text, number))..]
+}

@@ -8,6 +8,8 @@
 //! | `|` | a line of the file |
 //! | `.` | bytes of the file, without a newline |
 //! | `x` | how often the next such line or bytes are repeated in the file |
+//! | `b` | nothing: the file so far is kept, for files that have lines of it |
+//! | `<`, `>` | a number, from 1: the kept lines before this one; those from it on |
 //! | `f` | which fetch of a file fails |
 //! | `r`, `s`, `w` | how much room there is for what is written; which write takes one byte; which write fails |
 //! | `n` | a number, of a status, of a reason, or of lines |
@@ -22,7 +24,9 @@
 //! line of the message, and for `^` the other lines.
 
 use crate::call::{Ended, call, tell_status};
-use crate::lines::{count_of, first_line, last_lines, other_lines, words_of};
+use crate::lines::{
+    count_of, first_line, last_lines, lines_before, lines_from, other_lines, words_of,
+};
 use crate::options::{is_read, is_shown};
 use crate::statuses::{reason_of, status_of};
 use st_base::Text;
@@ -38,6 +42,7 @@ pub struct Table {
     files: MemoryFiles,
     name: Text,
     content: Text,
+    kept: Text,
     times: u32,
     number: u32,
     limits: Limits,
@@ -66,6 +71,7 @@ impl Table {
             files: MemoryFiles::new(alloc),
             name: Text::new(alloc),
             content: Text::new(alloc),
+            kept: Text::new(alloc),
             times: 1,
             number: 0,
             limits: AMPLE,
@@ -102,6 +108,8 @@ impl Table {
             b'=' => self.begin(rest),
             b'|' => self.add(rest, b"\n"),
             b'.' => self.add(rest, b""),
+            b'b' => self.keep(),
+            b'<' | b'>' => self.add_kept(mark, count_of(rest)),
             b'f' => self.files.fail_at(count_of(rest)),
             b'x' | b'n' | b'r' | b's' | b'w' => {
                 self.set(mark, count_of(rest));
@@ -155,6 +163,22 @@ impl Table {
         }
         self.times = 1;
         Ok(())
+    }
+
+    // Keeps the file so far.
+    fn keep(&mut self) -> Result<(), AllocError> {
+        self.kept = self.content.copy(self.alloc)?;
+        Ok(())
+    }
+
+    // Adds the kept lines before the line of this number, or those from it on.
+    fn add_kept(&mut self, mark: u8, number: u32) -> Result<(), AllocError> {
+        let kept = self.kept.bytes();
+        self.content.append(if mark == b'<' {
+            lines_before(kept, number)
+        } else {
+            lines_from(kept, number)
+        })
     }
 
     fn serve_words(&mut self, mark: u8, line: &[u8]) -> Result<(), AllocError> {
