@@ -28,6 +28,15 @@ def row(cells):
     return "|" + "|".join(cell or "" for cell in cells) + "|"
 
 
+def quoted(names):
+    return ", ".join(f"`{name}`" for name in names)
+
+
+def crate_list(crates, _):
+    """The names of the crates, layer by layer."""
+    return [f"- *{layer}*: {quoted(crate.name for crate in each)}" for layer, each in tree.layers(crates).items()]
+
+
 def crate_tables(crates, _):
     """A table of each layer."""
     head = row(("Crate", "What it does"))
@@ -69,7 +78,7 @@ def short_costs(crates, _):
 
 # By page, the parts that it has to have.
 PARTS = {
-    "README.md": {"costs": short_costs},
+    "README.md": {"crates": crate_list, "costs": short_costs},
     "bench/README.md": {"sizes": sizes, "gate times": gate_times} | {name: measured(name) for name in ("run", "run_step", "run_check", "run_run")},
     "docs/ARCHITECTURE.md": {"crates": crate_tables},
 }
