@@ -71,7 +71,7 @@ entered_again tid call regs way is =
       last,
     ) refl
 
-seq_stop : (seq : Option ℕ) (rest : List ℕ) → Stops is_inner (seq_field seq ++ rest)
+pub seq_stop : (seq : Option ℕ) (rest : List ℕ) → Stops is_inner (seq_field seq ++ rest)
 seq_stop None rest = refl
 seq_stop (Some n) rest = refl
 

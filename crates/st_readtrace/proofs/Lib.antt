@@ -15,6 +15,7 @@ pub mod Fits
 pub mod FittingChanges
 pub mod FittingEntries
 pub mod NextLine
+mod Parted
 pub mod NormalWalks
 pub mod NormalChanges
 pub mod NormalStates

@@ -1,6 +1,6 @@
 -- The grammar of traces: each line is that of an entry. The last line of a text may lack its newline.
-use Rattle.std.specs.Prelude.{ℕ, ◌≡◌, ◌≢◌, ◌+◌, ◌==◌, if◌then◌else◌, List, [], ◌∷◌, ◌++◌, length, take, drop, Option, Some, None, MatchOption, Result, Ok, Err}
-use Rattle.std.specs.List.{prefix_len}
+use Rattle.std.specs.Prelude.{ℕ, ◌≡◌, ◌≢◌, ◌+◌, ◌==◌, if◌then◌else◌, true, List, [], ◌∷◌, ◌++◌, length, take, drop, Option, Some, None, MatchOption, Result, Ok, Err}
+use Rattle.std.specs.List.{list_all, prefix_len}
 use Rattle.st_lex.specs.Quoted.{newline}
 use Rattle.st_lex.specs.Tokens.{is_no_newline}
 use Rattle.st_report.specs.TraceText.{entry_line, trace_text}
@@ -38,6 +38,11 @@ IsFirstLine (Err NoMemory) text = Unit {0}
 pub record Unread : Type 0 where
   pub text : List ℕ
   pub lines : ℕ
+
+-- the line with which a text begins, without its newline, or none at the end
+abbrev pub IsLineOf : Option (List ℕ) → List ℕ → Type 0
+IsLineOf None text = text ≡ []
+IsLineOf (Some line) text = (list_all is_no_newline line ≡ true) × (text ≡ line ++ newline ∷ after_first_line text)
 
 -- the next line is that of this entry, no line remains, or the next line is that of no entry. After a fault the line is still the next
 abbrev pub IsNextEntry : Result (Option Entry) LineFault → Unread → Unread → Type 0

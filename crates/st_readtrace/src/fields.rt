@@ -21,7 +21,7 @@ use std::marker::Model;
 
 /// The bytes of a line that remain to be read, field by field.
 #[derive(Drop)]
-pub(crate) struct Fields<'t> {
+pub struct Fields<'t> {
     rest: &'t [u8],
     // What remained at the start of the field that was taken last, or that couldn't be read.
     last: &'t [u8],
@@ -37,7 +37,7 @@ impl<'t> Model for Fields<'t> {
 
 impl<'t> Fields<'t> {
     /// The fields of a line.
-    pub(crate) fn of(line: &'t [u8]) -> Self
+    pub fn of(line: &'t [u8]) -> Self
         ensures { result ≡ line.now }
     {
         Fields {
@@ -73,7 +73,7 @@ impl<'t> Fields<'t> {
     }
 
     /// Takes the bytes up to the next blank or comma.
-    pub(crate) fn first_word(&mut self) -> &'t [u8]
+    pub fn first_word(&mut self) -> &'t [u8]
         ensures word { result.now ≡ take (prefix_len is_inner self.old) self.old }
         ensures rest { self.new ≡ drop (prefix_len is_inner self.old) self.old }
     {
@@ -113,7 +113,7 @@ impl<'t> Fields<'t> {
 
     /// Takes a number of 16 bits.
     #[tactic(auto, unfolding(crate::specs::Fields::spelled_at))]
-    pub(crate) fn u16(&mut self) -> Result<u16, LineFault>
+    pub fn u16(&mut self) -> Result<u16, LineFault>
         ensures { Reads result (spelled_at number_of_16 self.old) self.new }
     {
         let word = self.word()?;
@@ -122,7 +122,7 @@ impl<'t> Fields<'t> {
 
     /// Takes a number of 32 bits.
     #[tactic(auto, unfolding(crate::specs::Fields::spelled_at))]
-    pub(crate) fn u32(&mut self) -> Result<u32, LineFault>
+    pub fn u32(&mut self) -> Result<u32, LineFault>
         ensures { Reads result (spelled_at number_of_32 self.old) self.new }
     {
         let word = self.word()?;

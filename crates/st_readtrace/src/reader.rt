@@ -1,10 +1,11 @@
-ghost use Rattle.std.specs.Prelude.{◌≡◌, ◌≢◌, [], ◌+◌, ◌^◌, ◌<◌, ◌≤◌, length, drop};
+ghost use Rattle.std.specs.Prelude.{◌≡◌, ◌≢◌, [], ◌+◌, ◌^◌, ◌<◌, ◌≤◌, length, drop, option_map, Some};
 ghost use Rattle.std.specs.List.{prefix_len};
 ghost use Rattle.st_lex.specs.Tokens.{is_no_newline};
-ghost use Rattle.st_readtrace.specs.Lines.{closed, IsFirstLine, IsNextEntry};
+ghost use Rattle.st_readtrace.specs.Lines.{after_first_line, closed, IsFirstLine, IsLineOf, IsNextEntry};
 
 use crate::LineFault;
 use crate::entries::entry_of_line;
+use memchr::memchr;
 use st_base::Text;
 use st_trace::Entry;
 use std::alloc::Global;
@@ -15,7 +16,7 @@ fn line_len(text: &[u8]) -> usize
     ensures is { result ≡ prefix_len is_no_newline text.now }
     ensures within { result ≤ length text.now }
 {
-    text.iter().take_while(|byte| **byte != b'\n').count()
+    memchr(b'\n', text).unwrap_or(text.len())
 }
 
 // The bytes after a line of this length and its newline.
@@ -83,6 +84,25 @@ impl<'t> TraceReader<'t> {
         ensures { result ≡ self.now.lines }
     {
         self.lines
+    }
+
+    /// The next line, without its newline, or `None` at the end of the text. It is still the next.
+    pub fn line(&self) -> Option<&'t [u8]>
+        ensures { IsLineOf (option_map (λ line. line.now) result) self.now.text }
+    {
+        if self.rest.is_empty() {
+            return None;
+        }
+        Some(&self.rest[..line_len(self.rest)])
+    }
+
+    /// Goes past the next line, which is this one.
+    pub fn skip_line(&mut self, line: &[u8])
+        requires { IsLineOf (Some line.now) self.old.text }
+        ensures { self.new ≡ record { text = after_first_line self.old.text; lines = self.old.lines + 1 } }
+    {
+        self.rest = after_line(self.rest, line.len());
+        self.lines += 1;
     }
 
     /// The entry of the next line, or `None` at the end of the text. If the line is no entry's, or if out of memory, the line is still the

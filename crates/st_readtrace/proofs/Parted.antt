@@ -1,0 +1,13 @@
+-- Entries whose parts were looked at one by one.
+use Rattle.std.proofs.Common.{◌≡◌, ℕ, suc, ◌+◌, Bool, true, false, cond, ◌||◌, List, [], ◌∷◌, length, refl, arith}
+use Rattle.std.specs.List.{position_or_len, prefix_len}
+use Rattle.std.specs.Prelude.{not}
+use Rattle.st_names.specs.Name.{has_slash, is_slash}
+
+-- a part without a slash up to its end has none
+pub no_slash : (part : List ℕ) → position_or_len is_slash part ≡ length part → has_slash part ≡ false
+no_slash [] all = refl
+no_slash (b ∷ part) all = by (is_slash b) all (λ e. no_slash part e) where
+  by : (s : Bool) → cond (not s) (1 + prefix_len (λ c. not (is_slash c)) part) 0 ≡ suc (length part) → (position_or_len is_slash part ≡ length part → has_slash part ≡ false) → (s || has_slash part) ≡ false
+  by true e more = absurd (omega (arith, e))
+  by false e more = more (omega (arith, e))
