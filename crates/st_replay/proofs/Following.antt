@@ -15,7 +15,8 @@ use Rattle.st_law.proofs.Ties.{state-is}
 use Rattle.st_reached.proofs.NumbersBack.{roomy, run_by_number, trace_back}
 use Rattle.st_kernel.specs.Kernel.{RunSoFar, drawn_of, entry_now, history_of, number_now, numbered_next, state_in, trace_of, with_choice}
 use Rattle.st_kernel.proofs.Plays.{noted_on}
-use Rattle.st_replay.specs.Told.{IsLawfulSoFar, TraceSoFar, choice_numbered, choice_told, entry_made, history_told, numbered_after, with_entry}
+use Rattle.st_replay.specs.declared.mover.Mover.{Mover}
+use Rattle.st_replay.specs.Told.{IsLawfulSoFar, TraceSoFar, choice_after, choice_numbered, choice_of_mover, choice_told, entry_made, history_told, mover_of, numbered_after, with_entry}
 use Rattle.st_replay.proofs.Lawful.{mapped_from}
 
 -- the trace of a run
@@ -26,11 +27,15 @@ module _ (run : RunSoFar) (startable : IsStartable run.input) where
   history_is : history_told (trace_in run) ≡ history_of run
   history_is = ap reverse (trace_back largest_number run.input startable (roomy run.input startable) (drawn_of run) (run_lawful run.input startable run.choices)) ∙ reverse-reverse (history_of run)
 
+  -- the choice of a mover in the kernel's state is the one after the trace
+  pub mover_is : (mover : Mover) → choice_of_mover run.input (state_in run) (number_now run) mover ≡ choice_after (trace_in run) mover
+  mover_is mover =
+      ap (λ (st : State). choice_of_mover run.input st (number_now run) mover) (state-is run.input (history_of run))
+      ∙ sym (ap (λ (h : History). choice_of_mover run.input (looking_back run.input h) (numbers_at largest_number run.input h).number_of mover) history_is)
+
   -- the choice that an entry tells in the kernel's state is the one that it tells after the trace
   pub choice_is : (e : Entry) → choice_numbered run.input (state_in run) (number_now run) e ≡ choice_told (trace_in run) e
-  choice_is e =
-      ap (λ (st : State). choice_numbered run.input st (number_now run) e) (state-is run.input (history_of run))
-      ∙ sym (ap (λ (h : History). choice_numbered run.input (looking_back run.input h) (numbers_at largest_number run.input h).number_of e) history_is)
+  choice_is e = mover_is (mover_of e)
 
   -- the entry that the kernel adds is the one that the machine adds after the trace
   pub made_is : (c : Choice) → entry_now run c ≡ entry_made (trace_in run) c

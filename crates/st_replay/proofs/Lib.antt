@@ -1,4 +1,5 @@
 mod Following
 pub mod Lawful
+mod Moves
 mod Numbered
 mod Replaying

@@ -2,9 +2,10 @@ ghost use Rattle.std.specs.Prelude.{◌≡◌, ◌≢◌, ◌↔◌, [], None, S
 ghost use Rattle.st_law.specs.Inputs.{IsStartable};
 ghost use Rattle.st_reached.specs.Runnable.{CanRun};
 ghost use Rattle.st_replay.specs.Replays.{IsReplayFault};
-ghost use Rattle.st_replay.specs.Told.{with_entry, IsLawfulSoFar};
+ghost use Rattle.st_replay.specs.Told.{entry_moved, with_added, with_entry, IsLawfulSoFar, IsOnly};
 
-use crate::choice::choice_told;
+use crate::choice::{choice_of_mover, choice_told};
+use crate::mover::Mover;
 use st_kernel::{Kernel, StepFault};
 use st_law::Input;
 use st_same::is_same_entry;
@@ -145,5 +146,27 @@ impl<'a> Replay<'a> {
             return Err(refusal(choice, fault));
         }
         compare(choice, &mut self.added, entry)
+    }
+
+    /// Makes the choice of this mover, if it is enabled: the trace goes on with the entry that the machine adds for it. Stores this entry in
+    /// `added`, none if the choice isn't enabled. If memory runs out, the trace is unchanged.
+    pub fn advance(
+        &mut self,
+        alloc: Global,
+        mover: Mover,
+        added: &mut Option<Entry>,
+    ) -> Result<(), AllocError>
+        ensures added { OnOk result (added.new ≡ entry_moved self.old mover) }
+        ensures trace { OnOk result (self.new ≡ with_added self.old (entry_moved self.old mover)) }
+        ensures lawful { OnOk result (IsLawfulSoFar self.new) }
+        ensures only { IsOnly self.old mover (entry_moved self.old mover) }
+        ensures err { OnErr result (self.new ≡ self.old) }
+    {
+        let choice = choice_of_mover(&self.kernel, mover);
+        match self.kernel.advance(alloc, choice, added) {
+            Ok(()) => Ok(()),
+            Err(StepFault::NotEnabled) => Ok(()),
+            Err(StepFault::NoMemory) => Err(AllocError),
+        }
     }
 }

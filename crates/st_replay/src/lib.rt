@@ -4,7 +4,9 @@
 mod choice;
 pub mod entries;
 pub mod law;
+pub mod mover;
 pub mod whole;
 
 pub use entries::{Mismatch, Replay, ReplayFault};
+pub use mover::{Mover, mover_of};
 pub use whole::{Replayed, replay_trace};
