@@ -4,7 +4,7 @@ use Rattle.std.proofs.Math.Logic.{∥∥₁_elim}
 use Rattle.std.specs.Coded.{Coded-set, coded_list, coded_ℕ}
 use Rattle.std.specs.Result.{IsErr, IsErrAnd}
 use Rattle.st_law.specs.Inputs.{IsStartable}
-use Rattle.st_law.specs.Machine.{IsEnabled, IsSettled, history, run, state_of_run}
+use Rattle.st_law.specs.Machine.{IsEnabled, IsSettled, history, state_of_run}
 use Rattle.st_law.specs.Threads.{has_ended_at, owner_at}
 use Rattle.st_law.specs.declared.input.Input.{Input}
 use Rattle.st_law.proofs.Laws.{run_lawful}

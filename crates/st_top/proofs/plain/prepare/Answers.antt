@@ -1,4 +1,4 @@
-use Rattle.std.proofs.Common.{◌≡◌, ◌≤◌, List, length, ℕ, ap, arith, subst}
+use Rattle.std.proofs.Common.{◌≡◌, List, length, ℕ, ap, arith, subst}
 use Rattle.st_command.specs.declared.given.Print.{Print}
 use Rattle.st_reading.specs.Ends.{as_meaning}
 use Rattle.st_reading.specs.Meaning.{Means}
