@@ -1,5 +1,5 @@
 -- Each text of bytes is lawful, or breaks at some line.
-use Rattle.std.proofs.Common.{◌≡◌, ◌≢◌, ◌⊎◌, inl, inr, ℕ, zero, suc, ◌+◌, ◌-◌, ◌≤◌, List, [], ◌∷◌, ◌++◌, length, drop, Option, Some, None, refl, ap, sym, ◌∙◌, arith}
+use Rattle.std.proofs.Common.{◌≡◌, ◌≢◌, inl, inr, ℕ, zero, suc, ◌+◌, ◌≤◌, List, [], ◌∷◌, ◌++◌, length, Option, Some, None, refl, ap, ◌∙◌, arith}
 use Rattle.std.proofs.lemmas.List.{append-nil, length-drop}
 use Rattle.std.specs.List.{prefix_len}
 use Rattle.st_law.specs.Inputs.{IsStartable}
@@ -12,7 +12,7 @@ use Rattle.st_readtrace.specs.Written.{AreEntries, IsEntry, IsText}
 use Rattle.st_readtrace.proofs.Closings.{closed-some}
 use Rattle.st_readtrace.proofs.Fits.{drop_text}
 use Rattle.st_readtrace.proofs.Reading.{begins_badly, entries_more, first_line_text, line_fits, next_is, trace_more}
-use Rattle.st_replay.specs.Told.{IsLawfulSoFar, TraceSoFar, entry_told, with_entry}
+use Rattle.st_replay.specs.Told.{TraceSoFar, entry_told}
 use Rattle.st_replay.proofs.Lawful.{entry_law}
 use Rattle.st_report.specs.TraceText.{entry_line, trace_text}
 use Rattle.st_trace.specs.declared.entry.Entry.{Entry}

@@ -1,12 +1,10 @@
 -- A text is lawful, or breaks at exactly one line.
-use Rattle.std.proofs.Common.{◌≡◌, ◌≢◌, ◌⊎◌, inl, inr, ℕ, ◌+◌, List, [], ◌∷◌, ◌++◌, length, reverse, Option, Some, None, refl, ap, sym, ◌∙◌, append_assoc, subst}
+use Rattle.std.proofs.Common.{◌≡◌, ◌⊎◌, inl, inr, ℕ, ◌+◌, List, [], ◌∷◌, ◌++◌, length, reverse, Option, Some, None, refl, ap, sym, ◌∙◌, append_assoc, subst}
 use Rattle.std.proofs.lemmas.List.{append-nil, reverse-append, reverse-reverse}
-use Rattle.st_lex.specs.Quoted.{newline}
 use Rattle.st_law.specs.Lawful.{IsLawfulBack}
-use Rattle.st_law.specs.Numbers.{IsLawfulByNumber, drawings_at, drawn_back, drawn_entry, largest_number, numbered_back}
+use Rattle.st_law.specs.Numbers.{IsLawfulByNumber, drawn_back, largest_number, numbered_back}
 use Rattle.st_law.specs.Threads.{History}
 use Rattle.st_law.specs.declared.input.Input.{Input}
-use Rattle.st_readtrace.specs.Lines.{closed}
 use Rattle.st_readtrace.specs.Written.{AreEntries, IsEntry}
 use Rattle.st_readtrace.proofs.Closings.{one_cut}
 use Rattle.st_readtrace.proofs.OneLine.{entry_is_line}

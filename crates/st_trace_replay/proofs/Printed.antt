@@ -1,8 +1,7 @@
 -- What is printed of a lawful trace of numbers is the text of a lawful trace.
-use Rattle.std.proofs.Common.{◌≡◌, ℕ, List, [], ◌∷◌, map, reverse, ap, sym, ◌∙◌, subst}
+use Rattle.std.proofs.Common.{ℕ, List, [], ◌∷◌, map, reverse, sym, subst}
 use Rattle.std.proofs.lemmas.List.{reverse-reverse}
 use Rattle.std.specs.List.{AllByRecursion}
-use Rattle.st_law.specs.Lawful.{IsLawfulBack}
 use Rattle.st_law.specs.Numbers.{IsLawfulByNumber, drawn, largest_number, numbered_back, numbered_change, numbered_entry, numbers_at}
 use Rattle.st_law.specs.Threads.{History}
 use Rattle.st_law.specs.declared.input.Input.{Input}

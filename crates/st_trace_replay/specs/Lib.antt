@@ -1,2 +1,3 @@
+pub mod Movers
 pub mod Replayed
 pub mod Steps

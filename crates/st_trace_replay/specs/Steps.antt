@@ -17,6 +17,12 @@ IsNextLine Lawful unread later so_far longer =
 IsNextLine (Unlawful line) unread later so_far longer = (line ≡ unread.lines + 1) × (unread.text ≢ []) × GoesOnUnlawfully so_far.input so_far.trace unread.text
 IsNextLine End unread later so_far longer = unread.text ≡ []
 
+-- the next line is that of the entry that the machine added, or its number is that of a line which isn't, or there is none
+abbrev pub IsCompared : NextLine → Unread → Unread → Entry → Type 0
+IsCompared Lawful unread later added = IsEntry added × (unread.text ≡ entry_line added ++ later.text) × (later.lines ≡ unread.lines + 1)
+IsCompared (Unlawful line) unread later added = (line ≡ unread.lines + 1) × (unread.text ≢ []) × ((after : List ℕ) → IsEntry added → unread.text ≢ entry_line added ++ after)
+IsCompared End unread later added = unread.text ≡ []
+
 -- a text was replayed up to here: its lines before are those of the trace so far, which is lawful
 pub record IsReplayedTo (i : Input) (text : List ℕ) (unread : Unread) (so_far : TraceSoFar) : Type 0 where
   pub input_is : so_far.input ≡ i

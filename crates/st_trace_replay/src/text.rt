@@ -1,11 +1,18 @@
-ghost use Rattle.std.specs.Prelude.{◌+◌, ◌<◌, ◌^◌, length, IfOk};
+ghost use Rattle.std.specs.Prelude.{◌+◌, ◌<◌, ◌^◌, Some, length, IfOk};
 ghost use Rattle.st_reached.specs.Runnable.{CanRun};
+ghost use Rattle.st_readtrace.specs.Lines.{IsLineOf};
+ghost use Rattle.st_readtrace.specs.Written.{IsEntry};
 ghost use Rattle.st_trace_replay.specs.Replayed.{IsReplayed};
-ghost use Rattle.st_trace_replay.specs.Steps.{IsNextLine};
+ghost use Rattle.st_trace_replay.specs.Steps.{IsCompared, IsNextLine};
 
+use crate::mover::mover_of_line;
+use st_base::{Text, is_same_text};
 use st_law::Input;
-use st_readtrace::{LineFault, TraceReader};
-use st_replay::{Replay, ReplayFault};
+use st_readtrace::{LineFault, TraceReader, is_written};
+use st_replay::Replay;
+use st_report::append_entry;
+use st_same::is_same_entry;
+use st_trace::Entry;
 use std::alloc::{AllocError, Global};
 
 /// What the next line of a printed trace is.
@@ -19,24 +26,82 @@ pub enum NextLine {
     End,
 }
 
-// Reads the next line and replays its entry.
+// Compares the next line with the one of the entry that the machine added, which is printed into a text that is kept for this.
+fn compare_line(
+    alloc: Global,
+    reader: &mut TraceReader<'_>,
+    line: &[u8],
+    printed: &mut Text,
+    added: &Entry,
+) -> Result<NextLine, AllocError>
+    requires lines { reader.old.lines + 1 < 2 ^ 32 }
+    requires line { IsLineOf (Some line.now) reader.old.text }
+    requires written { IsEntry added.now }
+    ensures { IfOk result (λ next. IsCompared next reader.old reader.new added.now) }
+{
+    printed.truncate(0);
+    append_entry(alloc, printed, added)?;
+    if is_same_text(printed.bytes(), line) {
+        reader.skip_line(line);
+        Ok(NextLine::Lawful)
+    } else {
+        Ok(NextLine::Unlawful(reader.lines() + 1))
+    }
+}
+
+// Compares the entry that the next line is with the one that the machine added.
+fn compare_entry(
+    alloc: Global,
+    reader: &mut TraceReader<'_>,
+    added: &Entry,
+) -> Result<NextLine, AllocError>
+    requires { reader.old.lines + 1 < 2 ^ 32 }
+    ensures { IfOk result (λ next. IsCompared next reader.old reader.new added.now) }
+{
+    match reader.next_entry(alloc) {
+        Ok(Some(entry)) => {
+            if is_same_entry(&entry, added) {
+                Ok(NextLine::Lawful)
+            } else {
+                Ok(NextLine::Unlawful(reader.lines()))
+            }
+        }
+        Ok(None) => Ok(NextLine::End),
+        Err(LineFault::NotInGrammar) => Ok(NextLine::Unlawful(reader.lines() + 1)),
+        Err(LineFault::NoMemory) => Err(AllocError),
+    }
+}
+
+// Replays the next line: the machine makes the choice that its first words tell, and the line is compared with the one of the entry that this
+// adds. So no line is read as an entry, unless what the machine adds can't be printed as an entry's line.
 fn replay_line(
     alloc: Global,
     reader: &mut TraceReader<'_>,
     replay: &mut Replay<'_>,
+    printed: &mut Text,
+    added: &mut Option<Entry>,
 ) -> Result<NextLine, AllocError>
     requires { reader.old.lines + 1 < 2 ^ 32 }
     ensures { IfOk result (λ next. IsNextLine next reader.old reader.new replay.old replay.new) }
 {
-    match reader.next_entry(alloc) {
-        Ok(Some(entry)) => match replay.entry(alloc, &entry) {
-            Ok(()) => Ok(NextLine::Lawful),
-            Err(ReplayFault::NotLawful(_)) => Ok(NextLine::Unlawful(reader.lines())),
-            Err(ReplayFault::NoMemory) => Err(AllocError),
-        },
-        Ok(None) => Ok(NextLine::End),
-        Err(LineFault::NotInGrammar) => Ok(NextLine::Unlawful(reader.lines() + 1)),
-        Err(LineFault::NoMemory) => Err(AllocError),
+    let Some(line) = reader.line() else {
+        return Ok(NextLine::End);
+    };
+    let mover = match mover_of_line(line) {
+        Ok(mover) => mover,
+        Err(LineFault::NotInGrammar) => return Ok(NextLine::Unlawful(reader.lines() + 1)),
+        Err(LineFault::NoMemory) => return Err(AllocError),
+    };
+    replay.advance(alloc, mover, added)?;
+    match &*added {
+        Some(entry) => {
+            if is_written(entry) {
+                compare_line(alloc, reader, line, printed, entry)
+            } else {
+                compare_entry(alloc, reader, entry)
+            }
+        }
+        None => Ok(NextLine::Unlawful(reader.lines() + 1)),
     }
 }
 
@@ -53,8 +118,11 @@ pub fn first_unlawful_line(
 {
     let mut reader = TraceReader::new(alloc, text);
     let mut replay = Replay::start(alloc, input)?;
+    let mut printed = Text::new(alloc);
+    // The entry of the last step. It stays here, so that no step drops one.
+    let mut added = None;
     loop {
-        match replay_line(alloc, &mut reader, &mut replay)? {
+        match replay_line(alloc, &mut reader, &mut replay, &mut printed, &mut added)? {
             NextLine::Lawful => {}
             NextLine::Unlawful(line) => return Ok(Some(line)),
             NextLine::End => return Ok(None),

@@ -3,8 +3,8 @@ use Rattle.st_trace_replay.specs.Steps.{IsReplayedTo}
 use Rattle.st_trace_replay.proofs.text.first_unlawful_line.Given as goal
 
 -- the lines before are those of the trace so far
-abbrev pub invariant-loop-replay : goal.invariant-loop-replay
-invariant-loop-replay l = IsReplayedTo l.input l.text l.reader l.replay
+abbrev pub invariant-loop-added : goal.invariant-loop-added
+invariant-loop-added l = IsReplayedTo l.input l.text l.reader l.replay
 
-abbrev pub decreases-loop-replay : goal.decreases-loop-replay
-decreases-loop-replay l = length l.reader.text
+abbrev pub decreases-loop-added : goal.decreases-loop-added
+decreases-loop-added l = length l.reader.text

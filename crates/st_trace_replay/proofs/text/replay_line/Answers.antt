@@ -1,13 +1,35 @@
-use Rattle.std.proofs.Common.{Ok, Option, subst}
-use Rattle.st_readtrace.specs.Lines.{IsNextEntry}
-use Rattle.st_replay.specs.Replays.{IsReplayFault}
-use Rattle.st_replay.specs.declared.entries.ReplayFault.{ReplayFault}
-use Rattle.st_trace.specs.declared.entry.Entry.{Entry}
-use Rattle.st_trace_replay.proofs.Lines.{unlawful_line}
+use Rattle.std.proofs.Common.{rules, ◌≡◌, ◌+◌, Some, sym, ◌∙◌}
+use Rattle.std.proofs.lemmas.Result.{IfOk-weaker}
+use Rattle.st_readtrace.specs.Lines.{IsLineOf}
+use Rattle.st_trace_replay.specs.Movers.{mover_of_line}
+use Rattle.st_trace_replay.specs.Steps.{IsCompared, IsNextLine}
+use Rattle.st_trace_replay.proofs.Lines.{compared, no_mover, not_enabled}
 use Rattle.st_trace_replay.proofs.text.replay_line.Goals as goal
 
-pub returns-in-Err-NotLawful : goal.returns-in-Err-NotLawful
-returns-in-Err-NotLawful c =
-    unlawful_line c.args.reader.now c.next_entry.new.self c.args.replay.now c.entry.new.self c.in-Ok-Some.entry c.in-Err-NotLawful.field-0-0 c.lines.result
-    (subst (λ (next : Option Entry). IsNextEntry (Ok next) c.args.reader.now c.next_entry.new.self) c.in-Ok-Some.field-0-is c.in-Ok-Some.ensures)
-    (subst (λ (fault : ReplayFault). IsReplayFault c.args.replay.now c.in-Ok-Some.entry fault c.entry.new.self) c.in-Err-NotLawful.field-0-is c.in-Err-NotLawful.ensures.fault) c.lines.ensures
+pub returns-in-Err-NotInGrammar : goal.returns-in-Err-NotInGrammar
+returns-in-Err-NotInGrammar c =
+    no_mover c.args.reader.now c.args.reader.now c.args.replay.now c.args.replay.now c.in-Some.line.now (c.lines.result + 1) (search rules) (search rules) (search rules)
+
+pub returns-then-is_written : goal.returns-then-is_written
+returns-then-is_written c =
+    let line : IsLineOf (Some c.in-Some.line.now) c.args.reader.now.text = search rules in
+    let told : mover_of_line c.in-Some.line.now ≡ Some c.in-Ok.mover = search rules in
+    IfOk-weaker c.compare_line.result (λ next. IsCompared next c.args.reader.now c.compare_line.new.reader c.in-Some-added.entry)
+    (λ next. IsNextLine next c.args.reader.now c.compare_line.new.reader c.args.replay.now c.advance.new.self)
+    (λ next is. compared c.args.reader.now c.compare_line.new.reader c.args.replay.now c.advance.new.self c.in-Some.line.now c.in-Ok.mover line told c.advance.ensures.only next c.in-Some-added.entry (sym c.in_ok-advance.ensures.added ∙ c.in-Some-added.is)
+    c.in_ok-advance.ensures.trace c.in_ok-advance.ensures.lawful is)
+    c.compare_line.ensures
+
+pub returns-else-is_written : goal.returns-else-is_written
+returns-else-is_written c =
+    let line : IsLineOf (Some c.in-Some.line.now) c.args.reader.now.text = search rules in
+    let told : mover_of_line c.in-Some.line.now ≡ Some c.in-Ok.mover = search rules in
+    IfOk-weaker c.compare_entry.result (λ next. IsCompared next c.args.reader.now c.compare_entry.new.reader c.in-Some-added.entry)
+    (λ next. IsNextLine next c.args.reader.now c.compare_entry.new.reader c.args.replay.now c.advance.new.self)
+    (λ next is. compared c.args.reader.now c.compare_entry.new.reader c.args.replay.now c.advance.new.self c.in-Some.line.now c.in-Ok.mover line told c.advance.ensures.only next c.in-Some-added.entry (sym c.in_ok-advance.ensures.added ∙ c.in-Some-added.is)
+    c.in_ok-advance.ensures.trace c.in_ok-advance.ensures.lawful is)
+    c.compare_entry.ensures
+
+pub returns-in-None : goal.returns-in-None
+returns-in-None c =
+    not_enabled c.args.reader.now c.args.reader.now c.args.replay.now c.args.replay.now c.in-Some.line.now c.in-Ok.mover (search rules) (search rules) c.advance.ensures.only (c.lines-in-None.result + 1) (search rules) (search rules)
