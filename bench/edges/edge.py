@@ -24,6 +24,7 @@ LARGE = 'process p traced "/bin/a" 0 0 "/"\nthread a in p\n' + "call getpid\n" *
 SMALL = 'process p traced "/bin/a" 0 0 "/"\nthread a in p\ncall getpid\nend\n'
 SMALL_TEXT = b'1.1 "/bin/a" native-getpid fast = 1\n'
 LARGE_TEXT = SMALL_TEXT * 4000
+LAWFUL = b"lawful\n"
 LONG = "n" * 5000
 # Those that don't end a program.
 SIGNALS = (signal.SIGSTOP, signal.SIGCONT, signal.SIGWINCH, signal.SIGURG, signal.SIGCHLD)
@@ -59,6 +60,10 @@ def over(script):
     return ["step", "-f", "policy", script, "rest"]
 
 
+def replay(trace):
+    return ["replay", "-f", "policy", "small", trace]
+
+
 FILES = [
     Case("a file that is missing", 1, over("nothing"), "FILE: no such file", "nothing"),
     Case("a link that leads nowhere", 1, over("nowhere"), "FILE: no such file", "nowhere"),
@@ -76,6 +81,10 @@ FILES = [
     Case("a schedule that is a directory", 5, ["step", "-f", "policy", "small", "directory"], "FILE: is a directory", "directory"),
     Case("a run over a directory", 5, ["run", "-f", "directory", "small"], "FILE: is a directory", "directory"),
     Case("a check of a directory", 5, ["check", "directory"], "FILE: is a directory", "directory"),
+    Case("a trace that is missing", 1, replay("nothing"), "FILE: no such file", "nothing"),
+    Case("a trace that is a directory", 5, replay("directory"), "FILE: is a directory", "directory"),
+    Case("a trace without end", 9, replay("/dev/zero"), "FILE: holds more than 1048576 bytes", "/dev/zero"),
+    Case("a trace that is empty", 0, replay("/dev/null"), text=LAWFUL),
     Case("a FIFO that is written in pieces", 0, over("fifo"), text=SMALL_TEXT, start="from_fifo"),
     Case("signals in the middle of a read", 0, over("fifo"), text=SMALL_TEXT, start="from_fifo_with_signals"),
     Case("a FIFO that nothing is written to", 0, over("fifo"), start="from_silent_fifo"),
@@ -85,6 +94,7 @@ OUTPUTS = [
     Case("a full disk", 6, message=UNWRITTEN, start="to_full_disk"),
     Case("a full disk, of a run", 6, ["run", "-f", "policy", "small"], UNWRITTEN, start="to_full_disk"),
     Case("a full disk, of a check", 6, ["check", "policy"], UNWRITTEN, start="to_full_disk"),
+    Case("a full disk, of a replay", 6, replay("/dev/null"), UNWRITTEN, start="to_full_disk"),
     Case("a full disk, of a generated run", 6, ["gen", "1"], UNWRITTEN, start="to_full_disk"),
     Case("a full disk, of the help", 6, ["--help"], UNWRITTEN, start="to_full_disk"),
     Case("a full disk, and nothing to write", 0, ["step", "-f", "policy", "/dev/null", "rest"], start="to_full_disk"),
