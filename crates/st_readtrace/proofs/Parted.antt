@@ -11,3 +11,11 @@ no_slash (b ∷ part) all = by (is_slash b) all (λ e. no_slash part e) where
   by : (s : Bool) → cond (not s) (1 + prefix_len (λ c. not (is_slash c)) part) 0 ≡ suc (length part) → (position_or_len is_slash part ≡ length part → has_slash part ≡ false) → (s || has_slash part) ≡ false
   by true e more = absurd (omega (arith, e))
   by false e more = more (omega (arith, e))
+
+-- a part without a slash is one up to its end
+pub all_before : (part : List ℕ) → has_slash part ≡ false → position_or_len is_slash part ≡ length part
+all_before [] none = refl
+all_before (b ∷ part) none = by (is_slash b) none (λ e. all_before part e) where
+  by : (s : Bool) → (s || has_slash part) ≡ false → (has_slash part ≡ false → position_or_len is_slash part ≡ length part) → cond (not s) (1 + prefix_len (λ c. not (is_slash c)) part) 0 ≡ suc (length part)
+  by true e more = cc
+  by false e more = let one = more e in omega (arith, one)

@@ -1,6 +1,7 @@
-ghost use Rattle.std.specs.Prelude.{IsTrue};
+ghost use Rattle.std.specs.Prelude.{◌≡◌, ◌↔◌, true, IsTrue};
 ghost use Rattle.std.specs.List.{AllByRecursion};
 ghost use Rattle.st_readtrace.specs.Written.{Has64, AreArgs, AreChanges, AreIds, AreRegs, IsArg, IsCause, IsChange, IsEntry, IsKind, IsName, IsPart, IsResult, IsSeen, IsSeq, IsSnapshot, IsText, IsVerdict, IsWay};
+ghost use Rattle.st_same.specs.Families.{is_of_names, is_of_content, is_of_processes, is_of_instruction, is_of_call, is_of_end, is_of_copy, is_of_worker, is_of_operator};
 
 use st_base::{Ids, Seq};
 use st_calls::{ArgText, Snapshot, Verdict};
@@ -81,7 +82,7 @@ fn is_snapshot(snapshot: &Snapshot)
 
 // Whether a part of a name is a component without a slash.
 fn is_part(part: &[u8]) -> bool
-    ensures { IsTrue result → IsPart part.now }
+    ensures { IsTrue result ↔ IsPart part.now }
 {
     if !is_component(part) {
         return false;
@@ -91,7 +92,7 @@ fn is_part(part: &[u8]) -> bool
 
 // Whether each part of a name is a component.
 fn is_name(name: &AbsName) -> bool
-    ensures { IsTrue result → IsName name.now }
+    ensures { IsTrue result ↔ IsName name.now }
 {
     for part in name.parts() {
         if !is_part(part) {
@@ -103,7 +104,7 @@ fn is_name(name: &AbsName) -> bool
 
 // Whether an object that is made is no file with bytes.
 fn is_kind(kind: &NewKind) -> bool
-    ensures { IsTrue result → IsKind kind.now }
+    ensures { IsTrue result ↔ IsKind kind.now }
 {
     match kind {
         NewKind::Dir => true,
@@ -115,9 +116,9 @@ fn is_kind(kind: &NewKind) -> bool
     }
 }
 
-// Whether a change is one of names, its names are normal, and the file that it makes is empty.
-fn is_change_of_names(change: &Change) -> bool
-    ensures { IsTrue result → IsChange change.now }
+// Whether a change is one of names in the file tree, its names are normal, and the file that it makes is empty.
+fn is_of_names(change: &Change) -> bool
+    ensures { IsTrue result ↔ (is_of_names change.now ≡ true) × IsChange change.now }
 {
     match change {
         Change::Made {
@@ -135,15 +136,15 @@ fn is_change_of_names(change: &Change) -> bool
             let _obj = *obj;
             is_name(name)
         }
-        Change::Removed(name) | Change::Cwd(name) => is_name(name),
+        Change::Removed(name) => is_name(name),
         Change::Renamed { old, new } => is_name(old) && is_name(new),
         _ => false,
     }
 }
 
 // Whether a change is one of an object or a memory.
-fn is_change_of_bytes(change: &Change) -> bool
-    ensures { IsTrue result → IsChange change.now }
+fn is_of_content(change: &Change) -> bool
+    ensures { IsTrue result ↔ (is_of_content change.now ≡ true) × IsChange change.now }
 {
     match change {
         Change::Written { obj, at, bytes } => {
@@ -172,9 +173,9 @@ fn is_change_of_bytes(change: &Change) -> bool
     }
 }
 
-// Whether a change is one of a process or a message.
-fn is_change_of_process(change: &Change) -> bool
-    ensures { IsTrue result → IsChange change.now }
+// Whether a change is one of a process or a message, and its name is normal.
+fn is_of_processes(change: &Change) -> bool
+    ensures { IsTrue result ↔ (is_of_processes change.now ≡ true) × IsChange change.now }
 {
     match change {
         Change::Forked { pid, space, tid } => {
@@ -190,6 +191,7 @@ fn is_change_of_process(change: &Change) -> bool
             are_ids(*ids);
             true
         }
+        Change::Cwd(name) => is_name(name),
         Change::Dying(pid) => {
             let _pid = *pid;
             true
@@ -208,13 +210,13 @@ fn is_change_of_process(change: &Change) -> bool
 
 // Whether the names of a change are normal, and the file that it makes is empty.
 fn is_change(change: &Change) -> bool
-    ensures { IsTrue result → IsChange change.now }
+    ensures { IsTrue result ↔ IsChange change.now }
 {
-    is_change_of_bytes(change) || is_change_of_process(change) || is_change_of_names(change)
+    is_of_names(change) || is_of_content(change) || is_of_processes(change)
 }
 
 fn are_changes(changes: &[Change]) -> bool
-    ensures { IsTrue result → AreChanges changes.now }
+    ensures { IsTrue result ↔ AreChanges changes.now }
 {
     for change in changes {
         if !is_change(change) {
@@ -226,7 +228,7 @@ fn are_changes(changes: &[Change]) -> bool
 
 // Whether the name of a cause is normal.
 fn is_cause(cause: &Cause) -> bool
-    ensures { IsTrue result → IsCause cause.now }
+    ensures { IsTrue result ↔ IsCause cause.now }
 {
     match cause {
         Cause::Filter(number) => {
@@ -238,17 +240,39 @@ fn is_cause(cause: &Cause) -> bool
     }
 }
 
-// Whether an entry is one of a call, and written.
-fn is_written_of_call(entry: &Entry) -> bool
-    ensures { IsTrue result → IsEntry entry.now }
+// Whether an entry is one of an instruction, and written.
+fn is_of_instruction(entry: &Entry) -> bool
+    ensures { IsTrue result ↔ (is_of_instruction entry.now ≡ true) × IsEntry entry.now }
 {
     match entry {
+        Entry::Stored { tid, place, word } => {
+            let (_tid, _place, _word) = (*tid, *place, *word);
+            true
+        }
         Entry::Entered { tid, regs, way, .. } => {
             let _tid = *tid;
             are_regs(regs);
             is_way(*way);
             true
         }
+        Entry::Reloaded {
+            tid,
+            policy,
+            changes,
+            ..
+        } => {
+            let (_tid, _policy) = (*tid, *policy);
+            are_changes(changes.as_slice())
+        }
+        _ => false,
+    }
+}
+
+// Whether an entry is one of a call that is made, and written.
+fn is_of_call(entry: &Entry) -> bool
+    ensures { IsTrue result ↔ (is_of_call entry.now ≡ true) × IsEntry entry.now }
+{
+    match entry {
         Entry::Used {
             tid,
             seq,
@@ -267,6 +291,15 @@ fn is_written_of_call(entry: &Entry) -> bool
             is_result(*outcome);
             are_changes(changes.as_slice())
         }
+        _ => false,
+    }
+}
+
+// Whether a call is denied or a thread ends with an entry, and it is written.
+fn is_of_end(entry: &Entry) -> bool
+    ensures { IsTrue result ↔ (is_of_end entry.now ≡ true) × IsEntry entry.now }
+{
+    match entry {
         Entry::Denied {
             tid,
             seq,
@@ -277,45 +310,19 @@ fn is_written_of_call(entry: &Entry) -> bool
             is_seq(*seq);
             is_cause(cause)
         }
-        _ => false,
-    }
-}
-
-// Whether an entry is another one of a thread, and written.
-fn is_written_of_thread(entry: &Entry) -> bool
-    ensures { IsTrue result → IsEntry entry.now }
-{
-    match entry {
-        Entry::Stored { tid, place, word } => {
-            let (_tid, _place, _word) = (*tid, *place, *word);
-            true
-        }
         Entry::Ended { tid } => {
             let _tid = *tid;
             true
         }
-        Entry::Reloaded {
-            tid,
-            policy,
-            changes,
-            ..
-        } => {
-            let (_tid, _policy) = (*tid, *policy);
-            are_changes(changes.as_slice())
-        }
         _ => false,
     }
 }
 
-// Whether an entry is one of a worker, and written.
-fn is_written_of_worker(entry: &Entry) -> bool
-    ensures { IsTrue result → IsEntry entry.now }
+// Whether an entry is one of a worker that copies or looks, and written.
+fn is_of_copy(entry: &Entry) -> bool
+    ensures { IsTrue result ↔ (is_of_copy entry.now ≡ true) × IsEntry entry.now }
 {
     match entry {
-        Entry::Claimed { worker, seq } => {
-            let (_worker, _seq) = (*worker, *seq);
-            true
-        }
         Entry::Copied {
             seq,
             part,
@@ -334,6 +341,19 @@ fn is_written_of_worker(entry: &Entry) -> bool
             let (_seq, _part) = (*seq, *part);
             is_seen(seen);
             is_name(name)
+        }
+        _ => false,
+    }
+}
+
+// Whether an entry is another one of a worker, and written.
+fn is_of_worker(entry: &Entry) -> bool
+    ensures { IsTrue result ↔ (is_of_worker entry.now ≡ true) × IsEntry entry.now }
+{
+    match entry {
+        Entry::Claimed { worker, seq } => {
+            let (_worker, _seq) = (*worker, *seq);
+            true
         }
         Entry::Faulted { seq, .. } => {
             let _seq = *seq;
@@ -354,9 +374,9 @@ fn is_written_of_worker(entry: &Entry) -> bool
     }
 }
 
-// Whether an entry is one of the operator.
-fn is_written_of_operator(entry: &Entry) -> bool
-    ensures { IsTrue result → IsEntry entry.now }
+// Whether an entry is one of the operator, and written.
+fn is_of_operator(entry: &Entry) -> bool
+    ensures { IsTrue result ↔ (is_of_operator entry.now ≡ true) × IsEntry entry.now }
 {
     match entry {
         Entry::Replied { seq, reply, number } => {
@@ -371,12 +391,14 @@ fn is_written_of_operator(entry: &Entry) -> bool
     }
 }
 
-/// Whether an entry is one that traces are written of: if so, its names are normal, and the files that it makes are empty.
+/// Whether an entry is one that traces are written of: its names are normal, and the files that it makes are empty.
 pub fn is_written(entry: &Entry) -> bool
-    ensures { IsTrue result → IsEntry entry.now }
+    ensures { IsTrue result ↔ IsEntry entry.now }
 {
-    is_written_of_call(entry)
-        || is_written_of_thread(entry)
-        || is_written_of_worker(entry)
-        || is_written_of_operator(entry)
+    is_of_instruction(entry)
+        || is_of_call(entry)
+        || is_of_end(entry)
+        || is_of_copy(entry)
+        || is_of_worker(entry)
+        || is_of_operator(entry)
 }

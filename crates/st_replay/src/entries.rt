@@ -149,7 +149,7 @@ impl<'a> Replay<'a> {
     }
 
     /// Makes the choice of this mover, if it is enabled: the trace goes on with the entry that the machine adds for it. Stores this entry in
-    /// `added`, none if the choice isn't enabled. If memory runs out, the trace is unchanged.
+    /// `added`, none if the choice isn't enabled. If memory runs out, the trace and `added` are unchanged.
     pub fn advance(
         &mut self,
         alloc: Global,
@@ -161,6 +161,7 @@ impl<'a> Replay<'a> {
         ensures lawful { OnOk result (IsLawfulSoFar self.new) }
         ensures only { IsOnly self.old mover (entry_moved self.old mover) }
         ensures err { OnErr result (self.new ≡ self.old) }
+        ensures kept { OnErr result (added.new ≡ added.old) }
     {
         let choice = choice_of_mover(&self.kernel, mover);
         match self.kernel.advance(alloc, choice, added) {

@@ -1,7 +1,8 @@
+use Rattle.std.specs.Prelude.{◌↔◌}
 use Rattle.std.proofs.Common.{drop}
 use Rattle.st_readtrace.specs.Written.{AreChanges}
 use Rattle.st_readtrace.proofs.written.are_changes.Given as goal
 
--- all changes are those of written entries if those that are left are
+-- all changes are those of written entries exactly if those that are left are
 abbrev pub invariant-loop-change : goal.invariant-loop-change
-invariant-loop-change l = AreChanges (drop l.change-index l.changes) → AreChanges l.changes
+invariant-loop-change l = AreChanges (drop l.change-index l.changes) ↔ AreChanges l.changes

@@ -40,3 +40,10 @@ pub returns-clause-only : goal.returns-clause-only
 returns-clause-only c =
     subst (λ (t : TraceSoFar). IsOnly t c.args.mover (entry_moved t c.args.mover)) c.self.view_is
     (only_moved c.self.inside.kernel c.self.invariant c.args.mover c.choice_of_mover-choice.result c.choice_of_mover-choice.ensures)
+
+pub returns-clause-kept : goal.returns-clause-kept
+returns-clause-kept c = elim c.match-advance.branch [
+  | in-Ok w ↦ rw w.result-is tt
+  | in-Err-NotEnabled w ↦ rw w.result-is tt
+  | in-Err-NoMemory w ↦ rw w.result-is (w.in-Err-NoMemory.ensures.same_place (ap Err w.in-Err-NoMemory.field-0-is))
+]
