@@ -1,0 +1,5 @@
+mod ErrorNumbers
+mod FlagBits
+pub mod Kept
+mod NativeStarts
+mod Rows

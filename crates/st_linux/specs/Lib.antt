@@ -1,0 +1,4 @@
+pub mod Flags
+pub mod Errors
+pub mod Native
+pub mod Laws
