@@ -1,11 +1,12 @@
 -- Texts that the definitions read as expected.
 use Rattle.std.proofs.Common.{◌≡◌, ℕ, List, [], ◌∷◌, ◌++◌, None, Some, Ok, true, false, refl, codes}
-use Rattle.st_grammar.proofs.Common.{And, Call, Deny, DuplicatePolicy, ElevateOnSetId, ElevateWithoutIds, Env, fault_in, FilterValue, FsRead, Lex, Not, NotSupported, Or, Permit, policies_in, refusal_in, Test, True}
+use Rattle.st_grammar.proofs.Common.{And, Call, Deny, DuplicatePolicy, ElevateOnSetId, ElevateWithoutIds, Env, fault_in, FilterValue, FsRead, Lex, Not, NotSupported, Or, Permit, policies_in, refusal_in, Test, True, UnknownCall}
 use Rattle.st_grammar.specs.declared.place.Place.TheVariants as place
 use Rattle.st_lex.specs.declared.token.LexFault.TheVariants.{OpenQuote}
-use Rattle.st_grammar.specs.declared.fault.Unsupported.TheVariants.{Re}
+use Rattle.st_grammar.specs.declared.fault.Unsupported.TheVariants.{Emulation, Re}
 use Rattle.st_base.specs.declared.errno.Errno.TheVariants.{ENOENT}
 use Rattle.st_calls.specs.declared.call.SysCall.TheVariants.{Bind}
+use Rattle.st_emulation.specs.declared.emulation.Emulation.TheVariants.{Linux, Native}
 use Rattle.st_filter.specs.declared.filter.Cmp.TheVariants as cmp
 use Rattle.st_filter.specs.declared.filter.FilterName.TheVariants as name
 use Rattle.st_filter.specs.declared.filter.Op.TheVariants.{Eq}
@@ -18,10 +19,14 @@ with_elevate = record {
   groups = record { name = codes "wheel"; id = 0 } ∷ [];
   elevate = true;
   learn = false;
+  emulation = Native;
 }
 
 abbrev without_elevate : Env
 without_elevate = record with_elevate { elevate = false }
+
+abbrev with_linux : Env
+with_linux = record with_elevate { emulation = Linux }
 
 abbrev after_header : List ℕ → List ℕ
 after_header row = codes "Policy: /bin/a, Emulation: native" ++ 10 ∷ row
@@ -67,3 +72,23 @@ good_set = refl
 
 refused : refusal_in (codes "Policy: /a, Emulation: native") with_elevate (record { binary = codes "/a"; filters = [] } ∷ []) ≡ Some (record { fault = DuplicatePolicy 8; place = place.Binary })
 refused = refl
+
+-- ---- emulations
+
+abbrev linux_header : List ℕ
+linux_header = codes "Policy: /bin/a, Emulation: linux\n"
+
+native_word : fault_in (after_header []) with_linux [] ≡ Some (NotSupported 27 Emulation)
+native_word = refl
+
+linux_word : fault_in linux_header with_elevate [] ≡ Some (NotSupported 27 Emulation)
+linux_word = refl
+
+native_prefix : fault_in (linux_header ++ codes "native-bind: permit") with_linux [] ≡ Some (UnknownCall 33)
+native_prefix = refl
+
+linux_prefix : fault_in (after_header (codes "linux-bind: permit")) with_elevate [] ≡ Some (UnknownCall 34)
+linux_prefix = refl
+
+linux_set : policies_in (linux_header ++ codes "linux-bind: permit log as 0:wheel") with_linux [] ≡ Ok (record { binary = codes "/bin/a"; filters = permission ∷ [] } ∷ [])
+linux_set = refl

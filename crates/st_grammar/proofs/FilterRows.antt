@@ -3,9 +3,10 @@ use Rattle.std.proofs.Common.{◌≡◌, ℕ, ◌+◌, ◌≤◌, Bool, true, fa
 use Rattle.std.specs.Str.{bytes_eq}
 use Rattle.std.specs.List.{list_any}
 use Rattle.std.proofs.lemmas.Bool.{eq-eqb, lt-ltb, or_from}
+use Rattle.st_emulation.specs.Words.{word_of}
 use Rattle.st_grammar.proofs.Common.{add_filter, Always, binaries, binary_of, BinaryPolicy, Both, Close, CloseBracket, Colon, concluded, Either, Env, filter_name, FilterName, FilterValue, First, Formula, fresh, GrammarState, Grouped, has_policy, Indexed, is_action, is_join, is_label, IsCondition, IsFilter, IsHeader, Level, Line, MOST_FILTERS, Negated, new_policy, OneConjunction, OneOperand, Open, OpenBracket, Place, Quoted, Reading, Reduced, Short, Spells, Symbol, Then, True, without_either, Word}
 use Rattle.st_grammar.specs.declared.place.Place.TheVariants as place
-use Rattle.st_grammar.proofs.Keywords.{IsOther, label-other, not-keyword}
+use Rattle.st_grammar.proofs.Keywords.{IsOther, label-other, not-keyword, policy-no-name, same-bytes}
 use Rattle.st_grammar.proofs.Readings.{Step1, Passes, passes-append, passes-one, passes-step, passes-from, passes-alike, Alike, reading_at, At, stands, goes, steady}
 use Rattle.st_grammar.proofs.Expressions.{Kept, blank, IsOperand, AtOperand, AtEnd, ends, Outermost, passes-expression}
 use Rattle.st_grammar.proofs.Clauses.{clause-operand}
@@ -80,10 +81,10 @@ to-right : (a b c d e : List Symbol) → (((a ++ b) ++ c) ++ d) ++ e ≡ a ++ (b
 to-right a b c d e = simp append_assoc
 
 module _ (env : Env) (set : List BinaryPolicy) (n : ℕ) where
-  step-name : (spelled : List ℕ) (name : FilterName) → filter_name spelled ≡ Some name → n + 1 ≤ MOST_FILTERS →
+  step-name : (spelled : List ℕ) (name : FilterName) → filter_name spelled env.emulation ≡ Some name → n + 1 ≤ MOST_FILTERS →
       Step1 env (At place.Row set (HasFilters n)) (Word spelled) (At place.NameColon set (IsBegun (record { name = name; filters = n + 1; set = set })))
   step-name spelled name e few = goes (λ at w h.
-      let other : bytes_eq spelled (codes "Policy") ≡ false = not-keyword filter_name spelled (codes "Policy") name refl e in
+      let other : bytes_eq spelled (codes "Policy") ≡ false = not-keyword (λ (word : List ℕ). filter_name word env.emulation) spelled (codes "Policy") name (policy-no-name env.emulation) e in
       let below : nat_lt w.filters 4096 ≡ true = lt-ltb w.filters 4096 (omega (arith, h.filters_are, few)) in
       record {
         walk = fresh place.NameColon (w.filters + 1) name;
@@ -108,6 +109,9 @@ module _ (env : Env) (set : List BinaryPolicy) (n : ℕ) where
 abbrev pub row_place : Bool → Place
 row_place true = place.Row
 row_place false = place.Start
+
+step-system : (env : Env) (set : List BinaryPolicy) (n : ℕ) → Step1 env (At place.System set (HasFilters n)) (Word (word_of env.emulation)) (At place.HeaderEnd set (HasFilters n))
+step-system env set n = steady (λ w at. rw (same-bytes (word_of env.emulation)) refl)
 
 module _ (env : Env) (set : List BinaryPolicy) (n : ℕ) where
   pub step-policy : (b : Bool) → Step1 env (At (row_place b) set (HasFilters n)) (Word (codes "Policy")) (At place.PolicyColon set (HasFilters n))
@@ -134,5 +138,5 @@ module _ (env : Env) (set : List BinaryPolicy) (n : ℕ) where
       (passes-step (steady {q = place.Emulation} {H = H} (λ w at. refl))
       (passes-step (steady {q = place.EmulationColon} {H = H} (λ w at. refl))
       (passes-step (steady {q = place.System} {H = H} (λ w at. refl))
-      (passes-step (steady {q = place.HeaderEnd} {H = H} (λ w at. refl))
+      (passes-step (step-system env (set ++ fresh_policy binary ∷ []) n)
       (passes-one (steady (λ w at. refl))))))))))

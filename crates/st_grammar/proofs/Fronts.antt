@@ -1,7 +1,7 @@
 -- What has been spelled at each place of the grammar.
 use Rattle.std.proofs.Common.{◌≡◌, ℕ, ◌+◌, ◌≤◌, Bool, true, false, not, List, [], ◌∷◌, ◌++◌, Option, None, Some, Ok, Err, codes, sum_by, refl, ap, sym, ◌∙◌, append_assoc, append-nil}
 use Rattle.std.specs.Str.{bytes_eq}
-use Rattle.st_calls.specs.Emulation.{emulation_word}
+use Rattle.st_emulation.specs.Words.{word_of}
 use Rattle.st_grammar.proofs.Common.{Action, AreNew, AreRows, binary_of, BinaryPolicy, Cmp, Colon, Comma, comparison, Deny, Env, EPERM, Errno, error_named, filter_name, filter_of, FilterName, filters_in, fresh, GrammarState, Grant, id_in, index_in, is_join, is_label, IsAction, IsCondition, IsGrant, IsPredicate, IsTail, may_test, MOST_FILTERS, most_joins, Op, op_named, OpenBracket, Operand, PendingOperand, Permit, Place, Predicate, Quoted, Reduced, Spells, Symbol, Test, True, unquoted, Who, who_named, Word}
 use Rattle.st_grammar.specs.declared.place.Place.TheVariants as place
 use Rattle.st_grammar.proofs.Keywords.{same-word}
@@ -62,7 +62,7 @@ pub record NameFront (env : Env) (old : List BinaryPolicy) (rows front : List Sy
   pub few : w.filters ≤ MOST_FILTERS
   pub spelled : List ℕ
   pub front_is : front ≡ Word spelled ∷ []
-  pub name_is : filter_name spelled ≡ Some w.name
+  pub name_is : filter_name spelled env.emulation ≡ Some w.name
   pub first : IsFirst w
 
 -- ---- filters
@@ -74,7 +74,7 @@ pub record FilterFront (env : Env) (old : List BinaryPolicy) (rows front : List 
   pub spelled : List ℕ
   pub us : List Symbol
   pub front_is : front ≡ Word spelled ∷ Colon ∷ us
-  pub name_is : filter_name spelled ≡ Some name
+  pub name_is : filter_name spelled env.emulation ≡ Some name
   pub rest : P us
 
 -- symbols of which the first are of one kind, and those after them of another
@@ -218,7 +218,7 @@ Facts env old rows front place.Comma w set = HeaderFront env old rows front [] w
 Facts env old rows front place.Emulation w set = HeaderFront env old rows front (Comma ∷ []) w.filters set
 Facts env old rows front place.EmulationColon w set = HeaderFront env old rows front (Comma ∷ Word (codes "Emulation") ∷ []) w.filters set
 Facts env old rows front place.System w set = HeaderFront env old rows front (Comma ∷ Word (codes "Emulation") ∷ Colon ∷ []) w.filters set
-Facts env old rows front place.HeaderEnd w set = HeaderFront env old rows front (Comma ∷ Word (codes "Emulation") ∷ Colon ∷ Word emulation_word ∷ []) w.filters set
+Facts env old rows front place.HeaderEnd w set = HeaderFront env old rows front (Comma ∷ Word (codes "Emulation") ∷ Colon ∷ Word (word_of env.emulation) ∷ []) w.filters set
 Facts env old rows front place.NameColon w set = NameFront env old rows front w set
 Facts env old rows front place.Clause w set = Filtered env old rows front w set (FirstFront w)
 Facts env old rows front place.Operand w set = IsPlain w × Filtered env old rows front w set (OperandFront env w.name w.expression.pending w.parens w.joins)

@@ -3,12 +3,12 @@ use Rattle.std.proofs.Common.{◌≡◌, ℕ, ◌+◌, ◌-◌, ◌<◌, ◌≤�
 use Rattle.std.specs.Str.{bytes_eq}
 use Rattle.std.specs.List.{list_any}
 use Rattle.std.proofs.lemmas.Bool.{ltb-true, eqb-true}
-use Rattle.st_calls.specs.Emulation.{emulation_word}
+use Rattle.st_emulation.specs.Words.{word_of}
 use Rattle.st_grammar.proofs.Common.{acts, Always, Ask, Asks, AskWithLearn, binaries, binary_of, BinaryPolicy, Close, close_group, CloseBracket, Colon, Comma, comparison, Denies, DeniesWith, Deny, ElevateOnSetId, ElevateWithoutIds, Env, EPERM, error_named, filter_name, filter_of, FilterName, FilterValue, First, Formula, fresh, GrammarState, Grant, Grants, GrantsAndLogs, has_policy, id_in, If, index_in, Indexed, is_action, is_join, is_label, is_line_symbol, IsAction, IsCondition, IsFilter, IsTail, joins_either, Line, Logs, LogsAndGrants, may_test, MayGrant, MOST_FILTERS, most_joins, names_for, new_policy, OfBoth, OfGroup, OfUser, Op, op_named, Open, OpenBracket, Operand, PendingOperand, Permit, Permits, Place, Quoted, read_step, reading_step, Reduced, settle, names_set_id_call, Short, Spells, step_to, StepResult, Symbol, Test, Then, True, unquoted, Who, who_named, Whoever, with_group, without_either, Word}
 use Rattle.st_grammar.specs.declared.place.Place.TheVariants as place
 use Rattle.st_grammar.specs.Expression as stack
 use Rattle.st_grammar.specs.Grammar.{Plain as PlainTail}
-use Rattle.st_grammar.proofs.Keywords.{joins-label, joins-op, joins-index, joins-append, joins-first}
+use Rattle.st_grammar.proofs.Keywords.{same-word, joins-label, joins-op, joins-index, joins-append, joins-first}
 use Rattle.st_grammar.proofs.Readings.{reading_at}
 use Rattle.st_grammar.proofs.Stacks.{Opens, Front, Negates, Groups, Joins, Chooses, Ends, EndsWhole, settle-ends, close-ends, groups, groups-settle, groups-close, close-closed, whole-spelled}
 use Rattle.st_grammar.proofs.Policies.{any-binaries, fresh_policy, new-more, filters-append}
@@ -133,7 +133,7 @@ module _ (env : Env) (old : List BinaryPolicy) (rows front : List Symbol) (w : G
   kept-start h (Word word) e = by-word word (codes "Policy") (λ e. rw e (row-more (Word (codes "Policy")) h)) (λ e. rw e tt)
   kept-start h s e = tt
 
-  named : (word : List ℕ) (name : FilterName) → filter_name word ≡ Some name → w.filters < MOST_FILTERS → Has place.Row → Gets (Word word) place.NameColon (fresh place.NameColon (w.filters + 1) name)
+  named : (word : List ℕ) (name : FilterName) → filter_name word env.emulation ≡ Some name → w.filters < MOST_FILTERS → Has place.Row → Gets (Word word) place.NameColon (fresh place.NameColon (w.filters + 1) name)
   named word name e few h = record {
     following = h.following;
     filters_are = omega (arith, h.filters_are);
@@ -147,7 +147,7 @@ module _ (env : Env) (old : List BinaryPolicy) (rows front : List Symbol) (w : G
   kept-row : Has place.Row → (s : Symbol) → is_line_symbol s ≡ false → Keeps place.Row s
   kept-row h Line e = absurd (cc)
   kept-row h (Word word) e = by-word word (codes "Policy") (λ e. rw e (row-more (Word (codes "Policy")) (below-row h)))
-      (λ n. by-some (filter_name word) (λ name e. by-test (nat_lt w.filters 4096) (λ t. rw (n, e, t) (named word name e (ltb-true w.filters 4096 t) h)) (λ t. rw (n, e, t) tt)) (λ e. rw (n, e) tt))
+      (λ n. by-some (filter_name word env.emulation) (λ name e. by-test (nat_lt w.filters 4096) (λ t. rw (n, e, t) (named word name e (ltb-true w.filters 4096 t) h)) (λ t. rw (n, e, t) tt)) (λ e. rw (n, e) tt))
   kept-row h s e = tt
 
   kept-name_colon : Has place.NameColon → (s : Symbol) → Keeps place.NameColon s
@@ -200,8 +200,11 @@ module _ (env : Env) (old : List BinaryPolicy) (rows front : List Symbol) (w : G
   kept-emulation_colon h Colon = header-more Colon h
   kept-emulation_colon h s = tt
 
+  system-begun : (word : List ℕ) → bytes_eq word (word_of env.emulation) ≡ true → Has place.System → Gets (Word word) place.HeaderEnd w
+  system-begun word e h = subst (λ (named : List ℕ). HeaderFront env old rows (front ++ Word word ∷ []) (Comma ∷ Word (codes "Emulation") ∷ Colon ∷ Word named ∷ []) w.filters set) (same-word word (word_of env.emulation) e) (header-more (Word word) h)
+
   kept-system : Has place.System → (s : Symbol) → Keeps place.System s
-  kept-system h (Word word) = by-word word emulation_word (λ e. rw e (header-more (Word emulation_word) h)) (λ e. rw e tt)
+  kept-system h (Word word) = by-test (bytes_eq word (word_of env.emulation)) (λ e. rw e (system-begun word e h)) (λ e. rw e tt)
   kept-system h s = tt
 
   -- ---- expressions

@@ -5,15 +5,25 @@ use Rattle.std.specs.List.{list_any}
 use Rattle.std.proofs.lemmas.Slice.Eq.{bytes_eq-Decides}
 use Rattle.std.proofs.lemmas.Bool.{false_from_ne_true, or_parts, not-true}
 use Rattle.std.proofs.lemmas.List.Sums.{sum_by-append}
-use Rattle.st_grammar.proofs.Common.{index_in, is_join, is_label, Op, op_named, Symbol, Word}
+use Rattle.st_emulation.specs.declared.emulation.Emulation.{Emulation}
+use Rattle.st_emulation.specs.declared.emulation.Emulation.TheVariants.{Linux, Native}
+use Rattle.st_grammar.proofs.Common.{filter_name, index_in, is_join, is_label, Op, op_named, Symbol, Word}
 use Rattle.st_grammar.specs.Words.{reserved_words}
 
 pub same-word : (a b : List ℕ) → bytes_eq a b ≡ true → a ≡ b
 same-word a b e = (bytes_eq-Decides a b).0 e
 
+pub same-bytes : (w : List ℕ) → bytes_eq w w ≡ true
+same-bytes w = (bytes_eq-Decides w w).1 refl
+
 -- a word that has a meaning which the keyword doesn't have is not the keyword
 pub not-keyword : {A : Type 0} (f : List ℕ → Option A) (w k : List ℕ) (x : A) → f k ≡ None → f w ≡ Some x → bytes_eq w k ≡ false
 not-keyword f w k x n e = false_from_ne_true (bytes_eq w k) (λ h. let same : f w ≡ f k = ap f (same-word w k h) in absurd (cc))
+
+-- `Policy` isn't the name of a filter
+pub policy-no-name : (emulation : Emulation) → filter_name (codes "Policy") emulation ≡ None
+policy-no-name Native = refl
+policy-no-name Linux = refl
 
 pub record IsOther (w : List ℕ) : Type 0 where
   pub no_not : bytes_eq w (codes "not") ≡ false

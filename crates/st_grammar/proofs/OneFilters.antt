@@ -1,29 +1,30 @@
 -- One filter alone is read as in a file, after a header.
 use Rattle.std.proofs.Common.{◌≡◌, ℕ, Bool, true, false, ◌&&◌, if◌then◌else◌, List, [], ◌∷◌, ◌++◌, length, map, Option, None, Some, Ok, Err, codes, refl, ap, sym, subst, ◌∙◌, arith, append_assoc, append-nil}
-use Rattle.st_calls.specs.Emulation.{emulation_word}
+use Rattle.st_emulation.specs.Words.{word_of}
 use Rattle.st_grammar.proofs.Common.{add_filter, as_reading, binaries, BinaryPolicy, Broken, Colon, Comma, ends_filter, Env, filter_in, filter_name, filter_of, FilterName, FilterValue, fresh, GrammarState, Header, is_binary_place, is_line_symbol, IsFilter, lexed_text, LexFault, Line, next, NoRow, Place, read_step, Reading, reading_after, reading_step, step, step_name, step_to, StepResult, Symbol, symbol_of, taken, Token, Word}
 use Rattle.st_filter.specs.declared.filter.FilterName.TheVariants as name
 use Rattle.st_grammar.specs.declared.place.Place.TheVariants as place
 use Rattle.st_grammar.specs.OneFilter.{IsOneRow, ReadsFilter, ToALine, ToTheEnd, after_filter, filter_from, begin_filter, filter_of_tokens, if_broken, if_ended}
 use Rattle.st_grammar.proofs.Clauses.{line-symbol}
 use Rattle.st_grammar.proofs.Fronts.{After, Facts, HasFacts, by-test}
+use Rattle.st_grammar.proofs.Keywords.{policy-no-name}
 use Rattle.st_grammar.proofs.Kept.{denial-tails, user-tails, predicate-filter, tail-filter, line-keeps}
 use Rattle.st_grammar.proofs.Policies.{fresh_policy}
 
 -- ---- a header before it
 
-abbrev pub rows_before : List Symbol
-rows_before = Word (codes "Policy") ∷ Colon ∷ Word (codes "/") ∷ Comma ∷ Word (codes "Emulation") ∷ Colon ∷ Word emulation_word ∷ Line ∷ []
+abbrev pub rows_before : Env → List Symbol
+rows_before env = Word (codes "Policy") ∷ Colon ∷ Word (codes "/") ∷ Comma ∷ Word (codes "Emulation") ∷ Colon ∷ Word (word_of env.emulation) ∷ Line ∷ []
 
 -- the policy of that header
 abbrev pub one_policy : List BinaryPolicy
 one_policy = fresh_policy (codes "/") ∷ []
 
-header_after : (env : Env) → After env [] rows_before one_policy
+header_after : (env : Env) → After env [] (rows_before env) one_policy
 header_after env = record {
   before = [];
   last = fresh_policy (codes "/");
-  are_rows = Header [] (Word (codes "Policy") ∷ Colon ∷ Word (codes "/") ∷ Comma ∷ Word (codes "Emulation") ∷ Colon ∷ Word emulation_word ∷ []) [] (codes "/") NoRow (record { spelled = Word (codes "/"); parts = refl; binary_is = refl });
+  are_rows = Header [] (Word (codes "Policy") ∷ Colon ∷ Word (codes "/") ∷ Comma ∷ Word (codes "Emulation") ∷ Colon ∷ Word (word_of env.emulation) ∷ []) [] (codes "/") NoRow (record { spelled = Word (codes "/"); parts = refl; binary_is = refl });
   set_is = refl;
   new = (refl, tt);
 }
@@ -31,27 +32,28 @@ header_after env = record {
 -- ---- symbols of a filter
 
 -- the symbols so far begin with a filter's name
-pub record IsNamed (front : List Symbol) : Type 0 where
+pub record IsNamed (env : Env) (front : List Symbol) : Type 0 where
   pub word : List ℕ
   pub name : FilterName
   pub more : List Symbol
   pub front_is : front ≡ Word word ∷ more
-  pub name_is : filter_name word ≡ Some name
+  pub name_is : filter_name word env.emulation ≡ Some name
 
-pub named-more : (front : List Symbol) (s : Symbol) → IsNamed front → IsNamed (front ++ s ∷ [])
+pub named-more : {env : Env} (front : List Symbol) (s : Symbol) → IsNamed env front → IsNamed env (front ++ s ∷ [])
 named-more front s h = record { word = h.word; name = h.name; more = h.more ++ s ∷ []; front_is = ap (λ (ts : List Symbol). ts ++ s ∷ []) h.front_is; name_is = h.name_is }
 
-pub named-some : (front : List Symbol) → IsNamed front → front ≡ [] → ⊥
+pub named-some : {env : Env} (front : List Symbol) → IsNamed env front → front ≡ [] → ⊥
 named-some front h e = let f : front ≡ Word h.word ∷ h.more = h.front_is in cc
 
-pub named-not : (front more : List Symbol) → IsNamed front → front ≡ Word (codes "Policy") ∷ more → ⊥
-named-not front more h e =
+pub named-not : {env : Env} (front more : List Symbol) → IsNamed env front → front ≡ Word (codes "Policy") ∷ more → ⊥
+named-not {env} front more h e =
     let f : front ≡ Word h.word ∷ h.more = h.front_is in
     let same : h.word ≡ codes "Policy" = cc in
-    let none : filter_name (codes "Policy") ≡ Some h.name = ap filter_name (sym same) ∙ h.name_is in
+    let some : filter_name (codes "Policy") env.emulation ≡ Some h.name = ap (λ (word : List ℕ). filter_name word env.emulation) (sym same) ∙ h.name_is in
+    let none : filter_name (codes "Policy") env.emulation ≡ None = policy-no-name env.emulation in
     cc
 
-module _ (env : Env) (rows front : List Symbol) (w : GrammarState) (set : List BinaryPolicy) (named : IsNamed front) where
+module _ (env : Env) (rows front : List Symbol) (w : GrammarState) (set : List BinaryPolicy) (named : IsNamed env front) where
   -- no place in a filter is that of a binary
   pub no-binary : (p : Place) → Facts env [] rows front p w set → is_binary_place p ≡ false
   no-binary place.Binary h = absurd (named-not front (Colon ∷ []) named h.front_is)
@@ -75,8 +77,8 @@ module _ (env : Env) (rows front : List Symbol) (w : GrammarState) (set : List B
 
 -- symbols that begin with a filter's name spell what this state has read
 pub record Spelled (env : Env) (front : List Symbol) (w : GrammarState) : Type 0 where
-  pub named : IsNamed front
-  pub facts : Facts env [] rows_before front w.place w one_policy
+  pub named : IsNamed env front
+  pub facts : Facts env [] (rows_before env) front w.place w one_policy
 
 -- some symbols spell what this state has read
 pub record InFilter (env : Env) (w : GrammarState) : Type 0 where
@@ -84,11 +86,11 @@ pub record InFilter (env : Env) (w : GrammarState) : Type 0 where
   pub spelled : Spelled env front w
 
 pub stands_elsewhere : (env : Env) (w : GrammarState) → InFilter env w → is_binary_place w.place ≡ false
-stands_elsewhere env w i = no-binary env rows_before i.front w one_policy i.spelled.named w.place i.spelled.facts
+stands_elsewhere env w i = no-binary env (rows_before env) i.front w one_policy i.spelled.named w.place i.spelled.facts
 
 -- ---- a name begins one
 
-begun : (env : Env) (at : ℕ) (word : List ℕ) (w : GrammarState) (o : Option FilterName) → filter_name word ≡ o → step_name (fresh place.Start 0 (name.Other [])) at word ≡ Ok w → Spelled env (Word word ∷ []) w
+begun : (env : Env) (at : ℕ) (word : List ℕ) (w : GrammarState) (o : Option FilterName) → filter_name word env.emulation ≡ o → step_name env (fresh place.Start 0 (name.Other [])) at word ≡ Ok w → Spelled env (Word word ∷ []) w
 begun env at word w None e q = let none = rw e at q in absurd (cc)
 begun env at word w (Some known) e q =
     let is = rw e at q in
@@ -98,8 +100,8 @@ begun env at word w (Some known) e q =
       facts = record { following = header_after env; filters_are = refl; few = omega arith; spelled = word; front_is = refl; name_is = e; first = refl };
     })
 
-pub begins : (env : Env) (at : ℕ) (s : Symbol) (w : GrammarState) → begin_filter at s ≡ Ok w → Spelled env (s ∷ []) w
-begins env at (Word word) w e = begun env at word w (filter_name word) refl e
+pub begins : (env : Env) (at : ℕ) (s : Symbol) (w : GrammarState) → begin_filter env at s ≡ Ok w → Spelled env (s ∷ []) w
+begins env at (Word word) w e = begun env at word w (filter_name word env.emulation) refl e
 begins env at s w e = absurd (cc)
 
 -- ---- a symbol inside one
@@ -115,9 +117,9 @@ after-same env p s set w h e = inside (ends_filter p) (is_line_symbol s) (as_rea
 
 pub goes_on : (env : Env) (front : List Symbol) (w w' : GrammarState) (at : ℕ) (s : Symbol) → is_line_symbol s ≡ false → next env (binaries one_policy) w at s ≡ Ok w' → Spelled env front w → Spelled env (front ++ s ∷ []) w'
 goes_on env front w w' at s line e h =
-    let elsewhere : is_binary_place w.place ≡ false = no-binary env rows_before front w one_policy h.named w.place h.facts in
+    let elsewhere : is_binary_place w.place ≡ false = no-binary env (rows_before env) front w one_policy h.named w.place h.facts in
     let step : read_step env (as_reading w one_policy) at s ≡ Ok (as_reading w' one_policy) = ap (reading_step env (as_reading w one_policy) s) e ∙ ap Ok (after-same env w.place s one_policy w' elsewhere line) in
-    record { named = named-more front s h.named; facts = subst (HasFacts env [] rows_before (front ++ s ∷ [])) step (line-keeps env [] rows_before front w one_policy at w.place s line h.facts) }
+    record { named = named-more front s h.named; facts = subst (HasFacts env [] (rows_before env) (front ++ s ∷ [])) step (line-keeps env [] (rows_before env) front w one_policy at w.place s line h.facts) }
 
 pub token_stands : (env : Env) (text : List ℕ) (broken : Option LexFault) (t : Token) (ts : List Token) (w w' : GrammarState) → ((known : List (List ℕ)) → next env known w t.at (symbol_of text t) ≡ Ok w') → is_line_symbol (symbol_of text t) ≡ false → InFilter env w →
     (filter_from env text broken w (t ∷ ts) ≡ filter_from env text broken w' ts) × InFilter env w'
@@ -141,7 +143,7 @@ record IsWhole (env : Env) (broken : Option LexFault) (front symbols : List Symb
 ended : (env : Env) (front : List Symbol) (w : GrammarState) (at : ℕ) (f : FilterValue) → Spelled env front w → (r : StepResult) → next env [] w at Line ≡ r → if_ended r ≡ Ok f → IsFilter env front f
 ended env front w at f h (Ok v) e is =
     let same : filter_of v ≡ f = cc in
-    subst (IsFilter env front) same (spelled env rows_before front w one_policy h.named at [] v w.place h.facts e)
+    subst (IsFilter env front) same (spelled env (rows_before env) front w one_policy h.named at [] v w.place h.facts e)
 ended env front w at f h (Err fault) e is = absurd (cc)
 
 no_end : (fault : LexFault) (r : StepResult) (f : FilterValue) → if_broken fault r ≡ Ok f → ⊥
@@ -164,7 +166,7 @@ module _ (env : Env) (text : List ℕ) (broken : Option LexFault) (f : FilterVal
   token_leads v e is later = by-test (is_line_symbol (symbol_of text t))
       (λ line. line_ends env text broken front w v t.at (symbol_of text t) ts f h (line-symbol (symbol_of text t) line) e (rw (e, filter_from, line) at is))
       (λ line.
-      let to : next env (binaries one_policy) w t.at (symbol_of text t) ≡ Ok v = next_same env (binaries one_policy) w t.at (symbol_of text t) w.place (no-binary env rows_before front w one_policy h.named w.place h.facts) ∙ e in
+      let to : next env (binaries one_policy) w t.at (symbol_of text t) ≡ Ok v = next_same env (binaries one_policy) w t.at (symbol_of text t) w.place (no-binary env (rows_before env) front w one_policy h.named w.place h.facts) ∙ e in
       let l = later (front ++ symbol_of text t ∷ []) v (goes_on env front w v t.at (symbol_of text t) line to h) (rw (e, filter_from, line) at is) in
       record { whole = l.whole; row = l.row; one_row = subst (IsOneRow l.row) (append_assoc front (symbol_of text t ∷ []) (map (symbol_of text) ts)) l.one_row; is = l.is })
 
@@ -180,8 +182,8 @@ sound_from env text broken f (t ∷ ts) front w h e = by_step env text broken f 
 sound_tokens : (env : Env) (text : List ℕ) (broken : Option LexFault) (f : FilterValue) (ts : List Token) → filter_of_tokens env text broken ts ≡ Ok f → IsWhole env broken [] (map (symbol_of text) ts) f
 sound_tokens env text None f [] e = absurd (cc)
 sound_tokens env text (Some fault) f [] e = absurd (cc)
-sound_tokens env text broken f (t ∷ ts) e = by (begin_filter t.at (symbol_of text t)) refl where
-  by : (r : StepResult) → begin_filter t.at (symbol_of text t) ≡ r → IsWhole env broken [] (symbol_of text t ∷ map (symbol_of text) ts) f
+sound_tokens env text broken f (t ∷ ts) e = by (begin_filter env t.at (symbol_of text t)) refl where
+  by : (r : StepResult) → begin_filter env t.at (symbol_of text t) ≡ r → IsWhole env broken [] (symbol_of text t ∷ map (symbol_of text) ts) f
   by (Err fault) b = let none = rw (b, filter_of_tokens) at e in absurd (cc)
   by (Ok w) b =
       let l = sound_from env text broken f ts (symbol_of text t ∷ []) w (begins env t.at (symbol_of text t) w b) (rw (b, filter_of_tokens) at e) in

@@ -6,7 +6,7 @@ use Rattle.st_base.specs.declared.errno.Errno.TheVariants.{EPERM}
 use Rattle.st_base.specs.Errno.{error_named}
 use Rattle.st_lex.specs.declared.token.LexFault.{LexFault}
 use Rattle.st_lex.specs.Unquote.{unquoted}
-use Rattle.st_calls.specs.Emulation.{emulation_word}
+use Rattle.st_emulation.specs.Words.{word_of}
 use Rattle.st_filter.specs.Formula.{Formula, True, Test}
 use Rattle.st_filter.specs.declared.filter.Action.{Action}
 use Rattle.st_filter.specs.declared.filter.Action.TheVariants.{Permit, Deny, Ask}
@@ -135,27 +135,27 @@ step_start w at (Word word) = only w at (bytes_eq word (codes "Policy")) place.P
 step_start w at _ = expected at
 
 -- at a filter's name, unless there are already too many filters
-abbrev pub step_name : GrammarState → ℕ → List ℕ → StepResult
-step_name w at word =
-    found (UnknownCall at) (λ name. if nat_lt w.filters MOST_FILTERS then Ok (fresh place.NameColon (w.filters + 1) name) else Err (TooMany at)) (filter_name word)
+abbrev pub step_name : Env → GrammarState → ℕ → List ℕ → StepResult
+step_name env w at word =
+    found (UnknownCall at) (λ name. if nat_lt w.filters MOST_FILTERS then Ok (fresh place.NameColon (w.filters + 1) name) else Err (TooMany at)) (filter_name word env.emulation)
 
 -- at the beginning of a row after a header: a blank line, `Policy`, or a filter's name
-abbrev pub step_row : GrammarState → ℕ → Symbol → StepResult
-step_row w at Line = step_to w place.Row
-step_row w at (Word word) =
-    if bytes_eq word (codes "Policy") then step_to w place.PolicyColon else step_name w at word
-step_row w at _ = expected at
+abbrev pub step_row : Env → GrammarState → ℕ → Symbol → StepResult
+step_row env w at Line = step_to w place.Row
+step_row env w at (Word word) =
+    if bytes_eq word (codes "Policy") then step_to w place.PolicyColon else step_name env w at word
+step_row env w at _ = expected at
 
 -- at a header's binary, if the symbol is one; the binary may not have a policy yet
 abbrev pub step_binary : List (List ℕ) → GrammarState → ℕ → Option (List ℕ) → StepResult
 step_binary known w at binary =
     found (Expected at) (λ binary. if list_any (λ b. bytes_eq b binary) known then Err (DuplicatePolicy at) else step_to w place.Comma) binary
 
--- at the emulation of a header: only one is supported
-abbrev pub step_system : GrammarState → ℕ → Symbol → StepResult
-step_system w at (Word word) =
-    if bytes_eq word emulation_word then step_to w place.HeaderEnd else Err (NotSupported at unsupported.Emulation)
-step_system w at _ = expected at
+-- at the emulation of a header: only that of the environment is supported
+abbrev pub step_system : Env → GrammarState → ℕ → Symbol → StepResult
+step_system env w at (Word word) =
+    if bytes_eq word (word_of env.emulation) then step_to w place.HeaderEnd else Err (NotSupported at unsupported.Emulation)
+step_system env w at _ = expected at
 
 -- ---- expressions
 
@@ -326,13 +326,13 @@ step_predicate env who w at s =
 -- the result of a symbol at this place, if these binaries have policies
 abbrev pub step : Env → List (List ℕ) → GrammarState → ℕ → Symbol → Place → StepResult
 step env known w at s place.Start = step_start w at s
-step env known w at s place.Row = step_row w at s
+step env known w at s place.Row = step_row env w at s
 step env known w at s place.PolicyColon = only w at (is_colon_symbol s) place.Binary
 step env known w at s place.Binary = step_binary known w at (binary_of env s)
 step env known w at s place.Comma = only w at (is_comma_symbol s) place.Emulation
 step env known w at s place.Emulation = only w at (is_word_symbol (codes "Emulation") s) place.EmulationColon
 step env known w at s place.EmulationColon = only w at (is_colon_symbol s) place.System
-step env known w at s place.System = step_system w at s
+step env known w at s place.System = step_system env w at s
 step env known w at s place.NameColon = only w at (is_colon_symbol s) place.Clause
 step env known w at s place.Clause = step_clause env w at s
 step env known w at s place.Operand = step_operand w at s

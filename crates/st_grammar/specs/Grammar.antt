@@ -7,7 +7,7 @@ use Rattle.st_base.specs.declared.errno.Errno.TheVariants.{EPERM}
 use Rattle.st_base.specs.Errno.{error_named}
 use Rattle.st_lex.specs.Tokens.{lexed_text}
 use Rattle.st_lex.specs.Unquote.{unquoted}
-use Rattle.st_calls.specs.Emulation.{emulation_word}
+use Rattle.st_emulation.specs.Words.{word_of}
 use Rattle.st_grammar.specs.declared.env.Env.{Env}
 use Rattle.st_filter.specs.declared.filter.Action.{Action}
 use Rattle.st_filter.specs.declared.filter.Action.TheVariants.{Permit, Deny, Ask}
@@ -123,7 +123,7 @@ pub data IsPredicate (env : Env) : List Symbol → Option Predicate → Type 0 w
 
 -- ---- rows
 
--- a filter: its name, a condition, an action, and what follows it
+-- a filter: its name under the emulation, a condition, an action, and what follows it
 pub record IsFilter (env : Env) (row : List Symbol) (f : FilterValue) : Type 0 where
   pub spelled : List ℕ
   pub condition : List Symbol
@@ -131,7 +131,7 @@ pub record IsFilter (env : Env) (row : List Symbol) (f : FilterValue) : Type 0 w
   pub tail : List Symbol
   pub predicate : List Symbol
   pub parts : row ≡ Word spelled ∷ Colon ∷ condition ++ action ++ tail ++ predicate
-  pub name_is : filter_name spelled ≡ Some f.name
+  pub name_is : filter_name spelled env.emulation ≡ Some f.name
   pub condition_is : IsCondition env f.name condition f.formula
   pub action_is : IsAction env action f.action
   pub tail_is : IsTail env f.name f.action tail f.grant f.log
@@ -147,10 +147,10 @@ binary_of env (Word w) = if_absolute w
 binary_of env (Quoted source) = if_absolute (unquoted env.dollars source)
 binary_of env _ = None
 
--- a header: the row that begins the policy of a binary
+-- a header: the row that begins the policy of a binary under the emulation
 pub record IsHeader (env : Env) (row : List Symbol) (binary : List ℕ) : Type 0 where
   pub spelled : Symbol
-  pub parts : row ≡ Word (codes "Policy") ∷ Colon ∷ spelled ∷ Comma ∷ Word (codes "Emulation") ∷ Colon ∷ Word emulation_word ∷ []
+  pub parts : row ≡ Word (codes "Policy") ∷ Colon ∷ spelled ∷ Comma ∷ Word (codes "Emulation") ∷ Colon ∷ Word (word_of env.emulation) ∷ []
   pub binary_is : binary_of env spelled ≡ Some binary
 
 -- rows, each ended by a Line: blank rows, headers, and the filters of the last header

@@ -63,9 +63,9 @@ filter_from env text broken w (t ∷ ts) =
     ]
 
 -- a filter begins with its name
-abbrev pub begin_filter : ℕ → Symbol → StepResult
-begin_filter at (Word word) = step_name (fresh place.Start 0 (name.Other [])) at word
-begin_filter at _ = expected at
+abbrev pub begin_filter : Env → ℕ → Symbol → StepResult
+begin_filter env at (Word word) = step_name env (fresh place.Start 0 (name.Other [])) at word
+begin_filter env at _ = expected at
 
 -- the fault of a text without a token
 abbrev pub no_filter : ℕ → Option LexFault → FilterResult
@@ -76,7 +76,7 @@ no_filter end (Some fault) = Err (Lex fault)
 abbrev pub filter_of_tokens : Env → List ℕ → Option LexFault → List Token → FilterResult
 filter_of_tokens env text broken [] = no_filter (length text) broken
 filter_of_tokens env text broken (t ∷ ts) =
-    elim (begin_filter t.at (symbol_of text t)) [
+    elim (begin_filter env t.at (symbol_of text t)) [
       | Ok w ↦ filter_from env text broken w ts
       | Err fault ↦ Err fault
     ]

@@ -7,7 +7,9 @@ use Rattle.st_base.specs.Number.{number_in, numeral_up_to}
 use Rattle.st_calls.specs.declared.rule.Rule.{Rule}
 use Rattle.st_calls.specs.Argument.{has_argument, has_label}
 use Rattle.st_calls.specs.Call.{rule_named}
-use Rattle.st_calls.specs.Emulation.{emulation_prefix}
+use Rattle.st_emulation.specs.declared.emulation.Emulation.{Emulation}
+use Rattle.st_emulation.specs.declared.emulation.Emulation.TheVariants.{Native}
+use Rattle.st_emulation.specs.Words.{prefix_of}
 use Rattle.st_grammar.specs.declared.env.Env.{Env}
 use Rattle.st_grammar.specs.declared.env.NamedId.{NamedId}
 use Rattle.st_filter.specs.declared.filter.FilterName.{FilterName}
@@ -36,17 +38,17 @@ abbrev pub if_name : List ℕ → Option (List ℕ)
 if_name name = if nat_lt 0 (length name) && list_all is_name_byte name then Some name else None
 
 -- the rest of a word after the emulation's prefix, if it can be the name of a call
-abbrev pub native_name : List ℕ → Option (List ℕ)
-native_name word = if starts_with nat_eq word emulation_prefix then if_name (drop (length emulation_prefix) word) else None
+abbrev pub call_after_prefix : List ℕ → Emulation → Option (List ℕ)
+call_after_prefix word emulation = if starts_with nat_eq word (prefix_of emulation) then if_name (drop (length (prefix_of emulation)) word) else None
 
 -- what a filter of this word is for: the rule that it names, if it names one, otherwise a call outside the model
 abbrev pub name_by : List ℕ → Option Rule → FilterName
 name_by word (Some rule) = name.Rule rule
 name_by word None = name.Other word
 
--- what a filter of this name is for: a rule of the model, or a call outside it
-abbrev pub filter_name : List ℕ → Option FilterName
-filter_name word = option_map (λ call. name_by call (rule_named call)) (native_name word)
+-- what a filter of this name is for under an emulation: a rule of the model, or a call outside it
+abbrev pub filter_name : List ℕ → Emulation → Option FilterName
+filter_name word emulation = option_map (λ call. name_by call (rule_named call)) (call_after_prefix word emulation)
 
 -- whether a filter may test the argument of this label and index
 abbrev pub may_test : FilterName → List ℕ → ℕ → Bool
@@ -97,6 +99,6 @@ abbrev pub names_for : Env → Who → List NamedId
 names_for env User = env.users
 names_for env Group = env.groups
 
--- the environment in which no user or group is known and nothing is granted or learnt
+-- the native environment in which no user or group is known and nothing is granted or learnt
 abbrev pub no_env : Env
-no_env = record { users = []; groups = []; dollars = record { home = []; user = []; cwd = [] }; elevate = false; learn = false }
+no_env = record { users = []; groups = []; dollars = record { home = []; user = []; cwd = [] }; elevate = false; learn = false; emulation = Native }

@@ -1,6 +1,7 @@
 ghost use Rattle.std.specs.Prelude.{◌≡◌};
 
 use st_base::{Sequence, Text};
+use st_emulation::Emulation;
 use st_lex::Dollars;
 use std::alloc::Global;
 
@@ -22,12 +23,14 @@ pub struct Env {
     pub elevate: bool,
     /// Whether policies are learnt, so that no filter may ask: `-A` of systrace(1).
     pub learn: bool,
+    /// Whose word headers and the names of filters have.
+    pub emulation: Emulation,
 }
 
 impl Env {
     ghost use Rattle.st_grammar.specs.Words.{no_env};
 
-    /// No users and groups, empty texts, no grants, nothing learnt; it takes no memory.
+    /// No users and groups, empty texts, no grants, nothing learnt, the native emulation; it takes no memory.
     pub fn new(alloc: Global) -> Self
         ensures { result ≡ no_env }
     {
@@ -41,6 +44,7 @@ impl Env {
             },
             elevate: false,
             learn: false,
+            emulation: Emulation::Native,
         }
     }
 }

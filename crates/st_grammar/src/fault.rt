@@ -10,7 +10,7 @@ use thiserror::Error;
 pub enum Unsupported {
     /// The operator `re`, which tests by a regular expression.
     Re,
-    /// Another emulation's word.
+    /// Another word than that of the environment's emulation.
     Emulation,
 }
 
@@ -23,7 +23,7 @@ pub enum PolicyFault {
     /// The token doesn't fit the grammar.
     #[error("not expected here")]
     Expected(u32),
-    /// The filter's name isn't `native-` and one or more letters, digits or `_`.
+    /// The filter's name isn't the emulation's prefix, as `native-`, and one or more letters, digits or `_`.
     #[error("not the name of a call")]
     UnknownCall(u32),
     /// The call has no argument of this label and index.

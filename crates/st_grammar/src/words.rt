@@ -3,11 +3,12 @@ ghost use Rattle.std.specs.List.{list_all};
 ghost use Rattle.std.specs.Str.{bytes_eq};
 ghost use Rattle.st_filter.specs.Policies.{names_set_id_call};
 ghost use Rattle.st_grammar.specs.Grammar.{who_named};
-ghost use Rattle.st_grammar.specs.Words.{is_label, is_name_byte, native_name, name_by, may_test, may_test_label, op_named, index_in, is_id_named, id_in, names_for};
+ghost use Rattle.st_grammar.specs.Words.{call_after_prefix, is_label, is_name_byte, name_by, may_test, may_test_label, op_named, index_in, is_id_named, id_in, names_for};
 
 use crate::env::{Env, NamedId};
 use st_base::number::{number_of, numeral_up_to};
-use st_calls::{Rule, emulation_prefix};
+use st_calls::Rule;
+use st_emulation::Emulation;
 use st_filter::{Op, Who};
 
 /// Whether a word is this keyword.
@@ -50,10 +51,10 @@ fn is_name(name: &[u8]) -> bool
 }
 
 /// The rest of a word after the emulation's prefix, if it can be the name of a call.
-pub fn native_name(word: &[u8]) -> Option<&[u8]>
-    ensures { option_copied result ≡ native_name word.now }
+pub fn call_after_prefix(word: &[u8], emulation: Emulation) -> Option<&[u8]>
+    ensures { option_copied result ≡ call_after_prefix word.now emulation }
 {
-    let prefix = emulation_prefix();
+    let prefix = emulation.prefix();
     if !word.starts_with(prefix) {
         return None;
     }

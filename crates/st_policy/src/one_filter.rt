@@ -22,15 +22,20 @@ fn after_filter(filter: Filter, lexer: &mut Lexer) -> Result<Filter, PolicyFault
 }
 
 // A filter begins with its name.
-fn begin_filter<'a>(alloc: Global, at: u32, symbol: &Symbol<'a>) -> Result<Reader<'a>, PolicyFault>
-    ensures ok { IfOk result (λ reader. begin_filter at (seen symbol.now) ≡ Ok reader) }
-    ensures fault { IfErr result (λ f. f ≢ PolicyFault.NoMemory → begin_filter at (seen symbol.now) ≡ Err f) }
+fn begin_filter<'a>(
+    alloc: Global,
+    env: &Env,
+    at: u32,
+    symbol: &Symbol<'a>,
+) -> Result<Reader<'a>, PolicyFault>
+    ensures ok { IfOk result (λ reader. begin_filter env.now at (seen symbol.now) ≡ Ok reader) }
+    ensures fault { IfErr result (λ f. f ≢ PolicyFault.NoMemory → begin_filter env.now at (seen symbol.now) ≡ Err f) }
 {
     let Symbol::Word(word) = *symbol else {
         return Err(PolicyFault::Expected(at));
     };
     let mut reader = Reader::new(alloc, 0);
-    reader.begin_filter(at, word)?;
+    reader.begin_filter(env, at, word)?;
     Ok(reader)
 }
 
@@ -69,7 +74,7 @@ fn rest_of_filter<'a>(
     lexer: &mut Lexer<'a>,
 ) -> Result<Filter, PolicyFault>
     requires small { length text.now < 2 ^ 32 }
-    requires begun { begin_filter first.now.at (symbol_of text.now first.now) ≡ Ok reader.old }
+    requires begun { begin_filter env.now first.now.at (symbol_of text.now first.now) ≡ Ok reader.old }
     ensures ok { IfOk result (λ filter. filter_of_tokens env.now text.now lexer.old.fault (first.now ∷ lexer.old.tokens) ≡ Ok filter) }
     ensures fault { IfErr result (λ f. f ≢ PolicyFault.NoMemory → filter_of_tokens env.now text.now lexer.old.fault (first.now ∷ lexer.old.tokens) ≡ Err f) }
 {
@@ -100,7 +105,7 @@ fn filter_of_tokens<'a>(
     ensures ok { IfOk result (λ filter. filter_of_tokens env.now text.now lexer.old.fault (first.now ∷ lexer.old.tokens) ≡ Ok filter) }
     ensures fault { IfErr result (λ f. f ≢ PolicyFault.NoMemory → filter_of_tokens env.now text.now lexer.old.fault (first.now ∷ lexer.old.tokens) ≡ Err f) }
 {
-    let mut reader = begin_filter(alloc, first.at, &Symbol::of(text, first))?;
+    let mut reader = begin_filter(alloc, env, first.at, &Symbol::of(text, first))?;
     rest_of_filter(&mut reader, alloc, env, text, first, lexer)
 }
 

@@ -2,13 +2,13 @@ use crate::refusal::{FilterSource, Refusal};
 use st_base::Text;
 use st_calls::{ArgSpec, Rule, args_of};
 use st_grammar::Place;
-use st_grammar::words::native_name;
+use st_grammar::words::call_after_prefix;
 use std::alloc::AllocError;
 
 // The rule of the filter whose row a fault stands in; none where its call isn't in the model.
 fn rule_of(refusal: &Refusal<'_>) -> Option<Rule> {
     let name = refusal.row().first()?.text(refusal.text);
-    Rule::of_word(native_name(name)?)
+    Rule::of_word(call_after_prefix(name, refusal.env.emulation)?)
 }
 
 // Appends an argument as a policy names it: an index that is 0 isn't written.

@@ -1,23 +1,24 @@
+use crate::forms::{
+    filter_form, filter_or_end, filter_or_header, header_form, name_form, only_word, word_form,
+};
 use crate::refusal::FilterSource;
 use crate::shown::token_for;
+use st_emulation::Emulation;
 use st_filter::Who;
 use st_grammar::{Place, PolicyFault, Unsupported};
-
-const FILTER_OR_HEADER: &str =
-    "a filter 'native-CALL: ...' or a header 'Policy: BINARY, Emulation: native'";
 
 const ERROR: &str = "the name of an error in small letters, such as eacces";
 
 /// What may stand at a place in the grammar of policies.
-pub fn expected_at(place: Place) -> &'static str {
+pub fn expected_at(place: Place, emulation: Emulation) -> &'static str {
     match place {
-        Place::Start => "a header 'Policy: BINARY, Emulation: native'",
-        Place::Row => FILTER_OR_HEADER,
+        Place::Start => header_form(emulation),
+        Place::Row => filter_or_header(emulation),
         Place::PolicyColon | Place::EmulationColon | Place::NameColon => "':'",
         Place::Binary => "a binary that begins with '/'",
         Place::Comma => "','",
         Place::Emulation => "'Emulation'",
-        Place::System => "'native'",
+        Place::System => word_form(emulation),
         Place::HeaderEnd | Place::FilterEnd => "the end of the line",
         Place::Clause => "'permit', 'deny', 'ask', 'not', 'true', '(' or a label",
         Place::Operand => "'not', 'true', '(' or a label",
@@ -68,11 +69,11 @@ fn at_most(place: Place) -> &'static str {
 }
 
 /// What was expected where a policy has a fault at this place in the grammar.
-pub fn expected_of(fault: PolicyFault, place: Place) -> &'static str {
+pub fn expected_of(fault: PolicyFault, place: Place, emulation: Emulation) -> &'static str {
     match fault {
         PolicyFault::Lex(fault) => token_for(fault),
-        PolicyFault::Expected(_) | PolicyFault::NoMemory => expected_at(place),
-        PolicyFault::UnknownCall(_) => "'native-' and letters, digits or '_'",
+        PolicyFault::Expected(_) | PolicyFault::NoMemory => expected_at(place, emulation),
+        PolicyFault::UnknownCall(_) => name_form(emulation),
         PolicyFault::UnknownArgument(_) => "an argument of the call",
         PolicyFault::UnknownError(_) => ERROR,
         PolicyFault::UnknownUser(_) => {
@@ -84,9 +85,7 @@ pub fn expected_of(fault: PolicyFault, place: Place) -> &'static str {
         PolicyFault::NotSupported(_, Unsupported::Re) => {
             "one of match, eq, neq, sub, nsub, inpath; 're' is not supported"
         }
-        PolicyFault::NotSupported(_, Unsupported::Emulation) => {
-            "'native', the only emulation that is supported"
-        }
+        PolicyFault::NotSupported(_, Unsupported::Emulation) => only_word(emulation),
         PolicyFault::AskWithLearn(_) => "no 'ask' where policies are learnt",
         PolicyFault::TooMany(_) => at_most(place),
     }
@@ -97,22 +96,27 @@ pub fn expected_in_script(
     source: FilterSource,
     fault: PolicyFault,
     place: Place,
+    emulation: Emulation,
 ) -> Option<&'static str> {
     match source {
         FilterSource::PolicyFile => None,
-        FilterSource::Reply => expected_in_reply(fault, place),
+        FilterSource::Reply => expected_in_reply(fault, place, emulation),
         FilterSource::ScriptPolicy => match (fault, place) {
-            (PolicyFault::Expected(_), Place::Row) => Some("a filter 'native-CALL: ...' or 'end'"),
+            (PolicyFault::Expected(_), Place::Row) => Some(filter_or_end(emulation)),
             _ => None,
         },
     }
 }
 
 // What was expected in the filter of a reply, where this isn't what a policy file may have.
-fn expected_in_reply(fault: PolicyFault, place: Place) -> Option<&'static str> {
+fn expected_in_reply(
+    fault: PolicyFault,
+    place: Place,
+    emulation: Emulation,
+) -> Option<&'static str> {
     match (fault, place) {
         (PolicyFault::AskWithLearn(_), _) => Some("'permit' or 'deny': a reply doesn't ask"),
-        (PolicyFault::Expected(_), Place::Row) => Some("a filter 'native-CALL: ...'"),
+        (PolicyFault::Expected(_), Place::Row) => Some(filter_form(emulation)),
         (PolicyFault::Expected(_), Place::Clause) => {
             Some("'permit', 'deny', 'not', 'true', '(' or a label")
         }

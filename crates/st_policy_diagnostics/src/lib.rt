@@ -5,6 +5,7 @@ mod arguments;
 pub mod caret;
 pub mod details;
 mod expected;
+mod forms;
 pub mod policy_fault;
 pub mod position;
 pub mod refusal;

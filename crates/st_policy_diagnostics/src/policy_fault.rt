@@ -20,7 +20,7 @@ fn append_expected_joint(line: &mut Text, refusal: &Refusal<'_>) -> Result<(), A
             line.append(b"'and', 'or' or ')'")?;
             append_open_bracket(line, refusal.text, open)
         }
-        None => line.append(expected_at(Place::Joint).as_bytes()),
+        None => line.append(expected_at(Place::Joint, refusal.env.emulation).as_bytes()),
     }
 }
 
@@ -31,16 +31,22 @@ fn append_expected(
     refusal: &Refusal<'_>,
     found: Found<'_>,
 ) -> Result<(), AllocError> {
+    let emulation = refusal.env.emulation;
     if let Found::ByteOrderMark = found {
-        return line.append(expected_at(Place::Start).as_bytes());
+        return line.append(expected_at(Place::Start, emulation).as_bytes());
     }
-    if let Some(expected) = expected_in_script(refusal.source, refusal.fault, refusal.place) {
+    if let Some(expected) = expected_in_script(
+        refusal.source,
+        refusal.fault,
+        refusal.place,
+        emulation,
+    ) {
         return line.append(expected.as_bytes());
     }
     match (refusal.fault, refusal.place) {
         (PolicyFault::UnknownArgument(_), _) => return append_expected_argument(line, refusal),
         (PolicyFault::Expected(_), Place::Joint) => return append_expected_joint(line, refusal),
-        (fault, place) => line.append(expected_of(fault, place).as_bytes())?,
+        (fault, place) => line.append(expected_of(fault, place, emulation).as_bytes())?,
     }
     match refusal.fault {
         PolicyFault::UnknownUser(_) => append_known(line, refusal),

@@ -12,8 +12,8 @@ use st_calls::Rule;
 use st_filter::{
     Action, Cmp, Expr, Filter, FilterName, Grant, MOST_FILTERS, Op, PolicySet, Predicate,
 };
-use st_grammar::words::native_name;
-use st_grammar::{Place, PolicyFault};
+use st_grammar::words::call_after_prefix;
+use st_grammar::{Env, Place, PolicyFault};
 use std::alloc::{AllocError, Global};
 use std::marker::Model;
 use std::mem::replace;
@@ -158,10 +158,10 @@ impl<'a> Reader<'a> {
     }
 
     /// At the beginning of a row, at a filter's name.
-    pub fn begin_filter(&mut self, at: u32, word: &'a [u8]) -> Result<(), PolicyFault>
-        ensures { IsStepped result self.new (step_name self.old at word.now) }
+    pub fn begin_filter(&mut self, env: &Env, at: u32, word: &'a [u8]) -> Result<(), PolicyFault>
+        ensures { IsStepped result self.new (step_name env.now self.old at word.now) }
     {
-        let Some(name) = native_name(word) else {
+        let Some(name) = call_after_prefix(word, env.emulation) else {
             return Err(PolicyFault::UnknownCall(at));
         };
         if self.filters >= MOST_FILTERS {

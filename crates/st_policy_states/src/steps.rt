@@ -7,7 +7,6 @@ ghost use Rattle.st_grammar.specs.Reading.{is_binary_place};
 use crate::reader::Reader;
 use crate::stack::PendingOperand;
 use st_base::{Errno, Text};
-use st_calls::emulation_word;
 use st_filter::{Action, Expr, Grant, Predicate, Who};
 use st_grammar::words::{
     id_of, index_of, is_keyword, is_label, may_test, may_test_label, names_for, op_named, sets_ids,
@@ -36,8 +35,8 @@ impl<'a> Reader<'a> {
         }
     }
 
-    fn step_row(&mut self, at: u32, symbol: &Symbol<'a>) -> Result<(), PolicyFault>
-        ensures { IsStepped result self.new (step_row self.old at (seen symbol.now)) }
+    fn step_row(&mut self, env: &Env, at: u32, symbol: &Symbol<'a>) -> Result<(), PolicyFault>
+        ensures { IsStepped result self.new (step_row env.now self.old at (seen symbol.now)) }
     {
         match *symbol {
             Symbol::Line => self.go(Place::Row),
@@ -45,19 +44,19 @@ impl<'a> Reader<'a> {
                 if is_keyword(word, b"Policy") {
                     self.go(Place::PolicyColon)
                 } else {
-                    self.begin_filter(at, word)
+                    self.begin_filter(env, at, word)
                 }
             }
             _ => Err(PolicyFault::Expected(at)),
         }
     }
 
-    fn step_system(&mut self, at: u32, symbol: &Symbol<'a>) -> Result<(), PolicyFault>
-        ensures { IsStepped result self.new (step_system self.old at (seen symbol.now)) }
+    fn step_system(&mut self, env: &Env, at: u32, symbol: &Symbol<'a>) -> Result<(), PolicyFault>
+        ensures { IsStepped result self.new (step_system env.now self.old at (seen symbol.now)) }
     {
         match *symbol {
             Symbol::Word(word) => {
-                if !is_keyword(word, emulation_word()) {
+                if !is_keyword(word, env.emulation.word()) {
                     return Err(PolicyFault::NotSupported(at, Unsupported::Emulation));
                 }
                 self.go(Place::HeaderEnd)
@@ -505,7 +504,7 @@ impl<'a> Reader<'a> {
     {
         match self.place {
             Place::Start => self.step_start(at, symbol),
-            Place::Row => self.step_row(at, symbol),
+            Place::Row => self.step_row(env, at, symbol),
             Place::PolicyColon => self.only(at, symbol.is_colon(), Place::Binary),
             Place::Binary => unreachable!(),
             Place::Comma => self.only(at, symbol.is_comma(), Place::Emulation),
@@ -513,7 +512,7 @@ impl<'a> Reader<'a> {
                 self.only(at, symbol.is_keyword(b"Emulation"), Place::EmulationColon)
             }
             Place::EmulationColon => self.only(at, symbol.is_colon(), Place::System),
-            Place::System => self.step_system(at, symbol),
+            Place::System => self.step_system(env, at, symbol),
             Place::NameColon => self.only(at, symbol.is_colon(), Place::Clause),
             Place::Clause => self.step_clause(alloc, env, at, symbol),
             Place::Operand => self.step_operand(alloc, at, symbol),
