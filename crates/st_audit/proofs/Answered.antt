@@ -11,6 +11,7 @@ use Rattle.st_calls.specs.declared.argument.ArgText.{ArgText}
 use Rattle.st_calls.specs.declared.call.SysCall.{SysCall}
 use Rattle.st_calls.specs.declared.judged.Snapshot.{Snapshot}
 use Rattle.st_calls.specs.declared.judged.Verdict.{Verdict}
+use Rattle.st_emulation.specs.declared.emulation.Emulation.{Emulation}
 use Rattle.st_filter.specs.Formula.{FilterValue}
 use Rattle.st_filter.specs.Judging.{verdict}
 use Rattle.st_model.specs.Tree.{is_number}
@@ -246,21 +247,21 @@ module _ (i : Input) (startable : IsStartable i) where
 
   -- ---- lines
 
-  module _ (h : History) where
+  module _ (emulation : Emulation) (h : History) where
     abbrev drawing_of : ℕ → ℕ
     drawing_of = (drawings_at h).drawing_of
 
     -- the line of an entry of numbers, and that of the entry of their drawings
     abbrev SameLine : Entry → Type 0
-    SameLine e = line_from_history i h e ≡ audit_line i (drawn_back h) (drawn_entry (drawings_at h) e)
+    SameLine e = line_from_history i h e emulation ≡ audit_line i (drawn_back h) (drawn_entry (drawings_at h) e) emulation
 
     used_fast : (u : ℕ) (call : SysCall) (regs : List ℕ) (args : List ArgText) (ids : Ids) (result : CallResult) (changes : List Change) → SameLine (Used u None call regs args ids result changes)
     used_fast u call regs args ids result changes =
-        λ k. call_line i (λ p. sym (same_row i h p) k) (sym (same_owner i h u) k) u call regs (ending_text [] (how_used None None ids) result false)
+        λ k. call_line i (λ p. sym (same_row i h p) k) (sym (same_owner i h u) k) u call regs (ending_text [] (how_used None None ids) result false emulation) emulation
 
     used_held : (u n : ℕ) (call : SysCall) (regs : List ℕ) (args : List ArgText) (ids : Ids) (result : CallResult) (changes : List Change) → by_entries h n ≡ by_law h (drawing_of n) → SameLine (Used u (Some n) call regs args ids result changes)
     used_held u n call regs args ids result changes e =
-        λ k. call_line i (λ p. sym (same_row i h p) k) (sym (same_owner i h u) k) u call regs (ending_text args (how_used (Some n) (e k) ids) result (is_logged (e k)))
+        λ k. call_line i (λ p. sym (same_row i h p) k) (sym (same_owner i h u) k) u call regs (ending_text args (how_used (Some n) (e k) ids) result (is_logged (e k)) emulation) emulation
 
     how_same : (seq : Option ℕ) (cause : Cause) → how_denied seq cause ≡ how_denied (option_map drawing_of seq) cause
     how_same None cause = refl
@@ -272,7 +273,7 @@ module _ (i : Input) (startable : IsStartable i) where
     denied_same : (u : ℕ) (seq : Option ℕ) (errno : Errno) (cause : Cause)
         → decided_on (by_entries h) (seq_of_decision seq cause) ≡ decided_on (by_law h) (seq_of_decision (option_map drawing_of seq) cause) → SameLine (Denied u seq errno cause)
     denied_same u seq errno cause e =
-        λ k. denied_line i (λ p. sym (same_row i h p) k) (sym (same_owner i h u) k) u (sym (same_entered i h u) k) (ending_text (parts_of (e k)) (how_same seq cause k) (Failed errno) (is_logged (e k)))
+        λ k. denied_line i (λ p. sym (same_row i h p) k) (sym (same_owner i h u) k) u (sym (same_entered i h u) k) (ending_text (parts_of (e k)) (how_same seq cause k) (Failed errno) (is_logged (e k)) emulation) emulation
 
     barred_same : (cause : Cause) → decided_on (by_entries h) (seq_of_decision None cause) ≡ decided_on (by_law h) (seq_of_decision None cause)
     barred_same (Filter n) = refl
@@ -310,11 +311,11 @@ module _ (i : Input) (startable : IsStartable i) where
       line_same (Learned n k) y = refl
       line_same (Reloaded u n done changes) y = refl
 
-  audit_back_same : (h : History) → IsLawfulBack i (drawn_back h) → text_from_history i h ≡ audit_back i (drawn_back h)
-  audit_back_same [] lawful = refl
-  audit_back_same (e ∷ h) lawful = λ k. audit_back_same h lawful.1 k ++ line_same h lawful.1 e lawful.0 k
+  audit_back_same : (emulation : Emulation) (h : History) → IsLawfulBack i (drawn_back h) → text_from_history i h emulation ≡ audit_back i (drawn_back h) emulation
+  audit_back_same emulation [] lawful = refl
+  audit_back_same emulation (e ∷ h) lawful = λ k. audit_back_same emulation h lawful.1 k ++ line_same emulation h lawful.1 e lawful.0 k
 
   -- what is recorded of a trace of numbers is the audit of its drawings
-  pub audit_same : (trace : List Entry) → Lawful i (drawn trace) → audit_from_history i trace ≡ audit_by_number i trace
-  audit_same trace lawful = let same : reverse (drawn trace) ≡ drawn_back (reverse trace) = reverse-reverse (drawn_back (reverse trace)) in
-      audit_back_same (reverse trace) (subst (IsLawfulBack i) same lawful) ∙ ap (audit_back i) (sym same)
+  pub audit_same : (emulation : Emulation) (trace : List Entry) → Lawful i (drawn trace) → audit_from_history i trace emulation ≡ audit_by_number i trace emulation
+  audit_same emulation trace lawful = let same : reverse (drawn trace) ≡ drawn_back (reverse trace) = reverse-reverse (drawn_back (reverse trace)) in
+      audit_back_same emulation (reverse trace) (subst (IsLawfulBack i) same lawful) ∙ ap (λ h. audit_back i h emulation) (sym same)

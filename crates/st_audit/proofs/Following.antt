@@ -6,6 +6,7 @@ use Rattle.st_base.specs.declared.ids.Ids.{Ids}
 use Rattle.st_calls.specs.declared.argument.ArgText.{ArgText}
 use Rattle.st_calls.specs.declared.call.SysCall.{SysCall}
 use Rattle.st_effects.specs.Changes.{owner_after}
+use Rattle.st_emulation.specs.declared.emulation.Emulation.{Emulation}
 use Rattle.st_filter.specs.Policies.{PoliciesValue}
 use Rattle.st_law.specs.declared.input.Input.{Input}
 use Rattle.st_law.specs.History.{session_at}
@@ -46,18 +47,18 @@ followed i old new e h f is = record {
 }
 
 -- an entry that prints adds nothing to the session
-printing_adds_nothing : (i : Input) (h : History) (e : Entry) (owners : ℕ → ℕ) (rows : ℕ → Row) (entered : ℕ → Option EnteredCall) (decided : List SessionFilter → ℕ → Option Decided)
-    → line_by i owners rows entered (decided (session_at i (drawn_back (e ∷ h)))) e ≡ line_by i owners rows entered (decided (session_at i (drawn_back h))) e
-printing_adds_nothing i h (Learned n k) owners rows entered decided = refl
-printing_adds_nothing i h (Replied n reply k) owners rows entered decided = refl
-printing_adds_nothing i h _ owners rows entered decided = refl
+printing_adds_nothing : (i : Input) (emulation : Emulation) (h : History) (e : Entry) (owners : ℕ → ℕ) (rows : ℕ → Row) (entered : ℕ → Option EnteredCall) (decided : List SessionFilter → ℕ → Option Decided)
+    → line_by i owners rows entered (decided (session_at i (drawn_back (e ∷ h)))) e emulation ≡ line_by i owners rows entered (decided (session_at i (drawn_back h))) e emulation
+printing_adds_nothing i emulation h (Learned n k) owners rows entered decided = refl
+printing_adds_nothing i emulation h (Replied n reply k) owners rows entered decided = refl
+printing_adds_nothing i emulation h _ owners rows entered decided = refl
 
 -- what an entry prints by the policies of the run, by the session after the entry and by a ledger is what it prints by the entries before it
-pub line_printed : (i : Input) (policies : PoliciesValue) (session : List SessionFilter) (ledger : Ledger) (h : History) (e : Entry) → policies ≡ i.policies → session ≡ session_at i (drawn_back (e ∷ h)) → IsLedger i ledger h
-    → kept_line i policies session ledger e ≡ line_from_history i h e
-line_printed i policies session ledger h e read same is =
-    (λ k. line_by i (λ t. is.owners t k) (λ p. is.rows p k) (λ t. is.entered t k) (λ n. decided_from_history (read k) (same k) (is.answers n k)) e)
-    ∙ printing_adds_nothing i h e (owner_at i h) (row_at i h) (entered_at i h) (λ session n. decided_from_history i.policies session (applied_answer h n))
+pub line_printed : (i : Input) (emulation : Emulation) (policies : PoliciesValue) (session : List SessionFilter) (ledger : Ledger) (h : History) (e : Entry) → policies ≡ i.policies → session ≡ session_at i (drawn_back (e ∷ h)) → IsLedger i ledger h
+    → kept_line i policies session ledger e emulation ≡ line_from_history i h e emulation
+line_printed i emulation policies session ledger h e read same is =
+    (λ k. line_by i (λ t. is.owners t k) (λ p. is.rows p k) (λ t. is.entered t k) (λ n. decided_from_history (read k) (same k) (is.answers n k)) e emulation)
+    ∙ printing_adds_nothing i emulation h e (owner_at i h) (row_at i h) (entered_at i h) (λ session n. decided_from_history i.policies session (applied_answer h n))
 
 -- the thread and the changes of an entry that has some
 pub made_by : (e : Entry) (t : ℕ) (changes : List Change)
@@ -94,9 +95,9 @@ module _ (i : Input) (ledger : Ledger) where
   kept_still h (Denied t seq errno cause) none is = cc
   kept_still h (Reloaded t n done changes) none is = cc
 
-module _ (i : Input) (policies : PoliciesValue) (session : List SessionFilter) (ledger : Ledger) where
+module _ (i : Input) (emulation : Emulation) (policies : PoliciesValue) (session : List SessionFilter) (ledger : Ledger) where
   -- a step in between prints nothing
-  prints_nothing : (e : Entry) → concerns_call e ≡ false → kept_line i policies session ledger e ≡ []
+  prints_nothing : (e : Entry) → concerns_call e ≡ false → kept_line i policies session ledger e emulation ≡ []
   prints_nothing (Stored t place word) none = refl
   prints_nothing (Claimed w q) none = refl
   prints_nothing (Copied q part place word) none = refl
@@ -111,7 +112,7 @@ module _ (i : Input) (policies : PoliciesValue) (session : List SessionFilter) (
   prints_nothing (Denied t seq errno cause) none = cc
   prints_nothing (Reloaded t n done changes) none = cc
 
-  pub printed_still : (e : Entry) (text : List ℕ) → concerns_call e ≡ false → text ≡ text ++ kept_line i policies session ledger e
+  pub printed_still : (e : Entry) (text : List ℕ) → concerns_call e ≡ false → text ≡ text ++ kept_line i policies session ledger e emulation
   printed_still e text none = sym (append-nil text) ∙ ap (λ line. text ++ line) (sym (prints_nothing e none))
 
 -- ---- one more entry
@@ -126,22 +127,22 @@ module _ (i : Input) (trace : List Entry) (e : Entry) where
   pub kept_more : (old new : Ledger) → IsLedger i old (reverse trace) → ((h : History) → IsLedger i old h → IsLedger i new (e ∷ h)) → IsLedger i new (reverse (trace ++ e ∷ []))
   kept_more old new kept noted = subst (IsLedger i new) (sym newest_first) (noted (reverse trace) kept)
 
-  pub audit_more : (policies : PoliciesValue) (session : List SessionFilter) (ledger : Ledger) (text new : List ℕ) → policies ≡ i.policies → session ≡ session_at i (reverse (drawn (trace ++ e ∷ []))) → text ≡ audit_from_history i trace
-      → IsLedger i ledger (reverse trace) → new ≡ text ++ kept_line i policies session ledger e → new ≡ audit_from_history i (trace ++ e ∷ [])
-  audit_more policies session ledger text new read same written kept more =
-      more ∙ ap (λ line. text ++ line) (line_printed i policies session ledger (reverse trace) e read (same ∙ ap (session_at i) newest_drawn) kept)
-      ∙ ap (λ front. front ++ line_from_history i (reverse trace) e) written ∙ sym (ap (text_from_history i) newest_first)
+  pub audit_more : (emulation : Emulation) (policies : PoliciesValue) (session : List SessionFilter) (ledger : Ledger) (text new : List ℕ) → policies ≡ i.policies → session ≡ session_at i (reverse (drawn (trace ++ e ∷ []))) → text ≡ audit_from_history i trace emulation
+      → IsLedger i ledger (reverse trace) → new ≡ text ++ kept_line i policies session ledger e emulation → new ≡ audit_from_history i (trace ++ e ∷ []) emulation
+  audit_more emulation policies session ledger text new read same written kept more =
+      more ∙ ap (λ line. text ++ line) (line_printed i emulation policies session ledger (reverse trace) e read (same ∙ ap (session_at i) newest_drawn) kept)
+      ∙ ap (λ front. front ++ line_from_history i (reverse trace) e emulation) written ∙ sym (ap (λ h. text_from_history i h emulation) newest_first)
 
 -- what a call that was made prints, by what is known of it
-pub used_line : (i : Input) (policies : PoliciesValue) (session : List SessionFilter) (ledger : Ledger) (e : Entry) (t : ℕ) (seq : Option ℕ) (call : SysCall) (regs : List ℕ) (args : List ArgText) (ids : Ids) (result : CallResult) (changes : List Change)
+pub used_line : (emulation : Emulation) (i : Input) (policies : PoliciesValue) (session : List SessionFilter) (ledger : Ledger) (e : Entry) (t : ℕ) (seq : Option ℕ) (call : SysCall) (regs : List ℕ) (args : List ArgText) (ids : Ids) (result : CallResult) (changes : List Change)
     (text new : List ℕ) (slice printed : List ArgText) (how : How) (log : Bool) (decided : Option Decided)
     → e ≡ Used t seq call regs args ids result changes
     → decided ≡ decided_on (λ n. decided_from_history policies session (recorded_answer ledger.answers n)) seq
     → slice ≡ args → printed ≡ args_used seq slice → how ≡ how_used seq decided ids → log ≡ is_logged decided
-    → new ≡ text ++ call_line i (row_in i ledger.rows) (owner_in i ledger.owners t) t call regs (ending_text printed how result log)
-    → new ≡ text ++ kept_line i policies session ledger e
-used_line i policies session ledger e t seq call regs args ids result changes text new slice printed how log decided is same all those went marked last =
+    → new ≡ text ++ call_line i (row_in i ledger.rows) (owner_in i ledger.owners t) t call regs (ending_text printed how result log emulation) emulation
+    → new ≡ text ++ kept_line i policies session ledger e emulation
+used_line emulation i policies session ledger e t seq call regs args ids result changes text new slice printed how log decided is same all those went marked last =
     last
     ∙ (λ k. text ++ call_line i (row_in i ledger.rows) (owner_in i ledger.owners t) t call regs
-    (ending_text ((those ∙ ap (args_used seq) all) k) ((went ∙ ap (λ d. how_used seq d ids) same) k) result ((marked ∙ ap is_logged same) k)))
-    ∙ sym (ap (λ each. text ++ kept_line i policies session ledger each) is)
+    (ending_text ((those ∙ ap (args_used seq) all) k) ((went ∙ ap (λ d. how_used seq d ids) same) k) result ((marked ∙ ap is_logged same) k) emulation) emulation)
+    ∙ sym (ap (λ each. text ++ kept_line i policies session ledger each emulation) is)

@@ -6,6 +6,7 @@ pub mod Growth
 pub mod LastAnswer
 pub mod LastDrawing
 mod NumberedRows
+pub mod Printing
 mod ReloadRows
 pub mod Rows
 mod Summarized

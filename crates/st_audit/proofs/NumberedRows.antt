@@ -9,6 +9,7 @@ use Rattle.st_calls.specs.declared.call.SysCall.TheVariants.{Open, SetUid}
 use Rattle.st_calls.specs.declared.judged.Verdict.{Verdict}
 use Rattle.st_calls.specs.declared.judged.Verdict.TheVariants.{Permit, Unmatched}
 use Rattle.st_calls.specs.declared.rule.Rule.TheVariants as Rule
+use Rattle.st_emulation.specs.declared.emulation.Emulation.TheVariants.{Native}
 use Rattle.st_filter.specs.declared.filter.Cmp.TheVariants as cmp
 use Rattle.st_filter.specs.declared.filter.Who.TheVariants as who
 use Rattle.st_trace.specs.declared.entry.CallResult.TheVariants.{Value}
@@ -48,11 +49,11 @@ number_1_comes_again : (drawings_at (reverse (played reader))).drawing_of 1 ≡ 
 unfolding digits
 number_1_comes_again = refl
 
-each_call_is_decided_for_itself : audit_from_history reader (played reader) ≡ reader_lines
+each_call_is_decided_for_itself : audit_from_history reader (played reader) Native ≡ reader_lines
 unfolding digits
 each_call_is_decided_for_itself = refl
 
-so_says_the_law : audit_by_number reader (played reader) ≡ reader_lines
+so_says_the_law : audit_by_number reader (played reader) Native ≡ reader_lines
 unfolding digits
 so_says_the_law = refl
 
@@ -63,7 +64,7 @@ learner = asking_input Learn etc_files (thread_in 1 (opens "/etc/passwd" ++ open
 abbrev learner_lines : List ℕ
 learner_lines = codes "1.1 \"/bin/cat\" native-fsread filename=\"/etc/passwd\" permit#1 = 3\n1.1 \"/bin/cat\" native-fsread filename=\"/etc/spwd\" permit#2 = EACCES\n"
 
-each_question_is_learnt : audit_from_history learner (played learner) ≡ learner_lines
+each_question_is_learnt : audit_from_history learner (played learner) Native ≡ learner_lines
 unfolding digits
 each_question_is_learnt = refl
 
@@ -84,11 +85,11 @@ number_1_is_that_of_the_third : (drawings_at (reverse renewed_twice)).drawing_of
 unfolding digits
 number_1_is_that_of_the_third = refl
 
-the_last_answer_decides : audit_from_history setter renewed_twice ≡ setter_lines
+the_last_answer_decides : audit_from_history setter renewed_twice Native ≡ setter_lines
 unfolding digits
 the_last_answer_decides = refl
 
-so_says_the_law_of_renewals : audit_by_number setter renewed_twice ≡ setter_lines
+so_says_the_law_of_renewals : audit_by_number setter renewed_twice Native ≡ setter_lines
 unfolding digits
 so_says_the_law_of_renewals = refl
 
@@ -117,38 +118,38 @@ sets_ids renewed = Used 3 None SetUid (regs 0 0 0) (arg Uid 0 "0" ∷ []) user (
 abbrev permitted : List Entry
 permitted = enters 1 1 ∷ Claimed 1 1 ∷ answers 1 1 "/etc/passwd" (Permit 1 user) true ∷ []
 
-as_it_was_permitted : audit_from_history opener (permitted ++ used 1 1 "/etc/passwd" ∷ []) ≡ codes "1.1 \"/bin/cat\" native-fsread filename=\"/etc/passwd\" permit#1 = 3\n"
+as_it_was_permitted : audit_from_history opener (permitted ++ used 1 1 "/etc/passwd" ∷ []) Native ≡ codes "1.1 \"/bin/cat\" native-fsread filename=\"/etc/passwd\" permit#1 = 3\n"
 unfolding digits
 as_it_was_permitted = refl
 
 -- a call draws number 1 again
-drawn_again_and_made : audit_from_history opener (permitted ++ enters 2 1 ∷ used 2 1 "/etc/spwd" ∷ []) ≡ codes "1.2 \"/bin/cat\" native-fsread filename=\"/etc/spwd\" permit#0 = 3\n"
+drawn_again_and_made : audit_from_history opener (permitted ++ enters 2 1 ∷ used 2 1 "/etc/spwd" ∷ []) Native ≡ codes "1.2 \"/bin/cat\" native-fsread filename=\"/etc/spwd\" permit#0 = 3\n"
 unfolding digits
 drawn_again_and_made = refl
 
-drawn_again_and_denied : audit_from_history opener (permitted ++ enters 2 1 ∷ denied 2 1 ∷ []) ≡ codes "1.2 \"/bin/cat\" native-fsread nofilter = EPERM\n"
+drawn_again_and_denied : audit_from_history opener (permitted ++ enters 2 1 ∷ denied 2 1 ∷ []) Native ≡ codes "1.2 \"/bin/cat\" native-fsread nofilter = EPERM\n"
 unfolding digits
 drawn_again_and_denied = refl
 
 -- another number is drawn
-another_is_drawn : audit_from_history opener (permitted ++ enters 2 2 ∷ used 1 1 "/etc/passwd" ∷ []) ≡ codes "1.1 \"/bin/cat\" native-fsread filename=\"/etc/passwd\" permit#1 = 3\n"
+another_is_drawn : audit_from_history opener (permitted ++ enters 2 2 ∷ used 1 1 "/etc/passwd" ∷ []) Native ≡ codes "1.1 \"/bin/cat\" native-fsread filename=\"/etc/passwd\" permit#1 = 3\n"
 unfolding digits
 another_is_drawn = refl
 
 -- a renewal draws number 1 again
-renewed_and_denied : audit_from_history opener (enters 2 2 ∷ permitted ++ sets_ids (Renewed 2 1 ∷ []) ∷ denied 2 1 ∷ []) ≡
+renewed_and_denied : audit_from_history opener (enters 2 2 ∷ permitted ++ sets_ids (Renewed 2 1 ∷ []) ∷ denied 2 1 ∷ []) Native ≡
     codes "1.3 \"/bin/cat\" native-setuid fast = 0\n1.2 \"/bin/cat\" native-fsread nofilter = EPERM\n"
 unfolding digits
 renewed_and_denied = refl
 
 -- a reload draws number 1 again
-reloaded_and_denied : audit_from_history opener (enters 2 2 ∷ permitted ++ Reloaded 3 1 true (Renewed 2 1 ∷ []) ∷ denied 2 1 ∷ []) ≡ codes "1.2 \"/bin/cat\" native-fsread nofilter = EPERM\n"
+reloaded_and_denied : audit_from_history opener (enters 2 2 ∷ permitted ++ Reloaded 3 1 true (Renewed 2 1 ∷ []) ∷ denied 2 1 ∷ []) Native ≡ codes "1.2 \"/bin/cat\" native-fsread nofilter = EPERM\n"
 unfolding digits
 reloaded_and_denied = refl
 
 -- the answer of the other worker comes once number 1 means another call
 a_late_answer : audit_from_history opener (
-    enters 1 1 ∷ Claimed 1 1 ∷ sets_ids (Renewed 1 2 ∷ []) ∷ enters 2 1 ∷ Claimed 2 1 ∷ answers 2 1 "/etc/spwd" Unmatched true ∷ answers 1 1 "/etc/passwd" (Permit 1 user) false ∷ denied 2 1 ∷ []) ≡
+    enters 1 1 ∷ Claimed 1 1 ∷ sets_ids (Renewed 1 2 ∷ []) ∷ enters 2 1 ∷ Claimed 2 1 ∷ answers 2 1 "/etc/spwd" Unmatched true ∷ answers 1 1 "/etc/passwd" (Permit 1 user) false ∷ denied 2 1 ∷ []) Native ≡
     codes "1.3 \"/bin/cat\" native-setuid fast = 0\n1.2 \"/bin/cat\" native-fsread filename=\"/etc/spwd\" nofilter = EPERM\n"
 unfolding digits
 a_late_answer = refl

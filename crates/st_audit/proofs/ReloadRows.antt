@@ -6,6 +6,7 @@ use Rattle.st_base.specs.declared.errno.Errno.TheVariants.{EACCES, ENOENT, EPERM
 use Rattle.st_calls.specs.declared.call.SysCall.TheVariants.{Close, GetUid}
 use Rattle.st_calls.specs.declared.rule.Rule.TheVariants as Rule
 use Rattle.st_calls.specs.declared.rule.Rule.TheVariants.{FsRead}
+use Rattle.st_emulation.specs.declared.emulation.Emulation.TheVariants.{Native}
 use Rattle.st_filter.specs.declared.set.BinaryPolicy.{BinaryPolicy}
 use Rattle.st_trace.specs.declared.entry.Entry.{Entry}
 use Rattle.st_trace.specs.declared.start.Instr.{Instr}
@@ -98,7 +99,7 @@ numbered_after_those_in_force = refl
 
 abbrev policies_of : Input → Option (List Entry) → List ℕ
 policies_of i None = []
-policies_of i (Some entries) = policy_text i entries
+policies_of i (Some entries) = policy_text i entries Native
 
 abbrev printed_policies : Input → List ScheduleLine → List ℕ
 printed_policies i lines = policies_of i (trace i lines)

@@ -6,6 +6,8 @@ use Rattle.st_base.specs.declared.errno.Errno.TheVariants.{ENOENT, EACCES}
 use Rattle.st_calls.specs.declared.call.SysCall.TheVariants.{Execve, Fork, GetPid, Open, Rename}
 use Rattle.st_calls.specs.declared.rule.Rule.TheVariants as Rule
 use Rattle.st_calls.specs.declared.rule.Rule.TheVariants.{FsRead}
+use Rattle.st_emulation.specs.declared.emulation.Emulation.{Emulation}
+use Rattle.st_emulation.specs.declared.emulation.Emulation.TheVariants.{Native, Linux}
 use Rattle.st_filter.specs.Formula.{FilterValue}
 use Rattle.st_filter.specs.declared.filter.Action.TheVariants as action
 use Rattle.st_filter.specs.declared.filter.Op.TheVariants as op
@@ -24,12 +26,12 @@ use Rattle.st_law.proofs.Writing.{call, denies, dir, file, forked_thread, granti
 use Rattle.st_audit.specs.AuditText.{audit}
 
 -- the audit of what a schedule plays
-abbrev audit_of : Input → Option (List Entry) → List ℕ
-audit_of i None = []
-audit_of i (Some entries) = audit i entries
+abbrev audit_of : Input → Option (List Entry) → Emulation → List ℕ
+audit_of i None emulation = []
+audit_of i (Some entries) emulation = audit i entries emulation
 
 abbrev pub audited : Input → List ScheduleLine → List ℕ
-audited i lines = audit_of i (trace i lines)
+audited i lines = audit_of i (trace i lines) Native
 
 -- ---- calls that the kernel answers by itself
 
@@ -190,3 +192,16 @@ two_names : audited (cat_input (logged (permits (Rule.Call Rename)) ∷ []) etc_
     codes "1.1 \"/bin/cat\" native-rename filename=\"/a\" filename[1]=\"/b\\\"\" permit#1 = ENOENT log\n"
 unfolding digits
 two_names = refl
+
+-- ---- Linux
+
+-- an error is its number there, after a sign
+a_link_under_linux : audit_of linker (trace linker (thread 1 2 ∷ worker 1 5 ∷ thread 2 7 ∷ rest ∷ [])) Linux ≡
+    codes "1.1 \"/bin/cat\" linux-fsread filename=\"/tmp/f\" link \"/tmp/f\" = -40\n"
+unfolding digits
+a_link_under_linux = refl
+
+-- an error that has the same number there, and a value
+errors_and_values_under_linux : audit_of barred (trace barred (rest ∷ [])) Linux ≡ codes "1.1 \"/bin/a\" linux-getuid barred#1 = -1\n1.1 \"/bin/a\" linux-exit fast = 0\n"
+unfolding digits
+errors_and_values_under_linux = refl

@@ -6,6 +6,7 @@ use Rattle.st_base.specs.Numbered.{item_at_number}
 use Rattle.st_calls.specs.declared.judged.Snapshot.{Snapshot}
 use Rattle.st_calls.specs.declared.judged.Verdict.{Verdict}
 use Rattle.st_calls.specs.declared.judged.Verdict.TheVariants.{Permit, Refuse, Unmatched}
+use Rattle.st_emulation.specs.declared.emulation.Emulation.{Emulation}
 use Rattle.st_filter.specs.Formula.{FilterValue}
 use Rattle.st_filter.specs.Judging.{verdict_from}
 use Rattle.st_filter.specs.Policies.{PoliciesValue, filters_in_force}
@@ -102,15 +103,15 @@ abbrev pub decided_from_history : PoliciesValue → List SessionFilter → Optio
 decided_from_history policies session answer = option_map (λ a. decided_after policies session a.snapshot a.verdict) answer
 
 -- what an entry prints, by what the entries before it record under the numbers of messages, and by the session after their drawings
-abbrev pub line_from_history : Input → History → Entry → List ℕ
-line_from_history i h e =
-    line_by i (owner_at i h) (row_at i h) (entered_at i h) (λ n. decided_from_history i.policies (session_at i (drawn_back h)) (applied_answer h n)) e
+abbrev pub line_from_history : Input → History → Entry → Emulation → List ℕ
+line_from_history i h e emulation =
+    line_by i (owner_at i h) (row_at i h) (entered_at i h) (λ n. decided_from_history i.policies (session_at i (drawn_back h)) (applied_answer h n)) e emulation
 
 -- the audit of a history of numbers, by what its entries record and by the session at each
-abbrev pub text_from_history : Input → History → List ℕ
-text_from_history i [] = []
-text_from_history i (e ∷ h) = text_from_history i h ++ line_from_history i h e
+abbrev pub text_from_history : Input → History → Emulation → List ℕ
+text_from_history i [] emulation = []
+text_from_history i (e ∷ h) emulation = text_from_history i h emulation ++ line_from_history i h e emulation
 
 -- the audit of a trace of numbers, by what its entries record and by the session at each
-abbrev pub audit_from_history : Input → List Entry → List ℕ
-audit_from_history i trace = text_from_history i (reverse trace)
+abbrev pub audit_from_history : Input → List Entry → Emulation → List ℕ
+audit_from_history i trace emulation = text_from_history i (reverse trace) emulation

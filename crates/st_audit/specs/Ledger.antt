@@ -2,6 +2,7 @@
 use Rattle.std.specs.Prelude.{◌≡◌, ℕ, ◌==◌, if◌then◌else◌, List, Option, Some, None}
 use Rattle.std.specs.BTreeMap.{BTreeMap, get}
 use Rattle.std.specs.Ordering.{nat_cmp}
+use Rattle.st_emulation.specs.declared.emulation.Emulation.{Emulation}
 use Rattle.st_filter.specs.Policies.{PoliciesValue}
 use Rattle.st_trace.specs.declared.entry.Entry.{Entry}
 use Rattle.st_trace.specs.declared.entry.Entry.TheVariants.{Entered, Used, Denied}
@@ -61,7 +62,7 @@ pub record IsLedger (i : Input) (ledger : Ledger) (h : History) : Type 0 where
   pub answers : (n : ℕ) → recorded_answer ledger.answers n ≡ applied_answer h n
 
 -- what an entry prints, by the policies of a run, by a session and by a ledger
-abbrev pub kept_line : Input → PoliciesValue → List SessionFilter → Ledger → Entry → List ℕ
-kept_line i policies session ledger e =
+abbrev pub kept_line : Input → PoliciesValue → List SessionFilter → Ledger → Entry → Emulation → List ℕ
+kept_line i policies session ledger e emulation =
     line_by i (owner_in i ledger.owners) (row_in i ledger.rows) (entered_in ledger.entered)
-    (λ n. decided_from_history policies session (recorded_answer ledger.answers n)) e
+    (λ n. decided_from_history policies session (recorded_answer ledger.answers n)) e emulation

@@ -1,5 +1,6 @@
 pub mod AuditText
 pub mod How
+pub mod LearntText
 pub mod Ledger
 pub mod PolicyText
 pub mod Recording

@@ -7,7 +7,7 @@ ghost use Rattle.st_trace.specs.declared.entry.Entry.{Entry};
 ghost use Rattle.st_audit.specs.AuditText.{GrowsWithTheRun, audit, audit_by_number, call_line, ending_text};
 ghost use Rattle.st_audit.specs.How.{args_used, is_logged, parts_of, seq_of_decision};
 ghost use Rattle.st_audit.specs.Ledger.{kept_line, owner_in, row_in};
-ghost use Rattle.st_audit.specs.Recording.{IsAuditOf};
+ghost use Rattle.st_audit.specs.Recording.{IsAuditOf, emulation_by};
 ghost use Rattle.st_audit.specs.FromHistory.{audit_from_history};
 
 use crate::concern::concerns_call;
@@ -20,6 +20,7 @@ use crate::process::{owner_of, row_of};
 use st_base::{Seq, Text, Tid};
 use st_calls::{ArgText, Rule};
 use st_compile::Compiled;
+use st_emulation::Emulation;
 use st_law::Input;
 use st_learn::Session;
 use st_report::Recorder;
@@ -66,19 +67,26 @@ fn seq_printed(seq: Option<Seq>, cause: &Cause) -> Option<Seq>
     }
 }
 
+// What lines are printed by: the input of a run, what is kept of the run, and the emulation.
+#[derive(Clone, Copy)]
+struct PrintedBy<'a> {
+    input: &'a Input,
+    ledger: &'a Ledger,
+    emulation: Emulation,
+}
+
 // Appends the line of a thread's call, if the thread's process is traced.
 fn append_traced(
     text: &mut Text,
-    input: &Input,
-    ledger: &Ledger,
+    by: &PrintedBy<'_>,
     tid: Tid,
     entered: EnteredCall,
     ending: &Ending<'_>,
 ) -> Result<(), AllocError>
-    ensures { OnOk result (text.new ≡ text.old ++ call_line input.now (row_in input.now ledger.now.rows) (owner_in input.now ledger.now.owners tid) tid entered.call entered.regs (ending_text ending.now.args.now ending.now.how ending.now.outcome ending.now.log)) }
+    ensures { OnOk result (text.new ≡ text.old ++ call_line by.now.input.now (row_in by.now.input.now by.now.ledger.now.rows) (owner_in by.now.input.now by.now.ledger.now.owners tid) tid entered.call entered.regs (ending_text ending.now.args.now ending.now.how ending.now.outcome ending.now.log by.now.emulation) by.now.emulation) }
 {
-    let pid = owner_of(input, &ledger.owners, tid);
-    let row = row_of(input, &ledger.rows, pid);
+    let pid = owner_of(by.input, &by.ledger.owners, tid);
+    let row = row_of(by.input, &by.ledger.rows, pid);
     if !row.is_traced() {
         return Ok(());
     }
@@ -86,21 +94,20 @@ fn append_traced(
         pid,
         tid,
         policy: row.policy(),
-        rule: Rule::of(entered.call, &entered.regs, input.options.aliasing),
+        rule: Rule::of(entered.call, &entered.regs, by.input.options.aliasing),
     };
-    append_call_line(text, &caller, ending)
+    append_call_line(text, &caller, ending, by.emulation)
 }
 
 // Appends what an entry prints.
 fn append_line(
     alloc: Global,
     text: &mut Text,
-    input: &Input,
+    by: &PrintedBy<'_>,
     filters: &RunFilters<'_, '_, '_>,
-    ledger: &Ledger,
     entry: &Entry,
 ) -> Result<(), AllocError>
-    ensures { OnOk result (text.new ≡ text.old ++ kept_line input.now filters.now.policies.now filters.now.session.now.filters ledger.now entry.now) }
+    ensures { OnOk result (text.new ≡ text.old ++ kept_line by.now.input.now filters.now.policies.now filters.now.session.now.filters by.now.ledger.now entry.now by.now.emulation) }
 {
     match entry {
         Entry::Used {
@@ -113,7 +120,7 @@ fn append_line(
             result: outcome,
             ..
         } => {
-            let decided = ledger.decided(filters, *seq);
+            let decided = by.ledger.decided(filters, *seq);
             let ending = Ending {
                 args: args_used(*seq, args.as_slice()),
                 how: How::used(*seq, &decided, *ids),
@@ -124,23 +131,23 @@ fn append_line(
                 call: *call,
                 regs: *regs,
             };
-            append_traced(text, input, ledger, *tid, called, &ending)
+            append_traced(text, by, *tid, called, &ending)
         }
         Entry::Denied {
             tid,
             seq,
             errno,
             cause,
-        } => match ledger.entered.get(tid) {
+        } => match by.ledger.entered.get(tid) {
             Some(called) => {
-                let decided = ledger.decided(filters, seq_printed(*seq, cause));
+                let decided = by.ledger.decided(filters, seq_printed(*seq, cause));
                 let ending = Ending {
                     args: parts_of(&decided),
                     how: How::denied(alloc, *seq, cause)?,
                     outcome: CallResult::Failed(*errno),
                     log: is_logged(&decided),
                 };
-                append_traced(text, input, ledger, *tid, *called, &ending)
+                append_traced(text, by, *tid, *called, &ending)
             }
             None => Ok(()),
         },
@@ -148,19 +155,30 @@ fn append_line(
     }
 }
 
+// The emulation of Linux, or the native one.
+fn emulation_by(linux: bool) -> Emulation
+    ensures { result ≡ emulation_by linux }
+{
+    if linux {
+        Emulation::Linux
+    } else {
+        Emulation::Native
+    }
+}
+
 /// Records the audit of a run: a line for each call that a traced process made or was denied. Each such call adds one line to the
-/// text.
+/// text. The audit is by the names and the numbers of Linux if `LINUX` is true.
 #[derive(Drop)]
-pub struct AuditRecorder {
+pub struct AuditRecorder<const LINUX: bool> {
     // What is kept of the entries that were recorded.
     ledger: Ledger,
     text: Text,
 }
 
-impl AuditRecorder {
+impl<const LINUX: bool> AuditRecorder<LINUX> {
     /// The audit of no entries, which takes no memory.
     pub fn new(alloc: Global) -> Self
-        ensures { (i : Input) → IsAuditOf result i [] }
+        ensures { (i : Input) → IsAuditOf result i [] (emulation_by LINUX) }
     {
         AuditRecorder {
             ledger: Ledger::new(alloc),
@@ -170,15 +188,15 @@ impl AuditRecorder {
 
     /// The audit of the run whose entries were recorded: that of the drawings of their numbers.
     pub fn into_text(self) -> Text
-        ensures printed { (i : Input) (trace : List Entry) → IsAuditOf self i trace → result ≡ audit_from_history i trace }
-        ensures audit { (i : Input) (trace : List Entry) → IsAuditOf self i trace → IsStartable i → IsLawfulByNumber i trace → result ≡ audit_by_number i trace }
+        ensures printed { (i : Input) (trace : List Entry) → IsAuditOf self.entry i trace (emulation_by LINUX) → result ≡ audit_from_history i trace (emulation_by LINUX) }
+        ensures audit { (i : Input) (trace : List Entry) → IsAuditOf self.entry i trace (emulation_by LINUX) → IsStartable i → IsLawfulByNumber i trace → result ≡ audit_by_number i trace (emulation_by LINUX) }
     {
         self.text
     }
 }
 
-impl Recorder for AuditRecorder {
-    ghost has_noted = { IsAuditOf };
+impl<const LINUX: bool> Recorder for AuditRecorder<LINUX> {
+    ghost has_noted = { λ recorder i trace. IsAuditOf recorder i trace (emulation_by LINUX) };
 
     fn note(
         &mut self,
@@ -195,7 +213,12 @@ impl Recorder for AuditRecorder {
             policies: &*compiled,
             session: &*session,
         };
-        append_line(alloc, &mut self.text, input, &filters, &self.ledger, entry)?;
+        let by = PrintedBy {
+            input: &*input,
+            ledger: &self.ledger,
+            emulation: emulation_by(LINUX),
+        };
+        append_line(alloc, &mut self.text, &by, &filters, entry)?;
         self.ledger.note(alloc, input, entry)
     }
 }

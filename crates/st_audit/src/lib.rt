@@ -9,6 +9,7 @@ mod decided;
 mod entered;
 mod how;
 mod law;
+mod learnt;
 mod ledger;
 mod line;
 mod marks;
@@ -18,5 +19,6 @@ mod summary;
 
 pub use audit::{AuditRecorder, longer_runs_extend_the_audit};
 pub use law::{a_summary_counts_no_numbers, numbers_print_as_their_drawings};
+pub use learnt::print_learnt;
 pub use policies::policies_text;
 pub use summary::{Summary, SummaryRecorder};

@@ -1,6 +1,9 @@
 -- The tokens of a text below another one: its own tokens, moved by the other's bytes and lines.
 use Rattle.std.proofs.Common.{zero, suc, ◌≡◌, ℕ, ◌+◌, ◌-◌, List, [], ◌∷◌, ◌++◌, length, take, drop, map, Some, refl, ap, sym, ◌∙◌, arith}
 use Rattle.std.proofs.lemmas.List.{drop-drop}
+use Rattle.st_emulation.specs.Words.{word_of}
+use Rattle.st_emulation.specs.declared.emulation.Emulation.{Emulation}
+use Rattle.st_emulation.specs.declared.emulation.Emulation.TheVariants.{Native, Linux}
 use Rattle.st_grammar.proofs.Common.{shifted_fault, Lexed, lexed_text, LexFault, optional_fault_after, symbol_by, symbol_of, Token, TokenKind}
 use Rattle.st_lex.specs.declared.token.TokenKind.TheVariants.{Word, Colon, Comma, Line}
 use Rattle.st_lex.specs.declared.token.Front.{Front}
@@ -51,21 +54,23 @@ symbol-moved above text lines t =
 
 -- ---- below the header
 
-abbrev pub header_tokens : List Token
-header_tokens =
+abbrev pub header_tokens : Emulation → List Token
+header_tokens emulation =
     record { kind = Word; at = 0; len = 6; line = 1 }
     ∷ record { kind = Colon; at = 6; len = 1; line = 1 }
     ∷ record { kind = Word; at = 8; len = 2; line = 1 }
     ∷ record { kind = Comma; at = 10; len = 1; line = 1 }
     ∷ record { kind = Word; at = 12; len = 9; line = 1 }
     ∷ record { kind = Colon; at = 21; len = 1; line = 1 }
-    ∷ record { kind = Word; at = 23; len = 6; line = 1 }
-    ∷ record { kind = Line; at = 29; len = 1; line = 1 }
+    ∷ record { kind = Word; at = 23; len = length (word_of emulation); line = 1 }
+    ∷ record { kind = Line; at = 23 + length (word_of emulation); len = 1; line = 1 }
     ∷ []
 
-header-read : (text : List ℕ) → lexed_text (header ++ text) ≡ before header_tokens (tokens_from 0 30 2 text)
-header-read text = refl
+header-read : (emulation : Emulation) (text : List ℕ) → lexed_text (header emulation ++ text) ≡ before (header_tokens emulation) (tokens_from 0 (length (header emulation)) 2 text)
+header-read Native text = refl
+header-read Linux text = refl
 
 -- the tokens of the text follow the header's tokens
-pub below-header : (text : List ℕ) → lexed_text (header ++ text) ≡ before header_tokens (moved_text 30 1 (lexed_text text))
-below-header text = header-read text ∙ ap (before header_tokens) (from-moved 30 1 text 0 0 1 30 2 refl refl)
+pub below-header : (emulation : Emulation) (text : List ℕ) → lexed_text (header emulation ++ text) ≡ before (header_tokens emulation) (moved_text (length (header emulation)) 1 (lexed_text text))
+below-header Native text = header-read Native text ∙ ap (before (header_tokens Native)) (from-moved (length (header Native)) 1 text 0 0 1 (length (header Native)) 2 refl refl)
+below-header Linux text = header-read Linux text ∙ ap (before (header_tokens Linux)) (from-moved (length (header Linux)) 1 text 0 0 1 (length (header Linux)) 2 refl refl)

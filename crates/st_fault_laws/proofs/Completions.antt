@@ -13,7 +13,9 @@ use Rattle.st_grammar.specs.declared.place.Place.{Place}
 use Rattle.st_calls.specs.declared.rule.Rule.{Rule}
 use Rattle.st_calls.specs.declared.rule.Rule.TheVariants.{FsWrite}
 use Rattle.st_calls.specs.Argument.{has_label, has_argument}
-use Rattle.st_calls.specs.Emulation.{emulation_word}
+use Rattle.st_emulation.specs.Words.{word_of}
+use Rattle.st_reread.proofs.Headers.{emulation_is_word}
+use Rattle.st_grammar.proofs.Keywords.{same-bytes}
 use Rattle.st_lex.specs.declared.token.TokenKind.TheVariants as kind
 use Rattle.st_lex.specs.Tokens.{is_word_byte}
 use Rattle.st_filter.specs.declared.filter.FilterName.TheVariants as name
@@ -357,8 +359,10 @@ module _ (env : Env) (old : List BinaryPolicy) (rows : List Symbol) where
 
   ends-system : (front : List Symbol) (w : GrammarState) (set : List BinaryPolicy) → Facts env old rows front place.System w set → Ending env old (rows ++ front)
   ends-system front w set h =
-      let s : Symbol = Word emulation_word in
-      on front s (a-word emulation_word refl) (ends-header (front ++ s ∷ []) w set (line-keeps env old rows front w set 0 place.System s refl h))
+      let word : List ℕ = word_of env.emulation in
+      let s : Symbol = Word word in
+      let kept = line-keeps env old rows front w set 0 place.System s refl h in
+      on front s (a-word word (emulation_is_word env.emulation)) (ends-header (front ++ s ∷ []) w set (rw (same-bytes word) at kept))
 
   ends-emulation_colon : (front : List Symbol) (w : GrammarState) (set : List BinaryPolicy) → Facts env old rows front place.EmulationColon w set → Ending env old (rows ++ front)
   ends-emulation_colon front w set h = on front Colon a-colon (ends-system (front ++ Colon ∷ []) w set (line-keeps env old rows front w set 0 place.EmulationColon Colon refl h))

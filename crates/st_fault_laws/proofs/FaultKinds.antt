@@ -3,7 +3,7 @@ use Rattle.std.proofs.Common.{◌≡◌, ◌⊎◌, inl, inr, ℕ, ◌+◌, ◌�
 use Rattle.std.specs.Str.{bytes_eq}
 use Rattle.std.specs.List.{list_any}
 use Rattle.std.proofs.lemmas.Bool.{ltb-false, and_parts}
-use Rattle.st_calls.specs.Emulation.{emulation_word}
+use Rattle.st_emulation.specs.Words.{word_of}
 use Rattle.st_grammar.proofs.Common.{Action, acts, Ask, Asks, binaries, binary_of, BinaryPolicy, Close, Colon, Comma, comparison, completed, concluded, Denies, DeniesWith, Deny, EPERM, error_named, filter_name, FilterName, filters_in, found, fresh, GrammarState, grants, has_policy, id_in, index_in, is_action, is_close_bracket, is_colon_symbol, is_comma_symbol, is_word_symbol, is_label, is_line_symbol, IsAction, with_joint, joins_both, joins_either, lexed_text, Line, may_test, may_test_label, MOST_FILTERS, most_joins, names_for, only, op_named, Open, OpenBracket, Permit, Quoted, names_set_id_call, step, step_action, step_as, step_binary, step_denial, step_error, step_grant, step_id, step_indexed, step_joint, step_label, step_name, step_operand, step_operator, step_row, step_start, step_system, step_tail, step_text, step_user, StepResult, Symbol, Test, Token, True, unquoted, waits, Who, with_group, without_either, Word, word_index, word_who}
 use Rattle.st_grammar.specs.declared.fault.PolicyFault.TheVariants.{AskWithLearn, DuplicatePolicy, ElevateOnSetId, ElevateWithoutIds, Expected, NotSupported, TooMany, UnknownArgument, UnknownCall, UnknownError, UnknownUser}
 use Rattle.st_grammar.specs.declared.env.Env.{Env}
@@ -15,7 +15,7 @@ use Rattle.st_grammar.specs.declared.place.Place.TheVariants as place
 use Rattle.st_grammar.specs.Diagram.{expected, no_operator}
 use Rattle.st_grammar.specs.Expression.{Group, Negation}
 use Rattle.st_filter.specs.declared.filter.Op.TheVariants.{Eq}
-use Rattle.st_fault_laws.specs.FirstFault.{symbols_at, AreRead, TakesOperand, TakesOperator, TakesAction, TakesId, AfterPermit, Permitted, Logged, IsSpecial, NoCall, ManyFilters, Twice, NoNative, ManyOpening, ManyJoining, NoRe, Learns, NoError, NoIds, SetsIds, NoUser}
+use Rattle.st_fault_laws.specs.FirstFault.{symbols_at, AreRead, TakesOperand, TakesOperator, TakesAction, TakesId, AfterPermit, Permitted, Logged, IsSpecial, NoCall, ManyFilters, Twice, OtherEmulation, ManyOpening, ManyJoining, NoRe, Learns, NoError, NoIds, SetsIds, NoUser}
 use Rattle.st_grammar.specs.Grammar as grammar
 use Rattle.st_fault_laws.proofs.Completions.{MayEnd, closed, facts-operator, label-first, led}
 use Rattle.st_grammar.proofs.Fronts.{Facts, by-test, logged}
@@ -100,14 +100,14 @@ module _ (text : List ℕ) (env : Env) (old : List BinaryPolicy) (before followi
   row-read : (h : Facts env old rows front place.Row w set) → AreRead env old (symbols_at text before) (h.following.before ++ h.following.last ∷ [])
   row-read h = read-rows (h.following.before ++ h.following.last ∷ []) h.front_is (record { are_rows = h.following.are_rows; new = h.following.new; few = omega (arith, row-count h, h.few) })
 
-  judged-name : Facts env old rows front place.Row w set → (u : GrammarState) → u.filters ≡ w.filters → (word : List ℕ) → At place.Row (Word word) (step_name u at word)
-  judged-name h u f word = judged-found (filter_name word)
+  judged-name : Facts env old rows front place.Row w set → (u : GrammarState) → u.filters ≡ w.filters → (word : List ℕ) → At place.Row (Word word) (step_name env u at word)
+  judged-name h u f word = judged-found (filter_name word env.emulation)
       (λ name n. judged-if (nat_lt u.filters MOST_FILTERS) (λ e. Fits (fresh place.NameColon (u.filters + 1) name))
       (λ e. let full : MOST_FILTERS ≤ u.filters = ltb-false u.filters MOST_FILTERS e in
       special place.Row tt (Word word) (TooMany at) (ManyFilters h.following.before h.following.last word name (row-read h) n (omega (arith, full, row-count h, f, h.few)))))
       (λ n. special place.Row tt (Word word) (UnknownCall at) (NoCall h.following.before h.following.last word (row-read h) n))
 
-  judged-row : Facts env old rows front place.Row w set → (u : GrammarState) → u.filters ≡ w.filters → (s : Symbol) → At place.Row s (step_row u at s)
+  judged-row : Facts env old rows front place.Row w set → (u : GrammarState) → u.filters ≡ w.filters → (s : Symbol) → At place.Row s (step_row env u at s)
   judged-row h u f Line = Fits (record u { place = place.Row })
   judged-row h u f (Word word) = judged-if (bytes_eq word (codes "Policy")) (λ e. Fits (record u { place = place.PolicyColon })) (λ e. judged-name h u f word)
   judged-row h u f s = plain place.Row tt s
@@ -121,12 +121,12 @@ module _ (text : List ℕ) (env : Env) (old : List BinaryPolicy) (before followi
       (λ known. special place.Binary tt s (DuplicatePolicy at) (Twice rows h.policies s binary (is ∙ ap (λ (ts : List Symbol). rows ++ ts) h.front_is) a e (ap (λ (ps : List BinaryPolicy). has_policy ps binary) (sym h.set_is) ∙ sym (any-binaries binary set) ∙ known)))
       (λ new. Fits (record u { place = place.Comma }))) (λ e. plain place.Binary tt s)
 
-  judged-system : Facts env old rows front place.System w set → (u : GrammarState) (s : Symbol) → At place.System s (step_system u at s)
+  judged-system : Facts env old rows front place.System w set → (u : GrammarState) (s : Symbol) → At place.System s (step_system env u at s)
   judged-system h u (Word word) =
       let begun : List Symbol = Word (codes "Policy") ∷ Colon ∷ h.spelled ∷ [] in
       let more : List Symbol = Comma ∷ Word (codes "Emulation") ∷ Colon ∷ [] in
-      judged-if (bytes_eq word emulation_word) (λ e. Fits (record u { place = place.HeaderEnd }))
-      (λ e. special place.System tt (Word word) (NotSupported at unsupported.Emulation) (NoNative (rows ++ begun) word (is ∙ ap (λ (ts : List Symbol). rows ++ ts) h.front_is ∙ sym (append_assoc rows begun more))))
+      judged-if (bytes_eq word (word_of env.emulation)) (λ e. Fits (record u { place = place.HeaderEnd }))
+      (λ e. special place.System tt (Word word) (NotSupported at unsupported.Emulation) (OtherEmulation (rows ++ begun) word (is ∙ ap (λ (ts : List Symbol). rows ++ ts) h.front_is ∙ sym (append_assoc rows begun more))))
   judged-system h u s = plain place.System tt s
 
   -- ---- expressions

@@ -1,7 +1,9 @@
 -- The first fault of a filter alone is that of a policy in which the filter follows a header, unless the fault is after a filter's row.
 use Rattle.std.proofs.Common.{◌≡◌, ℕ, ◌+◌, ◌≢◌, Bool, true, false, List, [], ◌∷◌, ◌++◌, length, map, codes, Option, None, Some, Ok, Err, if◌then◌else◌, refl, ap, sym, subst, ◌∙◌, arith, append_assoc, append-nil, length-append}
 use Rattle.std.specs.Str.{bytes_eq}
-use Rattle.st_calls.specs.Emulation.{emulation_word}
+use Rattle.st_emulation.specs.Words.{word_of}
+use Rattle.st_emulation.specs.declared.emulation.Emulation.{Emulation}
+use Rattle.st_emulation.specs.declared.emulation.Emulation.TheVariants.{Native, Linux}
 use Rattle.st_grammar.proofs.Common.{add_filter, AreRows, as_reading, binaries, BinaryPolicy, Broken, Colon, Comma, shifted_fault, fault_in, fault_of, filter_in, filter_name, filter_of, FilterName, FilterResult, FilterValue, first_reading, fresh, GrammarState, Header, is_binary_place, is_line_symbol, IsFilter, Lexed, lexed_text, LexFault, lexical, Line, next, NoRow, optional_fault_after, or_refused, read_from, read_step, Reading, reading_step, step_name, step_to, StepResult, Symbol, symbol_of, Token, unless_lexical, Word}
 use Rattle.st_grammar.specs.declared.env.Env.{Env}
 use Rattle.st_grammar.specs.declared.fault.PolicyFault.TheVariants.{Expected, Lex, UnknownCall}
@@ -14,7 +16,7 @@ use Rattle.st_grammar.proofs.Clauses.{line-symbol}
 use Rattle.st_grammar.proofs.FilterRows.{passes-filter}
 use Rattle.st_grammar.proofs.Filters.{HasFilters}
 use Rattle.st_grammar.proofs.Fronts.{Facts, HasFacts}
-use Rattle.st_grammar.proofs.Keywords.{same-word}
+use Rattle.st_grammar.proofs.Keywords.{same-word, policy-no-name}
 use Rattle.st_grammar.proofs.Readings.{Placed, symbols, Read, read_over, reading_followed, Leads, At, stands}
 use Rattle.st_grammar.proofs.Kept.{line-keeps}
 use Rattle.st_grammar.proofs.OneFilters.{IsNamed, after-same, named-more, no-binary, spelled}
@@ -27,9 +29,10 @@ use Rattle.st_fault_laws.proofs.FirstFaults.{first-fault}
 use Rattle.st_fault_laws.proofs.MovedFaults.{SameWalk, Moved, Went, Stopped, next-moved, lexical-moved}
 
 -- `Policy` is no filter's name
-pub no-policy : (word : List ℕ) (name : FilterName) → filter_name word ≡ Some name → word ≢ codes "Policy"
-no-policy word name e p =
-    let none : filter_name (codes "Policy") ≡ Some name = ap filter_name (sym p) ∙ e in
+pub no-policy : (emulation : Emulation) (word : List ℕ) (name : FilterName) → filter_name word emulation ≡ Some name → word ≢ codes "Policy"
+no-policy emulation word name e p =
+    let some : filter_name (codes "Policy") emulation ≡ Some name = ap (λ (each : List ℕ). filter_name each emulation) (sym p) ∙ e in
+    let none : filter_name (codes "Policy") emulation ≡ None = policy-no-name emulation in
     cc
 
 -- ---- the fault that is found
@@ -174,14 +177,14 @@ module _ (env : Env) (text big : List ℕ) (n lines : ℕ) (long : length big �
   module _ (rows : List Symbol) where
     -- the fault that is found after a token, given the faults that are found after the next one
     abbrev Later : List Token → Type 0
-    Later ts = (front : List Symbol) (w : GrammarState) (r : Reading) (fault : PolicyFault) → IsNamed front → SameWalk n w r.walk → Facts env [] rows front r.walk.place r.walk r.set → filter_from env text (lexed_text text).fault w ts ≡ Err fault → Finds r front ts fault
+    Later ts = (front : List Symbol) (w : GrammarState) (r : Reading) (fault : PolicyFault) → IsNamed env front → SameWalk n w r.walk → Facts env [] rows front r.walk.place r.walk r.set → filter_from env text (lexed_text text).fault w ts ≡ Err fault → Finds r front ts fault
 
-    elsewhere : (front : List Symbol) (w : GrammarState) (r : Reading) → IsNamed front → SameWalk n w r.walk → Facts env [] rows front r.walk.place r.walk r.set → is_binary_place w.place ≡ false
+    elsewhere : (front : List Symbol) (w : GrammarState) (r : Reading) → IsNamed env front → SameWalk n w r.walk → Facts env [] rows front r.walk.place r.walk r.set → is_binary_place w.place ≡ false
     elsewhere front w r named same facts =
         let here : r.walk.place ≡ w.place = ap (λ (v : GrammarState). v.place) same.same in
         ap is_binary_place (sym here) ∙ no-binary env rows front r.walk r.set named r.walk.place facts
 
-    at-line : (front : List Symbol) (f : FilterValue) (r : Reading) (fault : PolicyFault) (t : Token) (ts : List Token) → IsNamed front → Facts env [] rows front r.walk.place r.walk r.set → is_line_symbol (symbol_of text t) ≡ true → (v : GrammarState) → next env (binaries r.set) r.walk (n + t.at) (symbol_of text t) ≡ Ok v →
+    at-line : (front : List Symbol) (f : FilterValue) (r : Reading) (fault : PolicyFault) (t : Token) (ts : List Token) → IsNamed env front → Facts env [] rows front r.walk.place r.walk r.set → is_line_symbol (symbol_of text t) ≡ true → (v : GrammarState) → next env (binaries r.set) r.walk (n + t.at) (symbol_of text t) ≡ Ok v →
         after_filter (lexed_text text).fault f ts ≡ Err fault → Finds r front (t ∷ ts) fault
     at-line front f r fault t ts named facts line v e is =
         let here : symbol_of text t ≡ Line = line-symbol (symbol_of text t) line in
@@ -200,7 +203,7 @@ module _ (env : Env) (text big : List ℕ) (n lines : ℕ) (long : length big �
           reported = reported.1;
         })
 
-    by-line : (front : List Symbol) (w' v : GrammarState) (r : Reading) (fault : PolicyFault) (t : Token) (ts : List Token) → Later ts → IsNamed front → Facts env [] rows front r.walk.place r.walk r.set → SameWalk n w' v → next env (binaries r.set) r.walk (n + t.at) (symbol_of text t) ≡ Ok v →
+    by-line : (front : List Symbol) (w' v : GrammarState) (r : Reading) (fault : PolicyFault) (t : Token) (ts : List Token) → Later ts → IsNamed env front → Facts env [] rows front r.walk.place r.walk r.set → SameWalk n w' v → next env (binaries r.set) r.walk (n + t.at) (symbol_of text t) ≡ Ok v →
         (b : Bool) → is_line_symbol (symbol_of text t) ≡ b → (if b then after_filter (lexed_text text).fault (filter_of w') ts else filter_from env text (lexed_text text).fault w' ts) ≡ Err fault → Finds r front (t ∷ ts) fault
     by-line front w' v r fault t ts later named facts same e true line is = at-line front (filter_of w') r fault t ts named facts line v e is
     by-line front w' v r fault t ts later named facts same e false line is =
@@ -209,7 +212,7 @@ module _ (env : Env) (text big : List ℕ) (n lines : ℕ) (long : length big �
         let more : Facts env [] rows (front ++ s ∷ []) v.place v r.set = subst (HasFacts env [] rows (front ++ s ∷ [])) goes (line-keeps env [] rows front r.walk r.set (n + t.at) r.walk.place s line facts) in
         token-goes r (as_reading v r.set) front t ts fault goes line (later (front ++ s ∷ []) w' (as_reading v r.set) fault (named-more front s named) same more is)
 
-    token-found : (front : List Symbol) (w : GrammarState) (r : Reading) (fault : PolicyFault) (t : Token) (ts : List Token) → Later ts → IsNamed front → Facts env [] rows front r.walk.place r.walk r.set → (x y : StepResult) → Moved n x y → next env (binaries r.set) r.walk (n + t.at) (symbol_of text t) ≡ y →
+    token-found : (front : List Symbol) (w : GrammarState) (r : Reading) (fault : PolicyFault) (t : Token) (ts : List Token) → Later ts → IsNamed env front → Facts env [] rows front r.walk.place r.walk r.set → (x y : StepResult) → Moved n x y → next env (binaries r.set) r.walk (n + t.at) (symbol_of text t) ≡ y →
         followed (λ w'. after_filter (lexed_text text).fault (filter_of w') ts) (λ w'. filter_from env text (lexed_text text).fault w' ts) (is_line_symbol (symbol_of text t)) x ≡ Err fault → Finds r front (t ∷ ts) fault
     token-found front w r fault t ts later named facts _ _ (Stopped found) e is =
         let same : found ≡ fault = cc in
@@ -227,12 +230,12 @@ module _ (env : Env) (text big : List ℕ) (n lines : ℕ) (long : length big �
 
 -- ---- the header
 
-abbrev header_row : List Symbol
-header_row = Word (codes "Policy") ∷ Colon ∷ Word (codes "/a") ∷ Comma ∷ Word (codes "Emulation") ∷ Colon ∷ Word emulation_word ∷ []
+abbrev header_row : Emulation → List Symbol
+header_row emulation = Word (codes "Policy") ∷ Colon ∷ Word (codes "/a") ∷ Comma ∷ Word (codes "Emulation") ∷ Colon ∷ Word (word_of emulation) ∷ []
 
 -- the header and its line
-abbrev pub header_rows : List Symbol
-header_rows = Word (codes "Policy") ∷ Colon ∷ Word (codes "/a") ∷ Comma ∷ Word (codes "Emulation") ∷ Colon ∷ Word emulation_word ∷ Line ∷ []
+abbrev pub header_rows : Emulation → List Symbol
+header_rows emulation = Word (codes "Policy") ∷ Colon ∷ Word (codes "/a") ∷ Comma ∷ Word (codes "Emulation") ∷ Colon ∷ Word (word_of emulation) ∷ Line ∷ []
 
 -- the policy of the header
 abbrev pub policy_above : List BinaryPolicy
@@ -242,11 +245,11 @@ policy_above = fresh_policy (codes "/a") ∷ []
 abbrev below_reading : Reading
 below_reading = as_reading (fresh place.Row 0 (name.Other [])) policy_above
 
-pub header-rows : (env : Env) → AreRows env header_rows policy_above
-header-rows env = Header [] header_row [] (codes "/a") NoRow (record { spelled = Word (codes "/a"); parts = refl; binary_is = refl })
+pub header-rows : (env : Env) → AreRows env (header_rows env.emulation) policy_above
+header-rows env = Header [] (header_row env.emulation) [] (codes "/a") NoRow (record { spelled = Word (codes "/a"); parts = refl; binary_is = refl })
 
 -- after the header a row may begin
-header-facts : (env : Env) → Facts env [] header_rows [] place.Row below_reading.walk policy_above
+header-facts : (env : Env) → Facts env [] (header_rows env.emulation) [] place.Row below_reading.walk policy_above
 header-facts env = record {
   front_is = refl;
   following = record {
@@ -260,8 +263,11 @@ header-facts env = record {
   few = omega arith;
 }
 
-header-read : (env : Env) (text : List ℕ) (broken : Option LexFault) (ts : List Token) → read_from env (header ++ text) broken (first_reading []) (header_tokens ++ ts) ≡ read_from env (header ++ text) broken below_reading ts
-header-read env text broken ts = refl
+header-read : (env : Env) (text : List ℕ) (broken : Option LexFault) (ts : List Token) → read_from env (header env.emulation ++ text) broken (first_reading []) (header_tokens env.emulation ++ ts) ≡ read_from env (header env.emulation ++ text) broken below_reading ts
+header-read env text broken ts = by env.emulation where
+  by : (emulation : Emulation) → read_from (record env { emulation = emulation }) (header emulation ++ text) broken (first_reading []) (header_tokens emulation ++ ts) ≡ read_from (record env { emulation = emulation }) (header emulation ++ text) broken below_reading ts
+  by Native = refl
+  by Linux = refl
 
 -- ---- a filter's name
 
@@ -272,46 +278,46 @@ begun_with env text broken ts (Err fault) = Err fault
 
 module _ (env : Env) (text big : List ℕ) (n lines : ℕ) (long : length big ≡ n + length text) (seen : (t : Token) → symbol_of big (moved_token n lines t) ≡ symbol_of text t)
     (t : Token) (ts : List Token) (fault : PolicyFault) (word : List ℕ) (here : symbol_of text t ≡ Word word) (other : bytes_eq word (codes "Policy") ≡ false) where
-  name-read : read_step env below_reading (n + t.at) (symbol_of text t) ≡ reading_step env below_reading (symbol_of text t) (step_name below_reading.walk (n + t.at) word)
+  name-read : read_step env below_reading (n + t.at) (symbol_of text t) ≡ reading_step env below_reading (symbol_of text t) (step_name env below_reading.walk (n + t.at) word)
   name-read =
       ap (λ (s : Symbol). reading_step env below_reading (symbol_of text t) (next env (binaries policy_above) below_reading.walk (n + t.at) s)) here
-      ∙ ap (λ (b : Bool). reading_step env below_reading (symbol_of text t) (if b then step_to below_reading.walk place.PolicyColon else step_name below_reading.walk (n + t.at) word)) other
+      ∙ ap (λ (b : Bool). reading_step env below_reading (symbol_of text t) (if b then step_to below_reading.walk place.PolicyColon else step_name env below_reading.walk (n + t.at) word)) other
 
-  name-found : (o : Option FilterName) → filter_name word ≡ o → begun_with env text (lexed_text text).fault ts (step_name (fresh place.Start 0 (name.Other [])) t.at word) ≡ Err fault → IsFound env text big n lines below_reading [] (t ∷ ts) fault
+  name-found : (o : Option FilterName) → filter_name word env.emulation ≡ o → begun_with env text (lexed_text text).fault ts (step_name env (fresh place.Start 0 (name.Other [])) t.at word) ≡ Err fault → IsFound env text big n lines below_reading [] (t ∷ ts) fault
   name-found None e is =
       let same : UnknownCall t.at ≡ fault = let reported = rw e at is in cc in
-      let stops : reading_step env below_reading (symbol_of text t) (step_name below_reading.walk (n + t.at) word) ≡ Err (UnknownCall (n + t.at)) = rw e refl in
+      let stops : reading_step env below_reading (symbol_of text t) (step_name env below_reading.walk (n + t.at) word) ≡ Err (UnknownCall (n + t.at)) = rw e refl in
       token-stops env text big n lines long seen below_reading [] t ts fault (name-read ∙ stops ∙ ap (λ (g : PolicyFault). refusal (moved n g)) same)
   name-found (Some called) e is =
       let s : Symbol = symbol_of text t in
       let w : GrammarState = fresh place.NameColon 1 called in
-      let begun : reading_step env below_reading s (step_name below_reading.walk (n + t.at) word) ≡ Ok (as_reading w policy_above) = rw e refl in
+      let begun : reading_step env below_reading s (step_name env below_reading.walk (n + t.at) word) ≡ Ok (as_reading w policy_above) = rw e refl in
       let goes : read_step env below_reading (n + t.at) s ≡ Ok (as_reading w policy_above) = name-read ∙ begun in
       let line : is_line_symbol s ≡ false = ap is_line_symbol here in
-      let facts : Facts env [] header_rows (s ∷ []) place.NameColon w policy_above = subst (HasFacts env [] header_rows (s ∷ [])) goes (line-keeps env [] header_rows [] below_reading.walk policy_above (n + t.at) place.Row s line (header-facts env)) in
-      let named : IsNamed (s ∷ []) = record { word = word; name = called; more = []; front_is = ap (λ (s : Symbol). s ∷ []) here; name_is = e } in
+      let facts : Facts env [] (header_rows env.emulation) (s ∷ []) place.NameColon w policy_above = subst (HasFacts env [] (header_rows env.emulation) (s ∷ [])) goes (line-keeps env [] (header_rows env.emulation) [] below_reading.walk policy_above (n + t.at) place.Row s line (header-facts env)) in
+      let named : IsNamed env (s ∷ []) = record { word = word; name = called; more = []; front_is = ap (λ (s : Symbol). s ∷ []) here; name_is = e } in
       token-goes env text big n lines long seen below_reading (as_reading w policy_above) [] t ts fault goes line
-      (walked env text big n lines long seen header_rows ts (s ∷ []) w (as_reading w policy_above) fault named (record { same = refl; label = tt }) facts (rw e at is))
+      (walked env text big n lines long seen (header_rows env.emulation) ts (s ∷ []) w (as_reading w policy_above) fault named (record { same = refl; label = tt }) facts (rw e at is))
 
 -- ---- all texts
 
 -- a filter's row that ends early is read after the header
-row-read : (env : Env) (text : List ℕ) (e : EndsEarly text env) → Leads env below_reading (placed_below 30 text (e.row ++ e.line ∷ [])) (At place.Row (add_filter policy_above e.filter) (HasFilters 1))
+row-read : (env : Env) (text : List ℕ) (e : EndsEarly text env) → Leads env below_reading (placed_below (length (header env.emulation)) text (e.row ++ e.line ∷ [])) (At place.Row (add_filter policy_above e.filter) (HasFilters 1))
 row-read env text e =
-    (passes-filter env policy_above 0 (symbols_at text e.row) e.filter e.is_filter (omega arith)).pass (placed_below 30 text (e.row ++ e.line ∷ [])) (symbols-below 30 text e.row e.line e.ends) below_reading
+    (passes-filter env policy_above 0 (symbols_at text e.row) e.filter e.is_filter (omega arith)).pass (placed_below (length (header env.emulation)) text (e.row ++ e.line ∷ [])) (symbols-below (length (header env.emulation)) text e.row e.line e.ends) below_reading
     (stands below_reading.walk (record { filters_are = refl }))
 
-by-found : (text : List ℕ) (env : Env) (fault : PolicyFault) (word : List ℕ) → BeginsWithWord text word → word ≢ codes "Policy" → IsFound env text (header ++ text) 30 1 below_reading [] (lexed_text text).tokens fault → IsFirstFilterFault text env fault
+by-found : (text : List ℕ) (env : Env) (fault : PolicyFault) (word : List ℕ) → BeginsWithWord text word → word ≢ codes "Policy" → IsFound env text (header env.emulation ++ text) (length (header env.emulation)) 1 below_reading [] (lexed_text text).tokens fault → IsFirstFilterFault text env fault
 by-found text env fault word b other (Early a) =
     let e : EndsEarly text env = record { row = a.row; line = a.line; following = a.following; parts = a.parts; in_line = a.in_line; ends = a.ends; filter = a.filter; is_filter = a.is_filter; more = a.more } in
     subst (IsFirstFilterFault text env) (sym a.reported) (AfterRow e)
 by-found text env fault word b other (Below s) =
-    let big : List ℕ = header ++ text in
-    let faulty : fault_in big env [] ≡ Some (moved 30 fault) =
-    ap (λ (l : Lexed). fault_of (read_from env big l.fault (first_reading []) l.tokens)) (below-header text) ∙ ap fault_of (header-read env text (optional_fault_after 30 (lexed_text text).fault) (moved_tokens 30 1 (lexed_text text).tokens)) ∙ s.stops in
+    let big : List ℕ = header env.emulation ++ text in
+    let faulty : fault_in big env [] ≡ Some (moved (length (header env.emulation)) fault) =
+    ap (λ (l : Lexed). fault_of (read_from env big l.fault (first_reading []) l.tokens)) (below-header env.emulation text) ∙ ap fault_of (header-read env text (optional_fault_after (length (header env.emulation)) (lexed_text text).fault) (moved_tokens (length (header env.emulation)) 1 (lexed_text text).tokens)) ∙ s.stops in
     InRow word fault b other
     (λ e. let l = row-read env text e in s.none e.row e.line e.following l.reading e.parts e.ends l.over)
-    (first-fault big env [] (omega arith) (moved 30 fault) faulty)
+    (first-fault big env [] (omega arith) (moved (length (header env.emulation)) fault) faulty)
 
 no-token : (text : List ℕ) (fault : PolicyFault) (broken : Option LexFault) → (lexed_text text).fault ≡ broken → no_filter (length text) broken ≡ Err fault → plain_fault text [] ≡ fault
 no-token text fault None e is = ap (fault_at_end (length text)) e ∙ (cc)
@@ -326,19 +332,21 @@ module _ (text : List ℕ) (env : Env) (fault : PolicyFault) (t : Token) (ts : L
       other word (sym here ∙ ap (symbol_of text) first ∙ b.is_word) in
       subst (IsFirstFilterFault text env) (ap (plain_fault text) parts ∙ reported) (NoName begins)
 
-  by-word : (word : List ℕ) (b : Bool) → symbol_of text t ≡ Word word → bytes_eq word (codes "Policy") ≡ b → begun_with env text (lexed_text text).fault ts (step_name (fresh place.Start 0 (name.Other [])) t.at word) ≡ Err fault → IsFirstFilterFault text env fault
+  by-word : (word : List ℕ) (b : Bool) → symbol_of text t ≡ Word word → bytes_eq word (codes "Policy") ≡ b → begun_with env text (lexed_text text).fault ts (step_name env (fresh place.Start 0 (name.Other [])) t.at word) ≡ Err fault → IsFirstFilterFault text env fault
   by-word word true here e is =
       let same : word ≡ codes "Policy" = same-word word (codes "Policy") e in
-      let refused : Err (UnknownCall t.at) ≡ Err fault = ap (λ (w : List ℕ). begun_with env text (lexed_text text).fault ts (step_name (fresh place.Start 0 (name.Other [])) t.at w)) (sym same) ∙ is in
+      let none : filter_name (codes "Policy") env.emulation ≡ None = policy-no-name env.emulation in
+      let named : begun_with env text (lexed_text text).fault ts (step_name env (fresh place.Start 0 (name.Other [])) t.at (codes "Policy")) ≡ Err (UnknownCall t.at) = rw none refl in
+      let refused : Err (UnknownCall t.at) ≡ Err fault = sym named ∙ ap (λ (w : List ℕ). begun_with env text (lexed_text text).fault ts (step_name env (fresh place.Start 0 (name.Other [])) t.at w)) (sym same) ∙ is in
       let reported : UnknownCall t.at ≡ fault = cc in
       subst (IsFirstFilterFault text env) reported (Headed (record { first = t; others = ts; parts = parts; is_word = here ∙ ap (λ (w : List ℕ). Word w) same }))
   by-word word false here e is =
-      let found : IsFound env text (header ++ text) 30 1 below_reading [] (t ∷ ts) fault = name-found env text (header ++ text) 30 1 (length-append header text) (symbol-moved header text 1) t ts fault word here e (filter_name word) refl is in
+      let found : IsFound env text (header env.emulation ++ text) (length (header env.emulation)) 1 below_reading [] (t ∷ ts) fault = name-found env text (header env.emulation ++ text) (length (header env.emulation)) 1 (length-append (header env.emulation) text) (symbol-moved (header env.emulation) text 1) t ts fault word here e (filter_name word env.emulation) refl is in
       let other : word ≢ codes "Policy" = λ (h : word ≡ codes "Policy"). let same : bytes_eq (codes "Policy") (codes "Policy") ≡ false = ap (λ (w : List ℕ). bytes_eq w (codes "Policy")) (sym h) ∙ e in cc in
       by-found text env fault word (record { first = t; others = ts; parts = parts; is_word = here }) other
-      (subst (λ (us : List Token). IsFound env text (header ++ text) 30 1 below_reading [] us fault) (sym parts) found)
+      (subst (λ (us : List Token). IsFound env text (header env.emulation ++ text) (length (header env.emulation)) 1 below_reading [] us fault) (sym parts) found)
 
-  by-symbol : (s : Symbol) → symbol_of text t ≡ s → begun_with env text (lexed_text text).fault ts (begin_filter t.at s) ≡ Err fault → IsFirstFilterFault text env fault
+  by-symbol : (s : Symbol) → symbol_of text t ≡ s → begun_with env text (lexed_text text).fault ts (begin_filter env t.at s) ≡ Err fault → IsFirstFilterFault text env fault
   by-symbol (Word word) here is = by-word word (bytes_eq word (codes "Policy")) here refl is
   by-symbol s here is = no-word s here (λ (word : List ℕ). no_words word) (cc) where
     no_words : (word : List ℕ) → s ≢ Word word

@@ -28,7 +28,7 @@ row-begins text env [] line following f parts is = let p : [] ≡ Word is.spelle
 row-begins text env (t ∷ ts) line following f parts is =
     let p = is.parts in
     let first : symbol_of text t ≡ Word is.spelled = cc in
-    record { word = is.spelled; begins = record { first = t; others = ts ++ line ∷ following; parts = parts; is_word = first }; other = no-policy is.spelled f.name is.name_is }
+    record { word = is.spelled; begins = record { first = t; others = ts ++ line ∷ following; parts = parts; is_word = first }; other = no-policy env.emulation is.spelled f.name is.name_is }
 
 early-begins : (text : List ℕ) (env : Env) → EndsEarly text env → BeginsName text
 early-begins text env e = row-begins text env e.row e.line e.following e.filter e.parts e.is_filter
@@ -68,4 +68,4 @@ module _ (text : List ℕ) (env : Env) where
   filter-once _ _ (InRow word a begins other whole is) (Headed h) = absurd (other (word-same text word (codes "Policy") begins h))
   filter-once _ _ (InRow word a begins other whole is) (AfterRow e) = absurd (whole e)
   filter-once _ _ (InRow word a begins other whole is) (InRow word' b begins' other' whole' is') =
-      moved-once (length header) a b (first-once (header ++ text) env [] (omega arith) _ _ is is')
+      moved-once (length (header env.emulation)) a b (first-once (header env.emulation ++ text) env [] (omega arith) _ _ is is')

@@ -1,6 +1,8 @@
 -- A text that is a filter by the grammar has no fault, and is read as that filter.
 use Rattle.std.proofs.Common.{◌≡◌, ◌≢◌, ℕ, Bool, List, [], ◌∷◌, ◌++◌, length, map, codes, Option, None, Some, Ok, Err, refl, ap, sym, subst, ◌∙◌, arith, append_assoc, append-nil}
 use Rattle.std.proofs.lemmas.List.{map-append}
+use Rattle.st_emulation.specs.declared.emulation.Emulation.{Emulation}
+use Rattle.st_emulation.specs.declared.emulation.Emulation.TheVariants.{Native, Linux}
 use Rattle.st_grammar.proofs.Common.{Action, Always, AreRows, Asks, BinaryPolicy, Blank, Both, Close, CloseBracket, Cmp, Colon, Comma, comparison, Denies, DeniesWith, Either, filter_in, FilterName, FilterResult, FilterRow, FilterValue, First, Formula, Grant, Grants, GrantsAndLogs, Grouped, If, Indexed, IsAction, IsCondition, IsFilter, IsGrant, IsPredicate, IsTail, Level, Lexed, lexed_text, LexFault, Line, Logs, LogsAndGrants, Negated, OfBoth, OfGroup, OfUser, OneConjunction, OneOperand, Open, OpenBracket, optional_fault_after, Permits, Plain, Predicate, Quoted, Reads, Short, Spells, Symbol, symbol_of, symbols_in, Then, Token, Whoever, with_filter, Word}
 use Rattle.st_grammar.specs.declared.env.Env.{Env}
 use Rattle.st_grammar.specs.declared.fault.PolicyFault.{PolicyFault}
@@ -82,14 +84,15 @@ symbols-moved above text (t ∷ ts) =
     ap (λ (s : Symbol). s ∷ map (symbol_of (above ++ text)) (moved_tokens (length above) 1 ts)) (symbol-moved above text 1 t)
     ∙ ap (λ (ss : List Symbol). symbol_of text t ∷ ss) (symbols-moved above text ts)
 
-header-symbols : (text : List ℕ) (ts : List Token) → map (symbol_of (header ++ text)) (header_tokens ++ ts) ≡ header_rows ++ map (symbol_of (header ++ text)) ts
-header-symbols text ts = refl
+header-symbols : (emulation : Emulation) (text : List ℕ) (ts : List Token) → map (symbol_of (header emulation ++ text)) (header_tokens emulation ++ ts) ≡ header_rows emulation ++ map (symbol_of (header emulation ++ text)) ts
+header-symbols Native text ts = refl
+header-symbols Linux text ts = refl
 
-symbols-below_header : (text : List ℕ) → symbols_in (header ++ text) ≡ header_rows ++ symbols_in text
-symbols-below_header text =
-    ap (λ (l : Lexed). map (symbol_of (header ++ text)) l.tokens) (below-header text)
-    ∙ header-symbols text (moved_tokens 30 1 (lexed_text text).tokens)
-    ∙ ap (λ (ss : List Symbol). header_rows ++ ss) (symbols-moved header text (lexed_text text).tokens)
+symbols-below_header : (emulation : Emulation) (text : List ℕ) → symbols_in (header emulation ++ text) ≡ header_rows emulation ++ symbols_in text
+symbols-below_header emulation text =
+    ap (λ (l : Lexed). map (symbol_of (header emulation ++ text)) l.tokens) (below-header emulation text)
+    ∙ header-symbols emulation text (moved_tokens (length (header emulation)) 1 (lexed_text text).tokens)
+    ∙ ap (λ (ss : List Symbol). header_rows emulation ++ ss) (symbols-moved (header emulation) text (lexed_text text).tokens)
 
 -- the policy of the header with only this filter
 abbrev with_one : FilterValue → List BinaryPolicy
@@ -102,16 +105,16 @@ first_filters (p ∷ ps) = p.filters
 with-once : (f g : FilterValue) → with_one f ≡ with_one g → f ≡ g
 with-once f g e = let same : f ∷ [] ≡ g ∷ [] = ap first_filters e in cc
 
-rows-below : (env : Env) (f : FilterValue) (row ss : List Symbol) → IsOneRow row ss → IsFilter env row f → AreRows env ((header_rows ++ ss) ++ Line ∷ []) (with_one f)
-rows-below env f row _ ToTheEnd is = FilterRow header_rows row [] (fresh_policy (codes "/a")) f (header-rows env) is
-rows-below env f row _ ToALine is = Blank (header_rows ++ row ++ Line ∷ []) (with_one f) (FilterRow header_rows row [] (fresh_policy (codes "/a")) f (header-rows env) is)
+rows-below : (env : Env) (f : FilterValue) (row ss : List Symbol) → IsOneRow row ss → IsFilter env row f → AreRows env ((header_rows env.emulation ++ ss) ++ Line ∷ []) (with_one f)
+rows-below env f row _ ToTheEnd is = FilterRow (header_rows env.emulation) row [] (fresh_policy (codes "/a")) f (header-rows env) is
+rows-below env f row _ ToALine is = Blank (header_rows env.emulation ++ row ++ Line ∷ []) (with_one f) (FilterRow (header_rows env.emulation) row [] (fresh_policy (codes "/a")) f (header-rows env) is)
 
 -- after the header the filter is the only one of its policy
-reads-below : (text : List ℕ) (env : Env) (f : FilterValue) → ReadsFilter text env f → Reads (header ++ text) env [] (with_one f)
+reads-below : (text : List ℕ) (env : Env) (f : FilterValue) → ReadsFilter text env f → Reads (header env.emulation ++ text) env [] (with_one f)
 reads-below text env f h = record {
-  whole = ap (λ (l : Lexed). l.fault) (below-header text) ∙ ap (optional_fault_after 30) h.whole;
+  whole = ap (λ (l : Lexed). l.fault) (below-header env.emulation text) ∙ ap (optional_fault_after (length (header env.emulation))) h.whole;
   policies = with_one f;
-  rows = subst (λ (ss : List Symbol). AreRows env (ss ++ Line ∷ []) (with_one f)) (sym (symbols-below_header text)) (rows-below env f h.row (symbols_in text) h.one_row h.is);
+  rows = subst (λ (ss : List Symbol). AreRows env (ss ++ Line ∷ []) (with_one f)) (sym (symbols-below_header env.emulation text)) (rows-below env f h.row (symbols_in text) h.one_row h.is);
   set_is = refl;
   new = (refl, tt);
   few = omega arith;
@@ -184,13 +187,13 @@ module _ (text : List ℕ) (env : Env) (f : FilterValue) (h : ReadsFilter text e
   -- a text that is a filter has no first fault
   pub faultless-filter : (fault : PolicyFault) → IsFirstFilterFault text env fault → ⊥
   faultless-filter _ (NoName none) = none h.is.spelled begins
-  faultless-filter _ (Headed b) = no-policy h.is.spelled f.name h.is.name_is (word-same text h.is.spelled (codes "Policy") begins b)
+  faultless-filter _ (Headed b) = no-policy env.emulation h.is.spelled f.name h.is.name_is (word-same text h.is.spelled (codes "Policy") begins b)
   faultless-filter _ (AfterRow e) = not-early e
-  faultless-filter _ (InRow word fault b other whole is) = no-first (header ++ text) env [] (with_one f) _ (reads-below text env f h) is
+  faultless-filter _ (InRow word fault b other whole is) = no-first (header env.emulation ++ text) env [] (with_one f) _ (reads-below text env f h) is
 
   one-filter : (g : FilterValue) → ReadsFilter text env g → g ≡ f
   one-filter g k =
-      with-once g f (reads-once (header ++ text) env [] (with_one g) (with_one f) (reads-below text env g k) (reads-below text env f h))
+      with-once g f (reads-once (header env.emulation ++ text) env [] (with_one g) (with_one f) (reads-below text env g k) (reads-below text env f h))
 
   by-result : ((g : FilterValue) → filter_in text env ≡ Ok g → ReadsFilter text env g) → (x : FilterResult) → filter_in text env ≡ x → filter_in text env ≡ Ok f
   by-result sound (Ok g) e = e ∙ ap Ok (one-filter g (sound g e))

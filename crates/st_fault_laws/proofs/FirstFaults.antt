@@ -7,7 +7,7 @@ use Rattle.st_grammar.specs.declared.fault.PolicyFault.TheVariants.{Expected, Un
 use Rattle.st_grammar.specs.declared.place.Place.{Place}
 use Rattle.st_grammar.specs.declared.fault.PolicyFault.{PolicyFault}
 use Rattle.st_grammar.specs.declared.place.Place.TheVariants as place
-use Rattle.st_fault_laws.specs.FirstFault.{symbol_here, place_here, fault_at_end, plain_fault, symbols_at, MayContinue, IsLabelAt, IsSpecial, NoCall, ManyFilters, Twice, NoNative, ManyOpening, ManyJoining, NoLabel, NoIndex, NoRe, Learns, NoError, NoIds, SetsIds, NoUser, Reports, Specially, Otherwise, IsFirstFault}
+use Rattle.st_fault_laws.specs.FirstFault.{symbol_here, place_here, fault_at_end, plain_fault, symbols_at, MayContinue, IsLabelAt, IsSpecial, NoCall, ManyFilters, Twice, OtherEmulation, ManyOpening, ManyJoining, NoLabel, NoIndex, NoRe, Learns, NoError, NoIds, SetsIds, NoUser, Reports, Specially, Otherwise, IsFirstFault}
 use Rattle.st_grammar.proofs.Complete.{placed}
 use Rattle.st_fault_laws.proofs.Completions.{ends-place}
 use Rattle.st_fault_laws.proofs.FaultKinds.{Outcome, IsPlain, IsReportedOf, Unlabelled, IndexAsked, outcome-of, judged}
@@ -49,7 +49,7 @@ is-other : {text : List ℕ} {env : Env} {old : List BinaryPolicy} {before : Lis
 is-other (NoCall ps p word a n) = tt
 is-other (ManyFilters ps p word name a n m) = tt
 is-other (Twice rows ps here binary e a b h) = tt
-is-other (NoNative front word e) = tt
+is-other (OtherEmulation front word e) = tt
 is-other (ManyOpening here o t) = tt
 is-other (ManyJoining here o t) = tt
 is-other (NoLabel word l t) = tt

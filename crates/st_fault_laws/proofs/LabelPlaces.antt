@@ -3,7 +3,7 @@ use Rattle.std.proofs.Common.{◌≡◌, ℕ, ◌+◌, Bool, true, false, ◌&&�
 use Rattle.std.specs.Str.{bytes_eq}
 use Rattle.std.specs.List.{list_any}
 use Rattle.std.proofs.lemmas.List.{map-append}
-use Rattle.st_calls.specs.Emulation.{emulation_word}
+use Rattle.st_emulation.specs.Words.{word_of}
 use Rattle.st_grammar.proofs.Common.{acts, add_filter, as_reading, Ask, binaries, binary_of, BinaryPolicy, Close, Colon, Comma, comparison, completed, concluded, Deny, ends_filter, EPERM, error_named, filter_name, filter_of, first_reading, found, fresh, GrammarState, grants, id_in, is_action, is_close_bracket, is_colon_symbol, is_comma_symbol, is_word_symbol, is_label, is_line_symbol, with_joint, joins_both, joins_either, Line, may_test, MOST_FILTERS, most_joins, names_for, next, only, op_named, Open, OpenBracket, Permit, Quoted, read_step, Reading, reading_after, reading_step, names_set_id_call, step, step_action, step_as, step_binary, step_denial, step_error, step_grant, step_id, step_indexed, step_joint, step_label, step_name, step_operand, step_operator, step_row, step_start, step_system, step_tail, step_text, step_to, step_user, StepResult, Symbol, symbol_of, taken, Test, Token, True, unquoted, waits, with_group, without_either, Word, word_index, word_who}
 use Rattle.st_grammar.specs.declared.fault.PolicyFault.TheVariants.{AskWithLearn, DuplicatePolicy, ElevateOnSetId, ElevateWithoutIds, Expected, NotSupported, TooMany, UnknownArgument}
 use Rattle.st_grammar.specs.declared.env.Env.{Env}
@@ -54,20 +54,20 @@ module _ (w u : GrammarState) (at : ℕ) where
   comes-start (Word word) = comes-only (bytes_eq word (codes "Policy")) place.PolicyColon tt
   comes-start s = no-more
 
-  comes-name : (word : List ℕ) → Comes w at (step_name u at word)
-  comes-name word = by-found _ (filter_name word) (λ name. by-if (nat_lt u.filters MOST_FILTERS) (Goes (fresh place.NameColon (u.filters + 1) name) tt) (Stops (TooMany at)))
+  comes-name : (env : Env) (word : List ℕ) → Comes w at (step_name env u at word)
+  comes-name env word = by-found _ (filter_name word env.emulation) (λ name. by-if (nat_lt u.filters MOST_FILTERS) (Goes (fresh place.NameColon (u.filters + 1) name) tt) (Stops (TooMany at)))
 
-  comes-row : (s : Symbol) → Comes w at (step_row u at s)
-  comes-row Line = to place.Row tt
-  comes-row (Word word) = by-if (bytes_eq word (codes "Policy")) (to place.PolicyColon tt) (comes-name word)
-  comes-row s = no-more
+  comes-row : (env : Env) (s : Symbol) → Comes w at (step_row env u at s)
+  comes-row env Line = to place.Row tt
+  comes-row env (Word word) = by-if (bytes_eq word (codes "Policy")) (to place.PolicyColon tt) (comes-name env word)
+  comes-row env s = no-more
 
   comes-binary : (known : List (List ℕ)) (o : Option (List ℕ)) → Comes w at (step_binary known u at o)
   comes-binary known o = by-found _ o (λ binary. by-if (list_any (λ b. bytes_eq b binary) known) (Stops (DuplicatePolicy at)) (to place.Comma tt))
 
-  comes-system : (s : Symbol) → Comes w at (step_system u at s)
-  comes-system (Word word) = by-if (bytes_eq word emulation_word) (to place.HeaderEnd tt) (Stops (NotSupported at unsupported.Emulation))
-  comes-system s = no-more
+  comes-system : (env : Env) (s : Symbol) → Comes w at (step_system env u at s)
+  comes-system env (Word word) = by-if (bytes_eq word (word_of env.emulation)) (to place.HeaderEnd tt) (Stops (NotSupported at unsupported.Emulation))
+  comes-system env s = no-more
 
   comes-joined : Comes w at (with_joint u at)
   comes-joined = by-if (nat_lt u.joins most_joins) (Goes (record u { place = place.Operand; joins = u.joins + 1 }) tt) (Stops (TooMany at))
@@ -147,13 +147,13 @@ comes-label w at s = Stops _
 
 pub comes : (env : Env) (known : List (List ℕ)) (w : GrammarState) (at : ℕ) (s : Symbol) (p : Place) → Comes (record w { place = p }) at (step env known (record w { place = p }) at s p)
 comes env known w at s place.Start = comes-start (record w { place = place.Start }) (record w { place = place.Start }) at s
-comes env known w at s place.Row = comes-row (record w { place = place.Row }) (record w { place = place.Row }) at s
+comes env known w at s place.Row = comes-row (record w { place = place.Row }) (record w { place = place.Row }) at env s
 comes env known w at s place.PolicyColon = comes-only (record w { place = place.PolicyColon }) (record w { place = place.PolicyColon }) at (is_colon_symbol s) place.Binary tt
 comes env known w at s place.Binary = comes-binary (record w { place = place.Binary }) (record w { place = place.Binary }) at known (binary_of env s)
 comes env known w at s place.Comma = comes-only (record w { place = place.Comma }) (record w { place = place.Comma }) at (is_comma_symbol s) place.Emulation tt
 comes env known w at s place.Emulation = comes-only (record w { place = place.Emulation }) (record w { place = place.Emulation }) at (is_word_symbol (codes "Emulation") s) place.EmulationColon tt
 comes env known w at s place.EmulationColon = comes-only (record w { place = place.EmulationColon }) (record w { place = place.EmulationColon }) at (is_colon_symbol s) place.System tt
-comes env known w at s place.System = comes-system (record w { place = place.System }) (record w { place = place.System }) at s
+comes env known w at s place.System = comes-system (record w { place = place.System }) (record w { place = place.System }) at env s
 comes env known w at s place.NameColon = comes-only (record w { place = place.NameColon }) (record w { place = place.NameColon }) at (is_colon_symbol s) place.Clause tt
 comes env known w at s place.Clause = comes-clause env (record w { place = place.Clause }) (record w { place = place.Clause }) at s
 comes env known w at s place.Operand = comes-operand (record w { place = place.Operand }) (record w { place = place.Operand }) at s

@@ -8,7 +8,7 @@ use Rattle.st_grammar.specs.declared.env.NamedId.{NamedId}
 use Rattle.st_grammar.specs.declared.place.Place.{Place}
 use Rattle.st_grammar.specs.declared.fault.PolicyFault.{PolicyFault}
 use Rattle.st_lex.specs.declared.token.LexFault.TheVariants.{BadByte, OpenQuote, BadEscape}
-use Rattle.st_calls.specs.Emulation.{emulation_word}
+use Rattle.st_emulation.specs.Words.{word_of}
 use Rattle.st_grammar.specs.declared.fault.PolicyFault.TheVariants.{NoMemory}
 use Rattle.st_grammar.specs.declared.fault.Unsupported.TheVariants as unsupported
 use Rattle.st_grammar.specs.declared.place.Place.TheVariants as place
@@ -122,19 +122,19 @@ module _ (n at x : ℕ) where
   start-moved w (Word word) = only-moved w (bytes_eq word (codes "Policy")) place.PolicyColon tt
   start-moved w s = not-expected
 
-  pub name-moved : (w : GrammarState) (word : List ℕ) → Moved n (step_name w at word) (step_name (labelled x w) (n + at) word)
-  name-moved w word = moved-found (filter_name word) (λ name. moved-if (nat_lt w.filters MOST_FILTERS) (begun (fresh place.NameColon (w.filters + 1) name)) (Stopped (TooMany at))) (Stopped (UnknownCall at)) where
+  pub name-moved : (env : Env) (w : GrammarState) (word : List ℕ) → Moved n (step_name env w at word) (step_name env (labelled x w) (n + at) word)
+  name-moved env w word = moved-found (filter_name word env.emulation) (λ name. moved-if (nat_lt w.filters MOST_FILTERS) (begun (fresh place.NameColon (w.filters + 1) name)) (Stopped (TooMany at))) (Stopped (UnknownCall at)) where
     begun : (w : GrammarState) → Moved n (Ok (fresh place.NameColon w.filters w.name)) (Ok (fresh place.NameColon w.filters w.name))
     begun w = Went (fresh place.NameColon w.filters w.name) (fresh place.NameColon w.filters w.name) (record { same = refl; label = tt })
 
-  row-moved : (w : GrammarState) (s : Symbol) → Moved n (step_row w at s) (step_row (labelled x w) (n + at) s)
-  row-moved w Line = to w place.Row tt
-  row-moved w (Word word) = moved-if (bytes_eq word (codes "Policy")) (to w place.PolicyColon tt) (name-moved w word)
-  row-moved w s = not-expected
+  row-moved : (env : Env) (w : GrammarState) (s : Symbol) → Moved n (step_row env w at s) (step_row env (labelled x w) (n + at) s)
+  row-moved env w Line = to w place.Row tt
+  row-moved env w (Word word) = moved-if (bytes_eq word (codes "Policy")) (to w place.PolicyColon tt) (name-moved env w word)
+  row-moved env w s = not-expected
 
-  system-moved : (w : GrammarState) (s : Symbol) → Moved n (step_system w at s) (step_system (labelled x w) (n + at) s)
-  system-moved w (Word word) = moved-if (bytes_eq word emulation_word) (to w place.HeaderEnd tt) (Stopped (NotSupported at unsupported.Emulation))
-  system-moved w s = not-expected
+  system-moved : (env : Env) (w : GrammarState) (s : Symbol) → Moved n (step_system env w at s) (step_system env (labelled x w) (n + at) s)
+  system-moved env w (Word word) = moved-if (bytes_eq word (word_of env.emulation)) (to w place.HeaderEnd tt) (Stopped (NotSupported at unsupported.Emulation))
+  system-moved env w s = not-expected
 
   joined-moved : (w : GrammarState) → Moved n (with_joint w at) (with_joint (labelled x w) (n + at))
   joined-moved w = moved-if (nat_lt w.joins most_joins) (on (record w { place = place.Operand; joins = w.joins + 1 }) tt) (Stopped (TooMany at))
@@ -220,13 +220,13 @@ module _ (n at x : ℕ) where
   -- at every place but that of a header's binary, where the known binaries matter
   step-moved : (env : Env) (known : List (List ℕ)) (w : GrammarState) (s : Symbol) (p : Place) → is_binary_place p ≡ false → LabelMoved n p w.label_at x → Moved n (step env [] w at s p) (step env known (labelled x w) (n + at) s p)
   step-moved env known w s place.Start e h = start-moved w s
-  step-moved env known w s place.Row e h = row-moved w s
+  step-moved env known w s place.Row e h = row-moved env w s
   step-moved env known w s place.PolicyColon e h = only-moved w (is_colon_symbol s) place.Binary tt
   step-moved env known w s place.Binary e h = absurd (cc)
   step-moved env known w s place.Comma e h = only-moved w (is_comma_symbol s) place.Emulation tt
   step-moved env known w s place.Emulation e h = only-moved w (is_word_symbol (codes "Emulation") s) place.EmulationColon tt
   step-moved env known w s place.EmulationColon e h = only-moved w (is_colon_symbol s) place.System tt
-  step-moved env known w s place.System e h = system-moved w s
+  step-moved env known w s place.System e h = system-moved env w s
   step-moved env known w s place.NameColon e h = only-moved w (is_colon_symbol s) place.Clause tt
   step-moved env known w s place.Clause e h = clause-moved env w s
   step-moved env known w s place.Operand e h = operand-moved w s

@@ -1,6 +1,10 @@
 -- Places of the grammar are determined by what may occur there.
-use Rattle.std.proofs.Common.{◌≡◌, Bool, true, false, List, [], ◌∷◌, Some, option_map, Ok, Err, codes, subst}
-use Rattle.st_grammar.proofs.Common.{BinaryPolicy, Close, GrammarState, grants, id_in, Line, may_test, names_for, OpenBracket, Quoted, Reading, Symbol, with_group, Word}
+use Rattle.std.proofs.Common.{◌≡◌, Bool, true, false, List, [], ◌∷◌, ℕ, None, Some, option_map, refl, Ok, Err, codes, subst}
+use Rattle.std.specs.Str.{bytes_eq}
+use Rattle.st_grammar.proofs.Common.{BinaryPolicy, Close, filter_name, GrammarState, grants, id_in, Line, may_test, names_for, OpenBracket, Quoted, Reading, Symbol, with_group, Word}
+use Rattle.st_emulation.specs.Words.{word_of}
+use Rattle.st_emulation.specs.declared.emulation.Emulation.{Emulation}
+use Rattle.st_emulation.specs.declared.emulation.Emulation.TheVariants.{Native, Linux}
 use Rattle.st_grammar.specs.declared.env.Env.{Env}
 use Rattle.st_grammar.specs.declared.place.Place.{Place}
 use Rattle.st_grammar.specs.declared.place.Place.TheVariants as place
@@ -17,6 +21,16 @@ unless P x q e h = absurd (subst IsFault e h)
 pub fault-follows : (f : Reading → Read) (x : Read) → IsFault x → IsFault (reading_followed f x)
 fault-follows f (Ok r) h = absurd h
 fault-follows f (Err fault) h = tt
+
+-- a word that names no filter under either emulation
+pub no-name : (word : List ℕ) (emulation : Emulation) → filter_name word Native ≡ None → filter_name word Linux ≡ None → filter_name word emulation ≡ None
+no-name word Native n l = n
+no-name word Linux n l = l
+
+-- a word that names neither emulation
+pub no-emulation : (word : List ℕ) (emulation : Emulation) → bytes_eq word (word_of Native) ≡ false → bytes_eq word (word_of Linux) ≡ false → bytes_eq word (word_of emulation) ≡ false
+no-emulation word Native n l = n
+no-emulation word Linux n l = l
 
 -- the reading after these symbols
 abbrev pub over : Env → List Symbol → Reading → Read
@@ -58,6 +72,8 @@ module _ (env : Env) (w : GrammarState) (set : List BinaryPolicy) (q : Reading) 
   action-place (place.Grant log) e = unless ⊥ _ q e (by-some (id_in env.users (codes "deny")) (λ id u. rw u tt) (λ u. rw u tt))
   action-place (place.Group log) e = unless ⊥ _ q e (by-some (id_in env.groups (codes "deny")) (λ id u. rw u tt) (λ u. rw u tt))
   action-place (place.Id who) e = unless ⊥ _ q e (by-some (id_in (names_for env who) (codes "deny")) (λ id u. rw u tt) (λ u. rw u tt))
+  action-place place.Row e = unless ⊥ _ q e (rw (no-name (codes "deny") env.emulation refl refl) tt)
+  action-place place.System e = unless ⊥ _ q e (rw (no-emulation (codes "deny") env.emulation refl refl) tt)
   action-place p e = unless ⊥ _ q e tt
 
   pub operand-place : (s : Symbol) (xs : List Symbol) → ((log : Bool) (v : GrammarState) → IsFault (over env (s ∷ xs) (reading_at (place.User log) v set))) → ((log : Bool) (v : GrammarState) → IsFault (over env (s ∷ xs) (reading_at (place.Tail false log) v set))) →
@@ -68,6 +84,8 @@ module _ (env : Env) (w : GrammarState) (set : List BinaryPolicy) (q : Reading) 
   operand-place s xs f g h (place.Grant log) e = unless ⊥ _ q e (by-some (id_in env.users (codes "true")) (λ id u. rw u (f log (grants (Some id) (place.User log) w))) (λ u. rw u tt))
   operand-place s xs f g h (place.Group log) e = unless ⊥ _ q e (by-some (id_in env.groups (codes "true")) (λ id u. rw u (g log (record w { grant = option_map (with_group id) w.grant }))) (λ u. rw u tt))
   operand-place s xs f g h (place.Id who) e = unless ⊥ _ q e (by-some (id_in (names_for env who) (codes "true")) (λ id u. rw u (h (record w { predicate = Some (record { who = who; cmp = w.cmp; id = id }) }))) (λ u. rw u tt))
+  operand-place s xs f g h place.Row e = unless ⊥ _ q e (rw (no-name (codes "true") env.emulation refl refl) tt)
+  operand-place s xs f g h place.System e = unless ⊥ _ q e (rw (no-emulation (codes "true") env.emulation refl refl) tt)
   operand-place s xs f g h p e = unless ⊥ _ q e tt
 
   pub close-place : (p : Place) → over env (Close ∷ []) (reading_at p w set) ≡ Ok q → IsJointPlace p
@@ -80,6 +98,8 @@ module _ (env : Env) (w : GrammarState) (set : List BinaryPolicy) (q : Reading) 
   then-place (place.Grant log) e = unless ⊥ _ q e (by-some (id_in env.users (codes "then")) (λ id u. rw u tt) (λ u. rw u tt))
   then-place (place.Group log) e = unless ⊥ _ q e (by-some (id_in env.groups (codes "then")) (λ id u. rw u tt) (λ u. rw u tt))
   then-place (place.Id who) e = unless ⊥ _ q e (by-some (id_in (names_for env who) (codes "then")) (λ id u. rw u tt) (λ u. rw u tt))
+  then-place place.Row e = unless ⊥ _ q e (rw (no-name (codes "then") env.emulation refl refl) tt)
+  then-place place.System e = unless ⊥ _ q e (rw (no-emulation (codes "then") env.emulation refl refl) tt)
   then-place p e = unless ⊥ _ q e tt
 
   pub id-place : (p : Place) → over env (Word (codes "0") ∷ Line ∷ []) (reading_at p w set) ≡ Ok q → IsIdPlace p
@@ -88,6 +108,8 @@ module _ (env : Env) (w : GrammarState) (set : List BinaryPolicy) (q : Reading) 
   id-place (place.Id who) e = tt
   id-place place.Label e = unless ⊥ _ q e (by-test (may_test w.name w.label 0) (λ m. rw m tt) (λ m. rw m tt))
   id-place place.Index e = unless ⊥ _ q e (by-test (may_test w.name w.label 0) (λ m. rw m tt) (λ m. rw m tt))
+  id-place place.Row e = unless ⊥ _ q e (rw (no-name (codes "0") env.emulation refl refl) tt)
+  id-place place.System e = unless ⊥ _ q e (rw (no-emulation (codes "0") env.emulation refl refl) tt)
   id-place p e = unless ⊥ _ q e tt
 
   pub operator-place : (p : Place) → over env (Word (codes "eq") ∷ Quoted (codes "\"\"") ∷ []) (reading_at p w set) ≡ Ok q → IsOperatorPlace p w
@@ -96,4 +118,6 @@ module _ (env : Env) (w : GrammarState) (set : List BinaryPolicy) (q : Reading) 
   operator-place (place.Grant log) e = unless ⊥ _ q e (by-some (id_in env.users (codes "eq")) (λ id u. rw u tt) (λ u. rw u tt))
   operator-place (place.Group log) e = unless ⊥ _ q e (by-some (id_in env.groups (codes "eq")) (λ id u. rw u tt) (λ u. rw u tt))
   operator-place (place.Id who) e = unless ⊥ _ q e (by-some (id_in (names_for env who) (codes "eq")) (λ id u. rw u tt) (λ u. rw u tt))
+  operator-place place.Row e = unless ⊥ _ q e (rw (no-name (codes "eq") env.emulation refl refl) tt)
+  operator-place place.System e = unless ⊥ _ q e (rw (no-emulation (codes "eq") env.emulation refl refl) tt)
   operator-place p e = unless ⊥ _ q e tt

@@ -3,7 +3,7 @@ use Rattle.std.proofs.Common.{◌≡◌, ◌⊎◌, inl, inr, ℕ, Bool, true, f
 use Rattle.std.specs.Str.{bytes_eq}
 use Rattle.std.specs.List.{list_any}
 use Rattle.std.proofs.lemmas.Bool.{or_from}
-use Rattle.st_calls.specs.Emulation.{emulation_word}
+use Rattle.st_emulation.specs.Words.{word_of}
 use Rattle.st_grammar.proofs.Common.{binaries, binary_of, BinaryPolicy, Close, Colon, Comma, error_named, filter_name, FilterName, filters_in, first_reading, GrammarState, id_in, index_in, is_action, is_label, Line, may_test, names_for, Open, OpenBracket, Quoted, read_step, Reading, names_set_id_call, Symbol, symbol_of, Token, Word}
 use Rattle.st_grammar.specs.declared.fault.PolicyFault.TheVariants.{AskWithLearn, DuplicatePolicy, ElevateOnSetId, ElevateWithoutIds, NotSupported, TooMany, UnknownArgument, UnknownCall, UnknownError, UnknownUser}
 use Rattle.st_grammar.specs.declared.env.Env.{Env}
@@ -11,7 +11,7 @@ use Rattle.st_grammar.specs.declared.place.Place.{Place}
 use Rattle.st_grammar.specs.declared.fault.PolicyFault.{PolicyFault}
 use Rattle.st_grammar.specs.declared.fault.Unsupported.TheVariants as unsupported
 use Rattle.st_grammar.specs.declared.place.Place.TheVariants as place
-use Rattle.st_fault_laws.specs.FirstFault.{symbols_at, MayContinue, AreRead, EndsOperand, InParens, Whole, TakesOperand, TakesAction, AfterPermit, Permitted, Logged, IsLabelAt, IsSpecial, NoCall, ManyFilters, Twice, NoNative, ManyOpening, ManyJoining, NoLabel, NoIndex, NoRe, Learns, NoError, NoIds, SetsIds, NoUser}
+use Rattle.st_fault_laws.specs.FirstFault.{symbols_at, MayContinue, AreRead, EndsOperand, InParens, Whole, TakesOperand, TakesAction, AfterPermit, Permitted, Logged, IsLabelAt, IsSpecial, NoCall, ManyFilters, Twice, OtherEmulation, ManyOpening, ManyJoining, NoLabel, NoIndex, NoRe, Learns, NoError, NoIds, SetsIds, NoUser}
 use Rattle.st_grammar.proofs.Clauses.{clause-operand}
 use Rattle.st_grammar.proofs.Complete.{AtRows, placed, passes-rows, first-rows, below-last, is_below}
 use Rattle.st_fault_laws.proofs.Completions.{MayEnd}
@@ -20,7 +20,7 @@ use Rattle.st_grammar.proofs.FilterRows.{row_place, step-policy}
 use Rattle.st_grammar.proofs.Filters.{HasFilters}
 use Rattle.st_grammar.proofs.Keywords.{label-other}
 use Rattle.st_fault_laws.proofs.MayStand.{TokenCut, token-cut}
-use Rattle.st_fault_laws.proofs.PlacesReported.{unless, IsActionPlace, IsOperandPlace, IsJointPlace, IsIdPlace, IsOperatorPlace, action-place, operand-place, close-place, then-place, id-place, operator-place}
+use Rattle.st_fault_laws.proofs.PlacesReported.{no-emulation, no-name, unless, IsActionPlace, IsOperandPlace, IsJointPlace, IsIdPlace, IsOperatorPlace, action-place, operand-place, close-place, then-place, id-place, operator-place}
 use Rattle.st_grammar.proofs.Readings.{Read, read_over, reading_followed, Leads, Passes, passes-append, passes-one, passes-step, reading_at, steady, At, stands}
 use Rattle.st_fault_laws.proofs.WaysOn.{Accepted, accepted, ReadTo, read-to, spread, first_place, other_places, symbols-placed}
 
@@ -42,17 +42,17 @@ module _ (env : Env) (w : GrammarState) (set : List BinaryPolicy) (at : ℕ) whe
   abbrev OnlyHere : PolicyFault → Place → Symbol → Type 0
   OnlyHere fault p s = Only at fault (read_step env (reading_at p w set) at s)
 
-  no-call : (word : List ℕ) → filter_name word ≡ None → OnlyHere (UnknownCall at) place.Row (Word word)
+  no-call : (word : List ℕ) → filter_name word env.emulation ≡ None → OnlyHere (UnknownCall at) place.Row (Word word)
   no-call word e = by-test (bytes_eq word (codes "Policy")) (λ p. rw p (inl tt)) (λ p. rw (p, e) refl)
 
-  many-filters : (word : List ℕ) (name : FilterName) → filter_name word ≡ Some name → OnlyHere (TooMany at) place.Row (Word word)
+  many-filters : (word : List ℕ) (name : FilterName) → filter_name word env.emulation ≡ Some name → OnlyHere (TooMany at) place.Row (Word word)
   many-filters word name e = by-test (bytes_eq word (codes "Policy")) (λ p. rw p (inl tt)) (λ p. by-test (nat_lt w.filters 4096) (λ f. rw (p, e, f) (inl tt)) (λ f. rw (p, e, f) refl))
 
   binary-only : (s : Symbol) (binary : List ℕ) → binary_of env s ≡ Some binary → OnlyHere (DuplicatePolicy at) place.Binary s
   binary-only s binary e = by-test (list_any (λ b. bytes_eq b binary) (binaries set)) (λ k. rw (e, k) refl) (λ k. rw (e, k) (inl tt))
 
   system-only : (word : List ℕ) → OnlyHere (NotSupported at unsupported.Emulation) place.System (Word word)
-  system-only word = by-test (bytes_eq word emulation_word) (λ n. rw n (inl tt)) (λ n. rw n refl)
+  system-only word = by-test (bytes_eq word (word_of env.emulation)) (λ n. rw n (inl tt)) (λ n. rw n refl)
 
   error-only : (word : List ℕ) → OnlyHere (UnknownError at) place.Error (Word word)
   error-only word = by-some (error_named word) (λ errno e. rw e (inl tt)) (λ e. rw e refl)
@@ -148,6 +148,8 @@ module _ (env : Env) (w : GrammarState) (set : List BinaryPolicy) (places : List
   error-place (place.Grant log) e = unless (q.walk.place ≡ place.Error) _ q e (by-some (id_in env.users (codes "deny")) (λ id u. rw u tt) (λ u. rw u tt))
   error-place (place.Group log) e = unless (q.walk.place ≡ place.Error) _ q e (by-some (id_in env.groups (codes "deny")) (λ id u. rw u tt) (λ u. rw u tt))
   error-place (place.Id who) e = unless (q.walk.place ≡ place.Error) _ q e (by-some (id_in (names_for env who) (codes "deny")) (λ id u. rw u tt) (λ u. rw u tt))
+  error-place place.Row e = unless (q.walk.place ≡ place.Error) _ q e (rw (no-name (codes "deny") env.emulation refl refl) tt)
+  error-place place.System e = unless (q.walk.place ≡ place.Error) _ q e (rw (no-emulation (codes "deny") env.emulation refl refl) tt)
   error-place p e = unless (q.walk.place ≡ place.Error) _ q e tt
 
   permit-place : (p : Place) → IsActionPlace p → read_over env (reading_at p w set) (spread places (Word (codes "permit") ∷ [])) ≡ Ok q → q.walk.place ≡ place.Tail true true
@@ -176,10 +178,10 @@ module _ (env : Env) (w : GrammarState) (set : List BinaryPolicy) (places : List
 only-at : (env : Env) (p : Place) (r : Reading) (at : ℕ) (s : Symbol) (fault : PolicyFault) → r.walk.place ≡ p → Only at fault (read_step env (reading_at p r.walk r.set) at s) → Only at fault (read_step env r at s)
 only-at env p r at s fault e h = subst (λ (p : Place). Only at fault (read_step env (reading_at p r.walk r.set) at s)) (sym e) h
 
-call-at : (env : Env) (set : List BinaryPolicy) (H : GrammarState → Type 0) (at : ℕ) (word : List ℕ) → filter_name word ≡ None → (r : Reading) → At place.Row set H r → Only at (UnknownCall at) (read_step env r at (Word word))
+call-at : (env : Env) (set : List BinaryPolicy) (H : GrammarState → Type 0) (at : ℕ) (word : List ℕ) → filter_name word env.emulation ≡ None → (r : Reading) → At place.Row set H r → Only at (UnknownCall at) (read_step env r at (Word word))
 call-at env set H at word e r (stands w h) = no-call env w set at word e
 
-filters-at : (env : Env) (set : List BinaryPolicy) (H : GrammarState → Type 0) (at : ℕ) (word : List ℕ) (name : FilterName) → filter_name word ≡ Some name → (r : Reading) → At place.Row set H r → Only at (TooMany at) (read_step env r at (Word word))
+filters-at : (env : Env) (set : List BinaryPolicy) (H : GrammarState → Type 0) (at : ℕ) (word : List ℕ) (name : FilterName) → filter_name word env.emulation ≡ Some name → (r : Reading) → At place.Row set H r → Only at (TooMany at) (read_step env r at (Word word))
 filters-at env set H at word name e r (stands w h) = many-filters env w set at word name e
 
 binary-at : (env : Env) (set : List BinaryPolicy) (H : GrammarState → Type 0) (at : ℕ) (s : Symbol) (binary : List ℕ) → binary_of env s ≡ Some binary → (r : Reading) → At place.Binary set H r → Only at (DuplicatePolicy at) (read_step env r at s)
@@ -250,7 +252,7 @@ module _ (text : List ℕ) (env : Env) (old : List BinaryPolicy) where
   special-only before r read at s fault (NoCall ps p word a n) = call-at env (old ++ (ps ++ p ∷ [])) _ at word n r (rows-at before r read ps p a)
   special-only before r read at s fault (ManyFilters ps p word name a n m) = filters-at env (old ++ (ps ++ p ∷ [])) _ at word name n r (rows-at before r read ps p a)
   special-only before r read at s fault (Twice rows ps here binary e a b h) = binary-at env (old ++ ps) _ at here binary b r (header-at before r read rows ps e a)
-  special-only before r read at s fault (NoNative front word e) =
+  special-only before r read at s fault (OtherEmulation front word e) =
       let f = front-read before r read front (Comma ∷ Word (codes "Emulation") ∷ Colon ∷ []) e in
       let m : Reading = f.1.reading in
       only-at env place.System r at (Word word) (NotSupported at unsupported.Emulation) (emulation-place env m.walk m.set (map (λ t. t.at) f.0.back) r m.walk.place f.1.over) (system-only env r.walk r.set at word)

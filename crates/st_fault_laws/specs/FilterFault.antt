@@ -4,7 +4,8 @@ use Rattle.st_lex.specs.declared.token.LexFault.{LexFault}
 use Rattle.st_lex.specs.declared.token.Token.{Token}
 use Rattle.st_lex.specs.Quoted.{newline, shifted_fault}
 use Rattle.st_lex.specs.Tokens.{lexed_text}
-use Rattle.st_calls.specs.Emulation.{emulation_word}
+use Rattle.st_emulation.specs.Words.{word_of}
+use Rattle.st_emulation.specs.declared.emulation.Emulation.{Emulation}
 use Rattle.st_grammar.specs.declared.env.Env.{Env}
 use Rattle.st_grammar.specs.declared.fault.PolicyFault.{PolicyFault}
 use Rattle.st_grammar.specs.declared.fault.PolicyFault.TheVariants.{Lex, Expected, UnknownCall, UnknownArgument, UnknownError, UnknownUser, DuplicatePolicy, ElevateWithoutIds, ElevateOnSetId, NotSupported, AskWithLearn, TooMany, NoMemory}
@@ -13,9 +14,9 @@ use Rattle.st_grammar.specs.Grammar.{IsFilter}
 use Rattle.st_grammar.specs.Symbol.{Symbol, Word, Line, symbol_of}
 use Rattle.st_fault_laws.specs.FirstFault.{symbols_at, plain_fault, IsFirstFault}
 
--- the line of a header, after which a filter may follow
-abbrev pub header : List ℕ
-header = codes "Policy: /a, Emulation: " ++ emulation_word ++ newline ∷ []
+-- the line of a header, after which a filter with the emulation's prefix may follow
+abbrev pub header : Emulation → List ℕ
+header emulation = codes "Policy: /a, Emulation: " ++ word_of emulation ++ newline ∷ []
 
 -- the same fault, this many bytes later in the text
 abbrev pub moved : ℕ → PolicyFault → PolicyFault
@@ -72,4 +73,4 @@ pub data IsFirstFilterFault (text : List ℕ) (env : Env) : PolicyFault → Type
   -- nothing may follow a filter
   AfterRow : (e : EndsEarly text env) → IsFirstFilterFault text env (plain_fault text e.following)
   -- a policy with this text after the header has the same first fault, moved by the header's length
-  InRow : (word : List ℕ) (fault : PolicyFault) → BeginsWithWord text word → word ≢ codes "Policy" → (EndsEarly text env → ⊥) → IsFirstFault (header ++ text) env [] (moved (length header) fault) → IsFirstFilterFault text env fault
+  InRow : (word : List ℕ) (fault : PolicyFault) → BeginsWithWord text word → word ≢ codes "Policy" → (EndsEarly text env → ⊥) → IsFirstFault (header env.emulation ++ text) env [] (moved (length (header env.emulation)) fault) → IsFirstFilterFault text env fault

@@ -99,13 +99,13 @@ pub record IsLabelAt (text : List ℕ) (env : Env) (old : List BinaryPolicy) (fr
 
 -- the special faults of a symbol, by what may occur at its place
 pub data IsSpecial (text : List ℕ) (env : Env) (old : List BinaryPolicy) (before : List Token) (at : ℕ) : Symbol → PolicyFault → Type 0 where
-  NoCall : (ps : List BinaryPolicy) (p : BinaryPolicy) (word : List ℕ) → AreRead env old (symbols_at text before) (ps ++ p ∷ []) → filter_name word ≡ None →
+  NoCall : (ps : List BinaryPolicy) (p : BinaryPolicy) (word : List ℕ) → AreRead env old (symbols_at text before) (ps ++ p ∷ []) → filter_name word env.emulation ≡ None →
       IsSpecial text env old before at (Word word) (UnknownCall at)
-  ManyFilters : (ps : List BinaryPolicy) (p : BinaryPolicy) (word : List ℕ) (name : FilterName) → AreRead env old (symbols_at text before) (ps ++ p ∷ []) → filter_name word ≡ Some name →
+  ManyFilters : (ps : List BinaryPolicy) (p : BinaryPolicy) (word : List ℕ) (name : FilterName) → AreRead env old (symbols_at text before) (ps ++ p ∷ []) → filter_name word env.emulation ≡ Some name →
       filters_in (old ++ (ps ++ p ∷ [])) ≡ MOST_FILTERS → IsSpecial text env old before at (Word word) (TooMany at)
   Twice : (rows : List Symbol) (ps : List BinaryPolicy) (here : Symbol) (binary : List ℕ) → symbols_at text before ≡ rows ++ Word (codes "Policy") ∷ Colon ∷ [] → AreRead env old rows ps →
       binary_of env here ≡ Some binary → has_policy (old ++ ps) binary ≡ true → IsSpecial text env old before at here (DuplicatePolicy at)
-  NoNative : (front : List Symbol) (word : List ℕ) → symbols_at text before ≡ front ++ Comma ∷ Word (codes "Emulation") ∷ Colon ∷ [] →
+  OtherEmulation : (front : List Symbol) (word : List ℕ) → symbols_at text before ≡ front ++ Comma ∷ Word (codes "Emulation") ∷ Colon ∷ [] →
       IsSpecial text env old before at (Word word) (NotSupported at unsupported.Emulation)
   -- `not`, `and`, `or` and `(` if there may be no more of them
   ManyOpening : (here : Symbol) → (here ≡ Open) ⊎ (here ≡ Word (codes "not")) → TakesOperand env old (symbols_at text before) → IsSpecial text env old before at here (TooMany at)

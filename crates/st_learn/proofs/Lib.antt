@@ -1,5 +1,5 @@
 mod Asking
-mod Binaries
+pub mod Binaries
 mod Counting
 mod Deciding
 pub mod Filters
@@ -10,7 +10,6 @@ mod Numbers
 pub mod OperatorPlaces
 mod PassedOver
 mod Permitting
-mod Printing
 pub mod Replies
 mod Rooms
 pub mod Unasked

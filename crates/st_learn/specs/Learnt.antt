@@ -1,6 +1,6 @@
 -- The policies with the filters that are in force and those that a session has added.
-use Rattle.std.specs.Prelude.{◌≡◌, ◌≢◌, ℕ, List, [], ◌++◌, false, map, filter, take}
-use Rattle.std.specs.List.{All, flat_map, fold, list_any}
+use Rattle.std.specs.Prelude.{◌≡◌, ◌≢◌, ℕ, List, [], ◌++◌, false, map, filter}
+use Rattle.std.specs.List.{All, fold, list_any}
 use Rattle.std.specs.Str.{bytes_eq}
 use Rattle.st_filter.specs.Formula.{FilterValue}
 use Rattle.st_filter.specs.Policies.{PoliciesValue, in_force, with_binary}
@@ -10,17 +10,11 @@ use Rattle.st_filter.specs.declared.set.BinaryPolicy.{BinaryPolicy}
 use Rattle.st_law.specs.Sessions.{SessionFilter}
 use Rattle.st_law.specs.State.{State}
 use Rattle.st_law.specs.declared.input.Input.{Input}
-use Rattle.st_lex.specs.Pieces.{print}
-use Rattle.st_printing.specs.Canon.{canon, filter_pieces, row_pieces}
 use Rattle.st_learn.specs.Sessions.{is_filter_for}
 
 -- the filters that a session has for a policy, of whatever rule, in order
 abbrev pub filters_added : List SessionFilter → List ℕ → List FilterValue
 filters_added session policy = map (λ kept. kept.filter) (filter (is_filter_for policy) session)
-
--- a policy without filters
-abbrev pub empty_policy : List ℕ → BinaryPolicy
-empty_policy binary = record { binary = binary; filters = [] }
 
 -- the policy of a binary: its filters in force, and then those that the session has added
 abbrev pub learnt_policy : PoliciesValue → (List ℕ → ℕ) → List SessionFilter → List ℕ → BinaryPolicy
@@ -37,16 +31,6 @@ learnt_policies policies versions changed session = map (learnt_policy policies 
 -- the same in a state of a run
 abbrev pub learnt_in : Input → State → List BinaryPolicy
 learnt_in i st = learnt_policies i.policies st.versions st.changed st.session
-
--- ---- as they are printed
-
--- the rows of filters
-abbrev pub rows_text : List FilterValue → List ℕ
-rows_text filters = print (flat_map (λ f. row_pieces (filter_pieces f)) filters)
-
--- the text of the policies with the session's filters; of the policies that weren't read, only the first n
-abbrev pub learnt_so_far : PoliciesValue → (List ℕ → ℕ) → List (List ℕ) → List SessionFilter → ℕ → List ℕ
-learnt_so_far policies versions changed session n = canon (map (learnt_policy policies versions session) (learnt_binaries policies.read (take n changed)))
 
 -- ---- what they decide
 

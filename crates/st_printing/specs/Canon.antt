@@ -5,7 +5,8 @@ use Rattle.st_base.specs.declared.errno.Errno.{Errno}
 use Rattle.st_base.specs.declared.errno.Errno.TheVariants.{EPERM}
 use Rattle.st_base.specs.Errno.{word_of_error}
 use Rattle.st_calls.specs.Call.{name_of_rule}
-use Rattle.st_calls.specs.Emulation.{emulation_prefix, emulation_word}
+use Rattle.st_emulation.specs.Words.{prefix_of, word_of}
+use Rattle.st_emulation.specs.declared.emulation.Emulation.{Emulation}
 use Rattle.st_lex.specs.declared.token.TokenKind.TheVariants as kind
 use Rattle.st_lex.specs.Pieces.{Piece, PlainWord, QuotedText, Sign, Space, print, is_word_text}
 use Rattle.st_filter.specs.declared.filter.Action.{Action}
@@ -138,38 +139,42 @@ abbrev pub call_word : FilterName → List ℕ
 call_word (name.Rule rule) = name_of_rule rule
 call_word (name.Other word) = word
 
--- the pieces of a filter in its row
-abbrev pub filter_pieces : FilterValue → List Piece
-filter_pieces f =
-    PlainWord (emulation_prefix ++ call_word f.name) ∷ Sign kind.Colon ∷ Space ∷
+-- the pieces of a filter in its row, with the emulation's prefix
+abbrev pub filter_pieces : FilterValue → Emulation → List Piece
+filter_pieces f emulation =
+    PlainWord (prefix_of emulation ++ call_word f.name) ∷ Sign kind.Colon ∷ Space ∷
     condition_pieces f.formula ++ action_pieces f.action ++ grant_pieces f.grant ++ log_pieces f.log ++ predicate_pieces f.predicate
 
 -- the canonical text of one filter
-abbrev pub canon_filter : FilterValue → List ℕ
-canon_filter f = print (filter_pieces f)
+abbrev pub canon_filter : FilterValue → Emulation → List ℕ
+canon_filter f emulation = print (filter_pieces f emulation)
 
 -- the piece of a binary: a Word if its bytes allow that, otherwise a quoted text
 abbrev pub binary_piece : List ℕ → Piece
 binary_piece binary = if is_word_text binary then PlainWord binary else QuotedText binary
 
--- the pieces of the header of a binary's policy in its row
-abbrev pub header_pieces : List ℕ → List Piece
-header_pieces binary =
+-- the pieces of the header of a binary's policy in its row, with the emulation's word
+abbrev pub header_pieces : List ℕ → Emulation → List Piece
+header_pieces binary emulation =
     PlainWord (codes "Policy") ∷ Sign kind.Colon ∷ Space ∷ binary_piece binary ∷ Sign kind.Comma ∷ Space ∷
-    PlainWord (codes "Emulation") ∷ Sign kind.Colon ∷ Space ∷ PlainWord emulation_word ∷ []
+    PlainWord (codes "Emulation") ∷ Sign kind.Colon ∷ Space ∷ PlainWord (word_of emulation) ∷ []
 
 -- the pieces of a row, which ends with a newline
 abbrev pub row_pieces : List Piece → List Piece
 row_pieces pieces = pieces ++ Sign kind.Line ∷ []
 
+-- the pieces of the rows of filters
+abbrev pub rows_pieces : List FilterValue → Emulation → List Piece
+rows_pieces filters emulation = flat_map (λ f. row_pieces (filter_pieces f emulation)) filters
+
 -- the pieces of a policy: the row of its header, then the rows of its filters
-abbrev pub policy_pieces : BinaryPolicy → List Piece
-policy_pieces p = row_pieces (header_pieces p.binary) ++ flat_map (λ f. row_pieces (filter_pieces f)) p.filters
+abbrev pub policy_pieces : BinaryPolicy → Emulation → List Piece
+policy_pieces p emulation = row_pieces (header_pieces p.binary emulation) ++ rows_pieces p.filters emulation
 
 -- the pieces of the policies of a set, in order
-abbrev pub set_pieces : List BinaryPolicy → List Piece
-set_pieces policies = flat_map policy_pieces policies
+abbrev pub set_pieces : List BinaryPolicy → Emulation → List Piece
+set_pieces policies emulation = flat_map (λ p. policy_pieces p emulation) policies
 
--- the canonical text of a set of policies
-abbrev pub canon : List BinaryPolicy → List ℕ
-canon policies = print (set_pieces policies)
+-- the canonical text of a set of policies, with the words of an emulation
+abbrev pub canon : List BinaryPolicy → Emulation → List ℕ
+canon policies emulation = print (set_pieces policies emulation)

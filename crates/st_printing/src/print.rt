@@ -1,13 +1,13 @@
 ghost use Rattle.std.specs.Prelude.{◌≡◌, ◌++◌, [], List, codes, OnOk, OnErr, IfOk};
-ghost use Rattle.std.specs.List.{flat_map};
 ghost use Rattle.st_lex.specs.Pieces.{print, piece_bytes};
 ghost use Rattle.st_base.specs.Errno.{word_of_error};
-ghost use Rattle.st_calls.specs.Emulation.{emulation_word};
-ghost use Rattle.st_printing.specs.Canon.{word_of_op, index_pieces, test_pieces, needs_no_parens, in_parens, expression_pieces, condition_pieces, deny_pieces, action_pieces, user_pieces, group_pieces, grant_pieces, log_pieces, word_of_who, cmp_piece, predicate_pieces, call_word, filter_pieces, row_pieces, canon_filter, header_pieces, binary_piece, policy_pieces, canon};
+ghost use Rattle.st_emulation.specs.Words.{word_of};
+ghost use Rattle.st_printing.specs.Canon.{word_of_op, index_pieces, test_pieces, needs_no_parens, in_parens, expression_pieces, condition_pieces, deny_pieces, action_pieces, user_pieces, group_pieces, grant_pieces, log_pieces, word_of_who, cmp_piece, predicate_pieces, call_word, filter_pieces, row_pieces, rows_pieces, canon_filter, header_pieces, binary_piece, canon};
 ghost use Rattle.st_filter.specs.Formula.{formula, Operand, Conjunction};
 
 use st_base::{Errno, Text};
-use st_calls::{append_index, emulation_prefix, emulation_word};
+use st_calls::append_index;
+use st_emulation::Emulation;
 use st_filter::{
     Action, Cmp, Expr, Filter, FilterName, Grant, Op, Policy, PolicySet, Predicate, Who,
 };
@@ -218,10 +218,10 @@ fn word_of_name(name: &FilterName) -> &[u8]
 }
 
 // Appends a filter's row without its newline.
-fn append_filter(filter: &Filter, out: &mut Text) -> Result<(), AllocError>
-    ensures { OnOk result (out.new ≡ out.old ++ canon_filter filter.now) }
+fn append_filter(filter: &Filter, out: &mut Text, emulation: Emulation) -> Result<(), AllocError>
+    ensures { OnOk result (out.new ≡ out.old ++ canon_filter filter.now emulation) }
 {
-    out.append(emulation_prefix())?;
+    out.append(emulation.prefix())?;
     out.append(word_of_name(filter.name()))?;
     out.append(b": ")?;
     append_condition(filter.expr(), out)?;
@@ -231,13 +231,18 @@ fn append_filter(filter: &Filter, out: &mut Text) -> Result<(), AllocError>
     append_predicate(filter.predicate(), out)
 }
 
-/// Appends the canonical text of a filter. If memory runs out, the text stays as it was.
-pub fn print_filter(alloc: Global, filter: &Filter, out: &mut Text) -> Result<(), AllocError>
-    ensures ok { OnOk result (out.new ≡ out.old ++ canon_filter filter.now) }
+/// Appends the canonical text of a filter, by the names of an emulation. If memory runs out, the text stays as it was.
+pub fn print_filter(
+    alloc: Global,
+    filter: &Filter,
+    out: &mut Text,
+    emulation: Emulation,
+) -> Result<(), AllocError>
+    ensures ok { OnOk result (out.new ≡ out.old ++ canon_filter filter.now emulation) }
     ensures err { OnErr result (out.new ≡ out.old) }
 {
     let mut row = Text::new(alloc);
-    append_filter(filter, &mut row)?;
+    append_filter(filter, &mut row, emulation)?;
     out.append(row.bytes())
 }
 
@@ -253,42 +258,46 @@ fn append_binary(binary: &[u8], out: &mut Text) -> Result<(), AllocError>
 }
 
 // Appends what follows the binary in a header's row, with the newline.
-fn append_emulation(out: &mut Text) -> Result<(), AllocError>
-    ensures { OnOk result (out.new ≡ out.old ++ codes ", Emulation: " ++ emulation_word ++ codes "\n") }
+fn append_emulation(out: &mut Text, emulation: Emulation) -> Result<(), AllocError>
+    ensures { OnOk result (out.new ≡ out.old ++ codes ", Emulation: " ++ word_of emulation ++ codes "\n") }
 {
     out.append(b", Emulation: ")?;
-    out.append(emulation_word())?;
+    out.append(emulation.word())?;
     out.append(b"\n")
 }
 
 // Appends a header's row with its newline.
-fn append_header(binary: &[u8], out: &mut Text) -> Result<(), AllocError>
-    ensures { OnOk result (out.new ≡ out.old ++ print (row_pieces (header_pieces binary.now))) }
+fn append_header(binary: &[u8], out: &mut Text, emulation: Emulation) -> Result<(), AllocError>
+    ensures { OnOk result (out.new ≡ out.old ++ print (row_pieces (header_pieces binary.now emulation))) }
 {
     out.append(b"Policy: ")?;
     append_binary(binary, out)?;
-    append_emulation(out)
+    append_emulation(out, emulation)
 }
 
 // Appends the rows of filters.
-fn append_filters(filters: &Policy, out: &mut Text) -> Result<(), AllocError>
-    ensures { OnOk result (out.new ≡ out.old ++ print (flat_map (λ f. row_pieces (filter_pieces f)) filters.now)) }
+fn append_filters(filters: &Policy, out: &mut Text, emulation: Emulation) -> Result<(), AllocError>
+    ensures { OnOk result (out.new ≡ out.old ++ print (rows_pieces filters.now emulation)) }
 {
     for filter in filters.as_slice() {
-        append_filter(filter, out)?;
+        append_filter(filter, out, emulation)?;
         out.push(b'\n')?;
     }
     Ok(())
 }
 
-/// The canonical text of policies: for each a header and its filters in order, each in a row.
-pub fn print_policies(alloc: Global, set: &PolicySet) -> Result<Text, AllocError>
-    ensures { IfOk result (λ text. text ≡ canon set.now) }
+/// The canonical text of policies, by the names of an emulation: for each a header and its filters in order, each in a row.
+pub fn print_policies(
+    alloc: Global,
+    set: &PolicySet,
+    emulation: Emulation,
+) -> Result<Text, AllocError>
+    ensures { IfOk result (λ text. text ≡ canon set.now emulation) }
 {
     let mut out = Text::new(alloc);
     for i in 0..set.len() {
-        append_header(set.binary(i), &mut out)?;
-        append_filters(set.policy(i), &mut out)?;
+        append_header(set.binary(i), &mut out, emulation)?;
+        append_filters(set.policy(i), &mut out, emulation)?;
     }
     Ok(out)
 }

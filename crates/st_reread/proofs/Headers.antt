@@ -6,7 +6,9 @@ use Rattle.st_grammar.proofs.Common.{AreBytes, binary_of, is_word_text, IsHeader
 use Rattle.st_grammar.specs.declared.env.Env.{Env}
 use Rattle.st_lex.specs.Quote.{quoted}
 use Rattle.st_lex.proofs.Unquotes.{unquoted-quoted}
-use Rattle.st_calls.specs.Emulation.{emulation_word}
+use Rattle.st_emulation.specs.Words.{word_of}
+use Rattle.st_emulation.specs.declared.emulation.Emulation.{Emulation}
+use Rattle.st_emulation.specs.declared.emulation.Emulation.TheVariants.{Native, Linux}
 use Rattle.st_grammar.specs.Grammar.{if_absolute}
 use Rattle.st_printing.specs.Canon.{header_pieces}
 use Rattle.st_reread.proofs.Symbols.{piece_symbols, IsPrintable, ArePrintable}
@@ -35,12 +37,12 @@ pub readable_binary : (env : Env) (row : List Symbol) (binary : List ℕ) → Is
 readable_binary env row binary is p = readable_symbol env is.spelled binary (subst (ArePrintable env) is.parts p).1.1.0 is.binary_is
 
 -- a header's pieces, by whether its binary is a Word
-abbrev header_by : Bool → List ℕ → List Piece
-header_by b binary =
+abbrev header_by : Bool → List ℕ → Emulation → List Piece
+header_by b binary emulation =
     PlainWord (codes "Policy") ∷ Sign kind.Colon ∷ Space ∷ cond b (PlainWord binary) (QuotedText binary) ∷ Sign kind.Comma ∷ Space ∷
-    PlainWord (codes "Emulation") ∷ Sign kind.Colon ∷ Space ∷ PlainWord emulation_word ∷ []
+    PlainWord (codes "Emulation") ∷ Sign kind.Colon ∷ Space ∷ PlainWord (word_of emulation) ∷ []
 
-is_header_by : (env : Env) (b : Bool) (binary : List ℕ) → is_word_text binary ≡ b → IsReadableBinary binary → IsHeader env (piece_symbols (header_by b binary)) binary
+is_header_by : (env : Env) (b : Bool) (binary : List ℕ) → is_word_text binary ≡ b → IsReadableBinary binary → IsHeader env (piece_symbols (header_by b binary env.emulation)) binary
 is_header_by env true binary e r = record { spelled = Word binary; parts = refl; binary_is = r.absolute }
 is_header_by env false binary e r = record {
   spelled = Quoted (quoted binary);
@@ -48,12 +50,17 @@ is_header_by env false binary e r = record {
   binary_is = ap if_absolute (unquoted-quoted env.dollars binary (r.bytes e)) ∙ r.absolute;
 }
 
-pub is_header : (env : Env) (binary : List ℕ) → IsReadableBinary binary → IsHeader env (piece_symbols (header_pieces binary)) binary
+pub is_header : (env : Env) (binary : List ℕ) → IsReadableBinary binary → IsHeader env (piece_symbols (header_pieces binary env.emulation)) binary
 is_header env binary r = is_header_by env (is_word_text binary) binary refl r
 
-well_header_by : (b : Bool) (binary : List ℕ) → is_word_text binary ≡ b → IsReadableBinary binary → CanBeReadBack (header_by b binary)
-well_header_by true binary e r = (refl, tt, (refl, (e, tt, (refl, (refl, tt, (refl, (refl, tt, tt)))))))
-well_header_by false binary e r = (refl, tt, (refl, (r.bytes e, (refl, (refl, tt, (refl, (refl, tt, tt)))))))
+-- the word of an emulation is a Word
+pub emulation_is_word : (emulation : Emulation) → is_word_text (word_of emulation) ≡ true
+emulation_is_word Native = refl
+emulation_is_word Linux = refl
 
-pub well_header : (binary : List ℕ) → IsReadableBinary binary → CanBeReadBack (header_pieces binary)
-well_header binary r = well_header_by (is_word_text binary) binary refl r
+well_header_by : (b : Bool) (binary : List ℕ) (emulation : Emulation) → is_word_text binary ≡ b → IsReadableBinary binary → CanBeReadBack (header_by b binary emulation)
+well_header_by true binary emulation e r = (refl, tt, (refl, (e, tt, (refl, (refl, tt, (refl, (emulation_is_word emulation, tt, tt)))))))
+well_header_by false binary emulation e r = (refl, tt, (refl, (r.bytes e, (refl, (refl, tt, (refl, (emulation_is_word emulation, tt, tt)))))))
+
+pub well_header : (binary : List ℕ) (emulation : Emulation) → IsReadableBinary binary → CanBeReadBack (header_pieces binary emulation)
+well_header binary emulation r = well_header_by (is_word_text binary) binary emulation refl r

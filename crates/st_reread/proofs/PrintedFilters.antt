@@ -3,7 +3,7 @@ use Rattle.std.proofs.Common.{◌≡◌, List, ◌∷◌, ◌++◌, refl, ap, su
 use Rattle.st_grammar.proofs.Common.{Colon, FilterValue, IsFilter, Piece, CanBeReadBack, Symbol, Word}
 use Rattle.st_grammar.specs.declared.env.Env.{Env}
 use Rattle.st_lex.proofs.Pieces.{StandWell-append}
-use Rattle.st_calls.specs.Emulation.{emulation_prefix}
+use Rattle.st_emulation.specs.Words.{prefix_of}
 use Rattle.st_printing.specs.Canon.{condition_pieces, action_pieces, grant_pieces, log_pieces, predicate_pieces, call_word, filter_pieces}
 use Rattle.st_reread.specs.Readable.{HasSmallIds}
 use Rattle.st_reread.proofs.Names.{IsReadableName, readable_name}
@@ -12,7 +12,7 @@ use Rattle.st_reread.proofs.Symbols.{piece_symbols, piece_symbols-append, ArePri
 
 -- the printed text of the filter is read as this filter
 pub record IsReadableFilter (env : Env) (f : FilterValue) : Type 0 where
-  pub name : IsReadableName f.name
+  pub name : IsReadableName env.emulation f.name
   pub condition : IsReadableCondition f.name f.formula
   pub action : IsReadableAction env f.action
   pub grant : IsReadableGrant env f.name f.action f.grant
@@ -26,7 +26,7 @@ readable_filter env row f small is p =
     let b = ArePrintable-parts env (is.condition ++ is.action) is.tail a.0 in
     let c = ArePrintable-parts env is.condition is.action b.0 in
     record {
-      name = readable_name is.spelled f.name all.0 is.name_is;
+      name = readable_name env.emulation is.spelled f.name all.0 is.name_is;
       condition = readable_condition env f.name is.condition_is c.0;
       action = readable_action env is.action_is;
       grant = readable_grant env f.name f.action small is.tail_is;
@@ -40,14 +40,14 @@ parted c a g l p =
     ∙ piece_symbols-append ((c ++ a) ++ (g ++ l)) p
     ∙ ap (λ (ts : List Symbol). ts ++ piece_symbols p) (piece_symbols-append (c ++ a) (g ++ l) ∙ ap (λ (ts : List Symbol). ts ++ piece_symbols (g ++ l)) (piece_symbols-append c a))
 
-pub is_filter : (env : Env) (f : FilterValue) → IsReadableFilter env f → IsFilter env (piece_symbols (filter_pieces f)) f
+pub is_filter : (env : Env) (f : FilterValue) → IsReadableFilter env f → IsFilter env (piece_symbols (filter_pieces f env.emulation)) f
 is_filter env f r = record {
-  spelled = emulation_prefix ++ call_word f.name;
+  spelled = prefix_of env.emulation ++ call_word f.name;
   condition = piece_symbols (condition_pieces f.formula);
   action = piece_symbols (action_pieces f.action);
   tail = piece_symbols (grant_pieces f.grant ++ log_pieces f.log);
   predicate = piece_symbols (predicate_pieces f.predicate);
-  parts = ap (λ (ts : List Symbol). Word (emulation_prefix ++ call_word f.name) ∷ Colon ∷ ts) (parted (condition_pieces f.formula) (action_pieces f.action) (grant_pieces f.grant) (log_pieces f.log) (predicate_pieces f.predicate));
+  parts = ap (λ (ts : List Symbol). Word (prefix_of env.emulation ++ call_word f.name) ∷ Colon ∷ ts) (parted (condition_pieces f.formula) (action_pieces f.action) (grant_pieces f.grant) (log_pieces f.log) (predicate_pieces f.predicate));
   name_is = r.name.is_read;
   condition_is = is_condition env f.name f.formula r.condition;
   action_is = is_action env f.action r.action;
@@ -55,7 +55,7 @@ is_filter env f r = record {
   predicate_is = is_predicate env f.predicate r.predicate;
 }
 
-pub well_filter : (env : Env) (f : FilterValue) → IsReadableFilter env f → CanBeReadBack (filter_pieces f)
+pub well_filter : (env : Env) (f : FilterValue) → IsReadableFilter env f → CanBeReadBack (filter_pieces f env.emulation)
 well_filter env f r =
     let a : CanBeReadBack (condition_pieces f.formula ++ action_pieces f.action) = well_condition f.name f.formula (action_pieces f.action) r.condition (well_action f.action) in
     let g = StandWell-append (condition_pieces f.formula ++ action_pieces f.action) (grant_pieces f.grant) a (well_grant env f.name f.action f.grant r.grant) (apart_grant f.grant) in

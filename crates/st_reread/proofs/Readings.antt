@@ -36,18 +36,18 @@ readable_set env small plain (After text old set bytes was reads) =
     more_read env text old set small (printable_symbols env text plain bytes) (readable_set env small plain was) reads
 
 -- the canonical text of a readable set is read as this set
-pub readable-reads : (env : Env) (set : List BinaryPolicy) → IsReadable env set → Reads (canon set) env [] set
+pub readable-reads : (env : Env) (set : List BinaryPolicy) → IsReadable env set → Reads (canon set env.emulation) env [] set
 readable-reads env set r =
-    let well : CanBeReadBack (set_pieces set) = well_set env set r.each in
+    let well : CanBeReadBack (set_pieces set env.emulation) = well_set env set r.each in
     record {
-      whole = (print_is_read (set_pieces set) well).faultless;
+      whole = (print_is_read (set_pieces set env.emulation) well).faultless;
       policies = set;
-      rows = subst (λ (ts : List Symbol). AreRows env (ts ++ Line ∷ []) set) (sym (symbols_in-print (set_pieces set) well)) (are_rows env set r.each);
+      rows = subst (λ (ts : List Symbol). AreRows env (ts ++ Line ∷ []) set) (sym (symbols_in-print (set_pieces set env.emulation) well)) (are_rows env set r.each);
       set_is = refl;
       new = r.new;
       few = r.few;
     }
 
 -- the canonical text of policies that were read is read as these policies
-pub canon-reads : (env : Env) (set : List BinaryPolicy) → WasRead env set → HasPlainDollars env → HasSmallIds env → Reads (canon set) env [] set
+pub canon-reads : (env : Env) (set : List BinaryPolicy) → WasRead env set → HasPlainDollars env → HasSmallIds env → Reads (canon set env.emulation) env [] set
 canon-reads env set was plain small = readable-reads env set (readable_set env small plain was)

@@ -6,7 +6,7 @@ ghost use Rattle.st_printing.specs.Canon.{canon};
 ghost use Rattle.st_reread.specs.Readable.{WasRead, HasPlainDollars, HasSmallIds};
 
 /// The canonical text of policies that were read is read again as the same policies, with the names, ids and texts that they were read
-/// with, if the three texts have no zero byte and ids have 32 bits.
+/// with, and by the names of the same emulation, if the three texts have no zero byte and ids have 32 bits.
 pub fn printed_policies_are_read_again()
-    ensures { (env : Env) (set : List BinaryPolicy) → WasRead env set → HasPlainDollars env → HasSmallIds env → Reads (canon set) env [] set }
+    ensures { (env : Env) (set : List BinaryPolicy) → WasRead env set → HasPlainDollars env → HasSmallIds env → Reads (canon set env.emulation) env [] set }
 {}

@@ -13,6 +13,6 @@ pub returns : goal.returns
 returns c =
     let i = c.args.input.now in
     let session = c.args.session.now in
-    IfOk-weaker c.print_learnt.result (λ text. text ≡ canon (learnt_policies i.policies (version_of session.reloads) session.changed session.filters)) (λ text. (trace : List Entry) → IsSessionIn (looking_back i (reverse trace)) session → text ≡ policy_text i trace)
-    (λ text is trace (kept : IsSessionIn (looking_back i (reverse trace)) session). is ∙ (λ k. canon (learnt_policies i.policies (λ (binary : List ℕ). kept.versions binary k) (kept.changed k) (kept.filters k))))
+    IfOk-weaker c.print_learnt.result (λ text. text ≡ canon (learnt_policies i.policies (version_of session.reloads) session.changed session.filters) c.args.emulation) (λ text. (trace : List Entry) → IsSessionIn (looking_back i (reverse trace)) session → text ≡ policy_text i trace c.args.emulation)
+    (λ text is trace (kept : IsSessionIn (looking_back i (reverse trace)) session). is ∙ (λ k. canon (learnt_policies i.policies (λ (binary : List ℕ). kept.versions binary k) (kept.changed k) (kept.filters k)) c.args.emulation))
     c.print_learnt.ensures

@@ -4,4 +4,4 @@ use Rattle.st_printing.proofs.print.print_policies.Given as goal
 
 -- the policies so far are printed
 abbrev pub invariant-loop-i : goal.invariant-loop-i
-invariant-loop-i l = l.out ≡ canon (take l.i l.set)
+invariant-loop-i l = l.out ≡ canon (take l.i l.set) l.emulation
