@@ -1,14 +1,14 @@
 -- Words spell exactly the command that is read from them.
-use Rattle.std.proofs.Common.{◌≡◌, ◌≢◌, ℕ, ◌≤◌, arith, decimal, Bool, true, false, ◌&&◌, ◌==◌, not, if◌then◌else◌, nat_le, List, [], ◌∷◌, ◌++◌, codes, Option, Some, None, option_map, refl, ap, sym, ◌∙◌, subst, leb-true, le-leb}
+use Rattle.std.proofs.Common.{◌≡◌, ◌≢◌, ℕ, ◌≤◌, arith, Bool, true, false, ◌&&◌, ◌==◌, not, if◌then◌else◌, nat_le, List, [], ◌∷◌, ◌++◌, codes, Option, Some, None, option_map, refl, ap, sym, ◌∙◌, subst, leb-true, le-leb}
 use Rattle.std.proofs.lemmas.Bool.{and_parts, and_from, eqb-true}
 use Rattle.std.proofs.lemmas.Slice.Eq.{bytes_eq-Decides}
 use Rattle.std.specs.Prelude.{IfSome}
 use Rattle.std.specs.List.{list_all}
 use Rattle.std.specs.Str.{bytes_eq}
 use Rattle.st_command.specs.Words.{Word, has_dash, rounds_in}
-use Rattle.st_command.specs.Given.{GivenOption, PolicyFile, ModeIs, Inherits, Unaliased, IdsAre, WorkersAre, PrintIs, all_spelled, AreWithin, count_of, options_in}
-use Rattle.st_command.specs.Command.{RunWords, CheckWords, step_words, replay_words, run_words, run_with, run_in, gen_in, single_kinds, may_be_given, may_be_replayed, step_with, step_in, replay_with, replay_in, check_with, check_in}
-use Rattle.st_command.specs.Grammar.{MayBeGiven, SpellsStep, SpellsReplay, SpellsRun, SpellsGen, ids_spelled, IdsFit, maybe_word, MayBeOperand, SpellsCheck, SpellsCommand}
+use Rattle.st_command.specs.Given.{GivenOption, all_spelled, AreWithin, count_of, options_in}
+use Rattle.st_command.specs.Command.{RunWords, step_words, replay_words, run_words, check_words, run_with, run_in, gen_in, single_kinds, unchecked_kinds, may_be_given, may_be_replayed, may_be_checked, step_with, step_in, replay_with, replay_in, check_with, check_in}
+use Rattle.st_command.specs.Grammar.{MayBeGiven, SpellsStep, SpellsReplay, SpellsRun, SpellsGen, maybe_word, MayBeOperand, SpellsCheck, SpellsCommand}
 use Rattle.st_command.specs.Reading.{command_in, run_of_words, gen_of_words}
 use Rattle.st_command.specs.declared.command.Command.{Command}
 use Rattle.st_command.specs.declared.command.Command.TheVariants as command
@@ -27,25 +27,27 @@ may_from given may =
     and_from _ _ (once kind.Unaliased (λ e. cc)) (
     and_from _ _ (once kind.Ids (λ e. cc)) (
     and_from _ _ (once kind.Workers (λ e. cc)) (
-    and_from _ _ (once kind.Print (λ e. cc)) refl))))))
+    and_from _ _ (once kind.Print (λ e. cc)) (
+    and_from _ _ (once kind.Linux (λ e. cc)) refl)))))))
   where
     once : (k : Kind) → k ≢ kind.Policy → nat_le (count_of k given) 1 ≡ true
     once k other = le-leb (count_of k given) 1 (may.once k other)
 
-six_parts : (a b c d e f : Bool) → (a && (b && (c && (d && (e && (f && true)))))) ≡ true → (a ≡ true) × (b ≡ true) × (c ≡ true) × (d ≡ true) × (e ≡ true) × (f ≡ true)
-six_parts a b c d e f h =
-    let p = and_parts a (b && (c && (d && (e && (f && true))))) h in
-    let q = and_parts b (c && (d && (e && (f && true)))) p.1 in
-    let r = and_parts c (d && (e && (f && true))) q.1 in
-    let s = and_parts d (e && (f && true)) r.1 in
-    let t = and_parts e (f && true) s.1 in
-    (p.0, q.0, r.0, s.0, t.0, (and_parts f true t.1).0)
+seven_parts : (a b c d e f g : Bool) → (a && (b && (c && (d && (e && (f && (g && true))))))) ≡ true → (a ≡ true) × (b ≡ true) × (c ≡ true) × (d ≡ true) × (e ≡ true) × (f ≡ true) × (g ≡ true)
+seven_parts a b c d e f g h =
+    let p = and_parts a (b && (c && (d && (e && (f && (g && true)))))) h in
+    let q = and_parts b (c && (d && (e && (f && (g && true))))) p.1 in
+    let r = and_parts c (d && (e && (f && (g && true)))) q.1 in
+    let s = and_parts d (e && (f && (g && true))) r.1 in
+    let t = and_parts e (f && (g && true)) s.1 in
+    let u = and_parts f (g && true) t.1 in
+    (p.0, q.0, r.0, s.0, t.0, u.0, (and_parts g true u.1).0)
 
 abbrev is_single : List GivenOption → Kind → Bool
 is_single given k = nat_le (count_of k given) 1
 
-single_parts : (given : List GivenOption) → list_all (is_single given) single_kinds ≡ true → (is_single given kind.Mode ≡ true) × (is_single given kind.Inherit ≡ true) × (is_single given kind.Unaliased ≡ true) × (is_single given kind.Ids ≡ true) × (is_single given kind.Workers ≡ true) × (is_single given kind.Print ≡ true)
-single_parts given h = six_parts (is_single given kind.Mode) (is_single given kind.Inherit) (is_single given kind.Unaliased) (is_single given kind.Ids) (is_single given kind.Workers) (is_single given kind.Print) h
+single_parts : (given : List GivenOption) → list_all (is_single given) single_kinds ≡ true → (is_single given kind.Mode ≡ true) × (is_single given kind.Inherit ≡ true) × (is_single given kind.Unaliased ≡ true) × (is_single given kind.Ids ≡ true) × (is_single given kind.Workers ≡ true) × (is_single given kind.Print ≡ true) × (is_single given kind.Linux ≡ true)
+single_parts given h = seven_parts (is_single given kind.Mode) (is_single given kind.Inherit) (is_single given kind.Unaliased) (is_single given kind.Ids) (is_single given kind.Workers) (is_single given kind.Print) (is_single given kind.Linux) h
 
 single_of : (given : List GivenOption) → list_all (is_single given) single_kinds ≡ true → (k : Kind) → k ≢ kind.Policy → count_of k given ≤ 1
 single_of given h kind.Policy other = absurd (other refl)
@@ -55,6 +57,7 @@ single_of given h kind.Unaliased other = leb-true (count_of kind.Unaliased given
 single_of given h kind.Ids other = leb-true (count_of kind.Ids given) 1 (single_parts given h).3
 single_of given h kind.Workers other = leb-true (count_of kind.Workers given) 1 (single_parts given h).4
 single_of given h kind.Print other = leb-true (count_of kind.Print given) 1 (single_parts given h).5
+single_of given h kind.Linux other = leb-true (count_of kind.Linux given) 1 (single_parts given h).6
 
 to_may : (given : List GivenOption) → may_be_given given ≡ true → MayBeGiven given
 to_may given may =
@@ -90,22 +93,31 @@ run_of_spelled words run is = ap run_of_words is.words_are ∙ run_read is.given
 gen_of_spelled : (words : List Word) (rounds : ℕ) → SpellsGen words rounds → gen_of_words words ≡ Some rounds
 gen_of_spelled words rounds is = ap gen_of_words is.words_are ∙ positive_in-decimal 512 rounds (omega (arith, is.most)) is.least is.most
 
-ids_given : Option (ℕ × ℕ) → List GivenOption
-ids_given None = []
-ids_given (Some ids) = IdsAre ids.0 ids.1 ∷ []
+is_none : (k : Kind) (given : List GivenOption) → count_of k given ≡ 0 → (count_of k given == 0) ≡ true
+is_none k given none = ap (λ n. n == 0) none
 
-abbrev check_words : Word → Option Word → Option (ℕ × ℕ) → CheckWords
-check_words policy script ids = record { policy = policy; script = script; ids = ids }
+checked_from : (given : List GivenOption) → MayBeGiven given → ((k : Kind) → k ≢ kind.Ids → k ≢ kind.Linux → count_of k given ≡ 0) → may_be_checked given ≡ true
+checked_from given may none =
+    and_from _ _ (may_from given may) (
+    and_from _ _ (is_none kind.Policy given (none kind.Policy (λ e. cc) (λ e. cc))) (
+    and_from _ _ (is_none kind.Mode given (none kind.Mode (λ e. cc) (λ e. cc))) (
+    and_from _ _ (is_none kind.Inherit given (none kind.Inherit (λ e. cc) (λ e. cc))) (
+    and_from _ _ (is_none kind.Unaliased given (none kind.Unaliased (λ e. cc) (λ e. cc))) (
+    and_from _ _ (is_none kind.Workers given (none kind.Workers (λ e. cc) (λ e. cc))) (
+    and_from _ _ (is_none kind.Print given (none kind.Print (λ e. cc) (λ e. cc))) refl))))))
 
-with_read : (ids : Option (ℕ × ℕ)) (policy : Word) (script : Option Word) → has_dash policy ≡ false → MayBeOperand script → check_with ids (policy ∷ maybe_word script) ≡ Some (check_words policy script ids)
-with_read ids policy None one two = rw one refl
-with_read ids policy (Some script) one two = rw (one, two) refl
+with_read : (given : List GivenOption) (policy : Word) (script : Option Word) → may_be_checked given ≡ true → has_dash policy ≡ false → MayBeOperand script →
+    check_with given (policy ∷ maybe_word script) ≡ Some (check_words given policy script)
+with_read given policy None may one two =
+    ap (λ (b : Bool). if b then Some (check_words given policy None) else None) (and_from _ _ (ap not one) may)
+with_read given policy (Some script) may one two =
+    ap (λ (b : Bool). if b then Some (check_words given policy (Some script)) else None) (and_three (has_dash policy) (has_dash script) (may_be_checked given) one two may)
 
-check_read : (ids : Option (ℕ × ℕ)) (policy : Word) (script : Option Word) → IdsFit ids → has_dash policy ≡ false → MayBeOperand script → command_in (codes "check" ∷ (ids_spelled ids ++ policy ∷ maybe_word script)) ≡ Some (command.Check (check_words policy script ids))
-check_read None policy script fit one two =
-    ap (λ taken. option_map command.Check (check_in taken)) (all_options [] policy (maybe_word script) tt one) ∙ ap (option_map command.Check) (with_read None policy script one two)
-check_read (Some ids) policy script fit one two =
-    ap (λ taken. option_map command.Check (check_in taken)) (all_options (IdsAre ids.0 ids.1 ∷ []) policy (maybe_word script) (fit, tt) one) ∙ ap (option_map command.Check) (with_read (Some ids) policy script one two)
+check_read : (given : List GivenOption) (policy : Word) (script : Option Word) → AreWithin given → may_be_checked given ≡ true → has_dash policy ≡ false → MayBeOperand script →
+    command_in (codes "check" ∷ (all_spelled given ++ policy ∷ maybe_word script)) ≡ Some (command.Check (check_words given policy script))
+check_read given policy script within may one two =
+    ap (λ taken. option_map command.Check (check_in taken)) (all_options given policy (maybe_word script) within one) ∙
+    ap (option_map command.Check) (with_read given policy script may one two)
 
 read_of_spelled : (words : List Word) (c : Command) → SpellsCommand words c → command_in words ≡ Some c
 read_of_spelled words (command.Step step) is =
@@ -113,7 +125,9 @@ read_of_spelled words (command.Step step) is =
 read_of_spelled words (command.Replay replay) is =
     ap command_in is.words_are ∙ replay_read is.given replay.script replay.trace is.within is.together is.no_print is.script is.trace ∙ ap (λ r. Some (command.Replay r)) (sym is.asked)
 read_of_spelled words (command.Check check) is =
-    ap command_in is.words_are ∙ check_read check.ids check.policy check.script is.ids is.policy is.script
+    ap command_in is.words_are ∙
+    check_read is.given check.policy check.script is.within (checked_from is.given is.together is.no_more) is.policy is.script ∙
+    ap (λ c. Some (command.Check c)) (sym is.asked)
 
 -- ---- what is read is spelled
 
@@ -187,27 +201,51 @@ gen_spelled (word ∷ []) = of_number (rounds_in word) (positive_in-sound 512 wo
     of_number None is = tt
 gen_spelled (a ∷ b ∷ rest) = tt
 
-with_spelled : (ids : Option (ℕ × ℕ)) (rest words : List Word) → words ≡ ids_spelled ids ++ rest → IdsFit ids → IfSome (check_with ids rest) (SpellsCheck (codes "check" ∷ words))
-with_spelled ids [] words are fit = tt
-with_spelled ids (policy ∷ []) words are fit =
-    if_some (SpellsCheck (codes "check" ∷ words)) (not (has_dash policy)) (Some (check_words policy None ids)) (λ p.
-    record { ids = fit; policy = no_dash (has_dash policy) p; script = tt; words_are = ap (λ ws. codes "check" ∷ ws) are })
-with_spelled ids (policy ∷ script ∷ []) words are fit =
-    if_some (SpellsCheck (codes "check" ∷ words)) (not (has_dash policy) && not (has_dash script)) (Some (check_words policy (Some script) ids)) (λ both.
-    let p : ((not (has_dash policy) ≡ true) × (not (has_dash script) ≡ true)) = and_parts (not (has_dash policy)) (not (has_dash script)) both in
-    record { ids = fit; policy = no_dash (has_dash policy) p.0; script = no_dash (has_dash script) p.1; words_are = ap (λ ws. codes "check" ∷ ws) are })
-with_spelled ids (a ∷ b ∷ c ∷ rest) words are fit = tt
+abbrev has_none : List GivenOption → Kind → Bool
+has_none given k = count_of k given == 0
 
-check_spelled : (given : List GivenOption) (rest words : List Word) → words ≡ all_spelled given ++ rest → AreWithin given → IfSome (check_in record { given = given; rest = rest }) (SpellsCheck (codes "check" ∷ words))
-check_spelled [] rest words are within = with_spelled None rest words are tt
-check_spelled (IdsAre uid gid ∷ []) rest words are within = with_spelled (Some (uid, gid)) rest words are within.0
-check_spelled (PolicyFile name ∷ []) rest words are within = tt
-check_spelled (ModeIs mode ∷ []) rest words are within = tt
-check_spelled (Inherits ∷ []) rest words are within = tt
-check_spelled (Unaliased ∷ []) rest words are within = tt
-check_spelled (WorkersAre count ∷ []) rest words are within = tt
-check_spelled (PrintIs print ∷ []) rest words are within = tt
-check_spelled (a ∷ b ∷ given) rest words are within = tt
+unchecked_parts : (given : List GivenOption) → list_all (has_none given) unchecked_kinds ≡ true → (has_none given kind.Policy ≡ true) × (has_none given kind.Mode ≡ true) × (has_none given kind.Inherit ≡ true) × (has_none given kind.Unaliased ≡ true) × (has_none given kind.Workers ≡ true) × (has_none given kind.Print ≡ true)
+unchecked_parts given h =
+    let parts = seven_parts true (has_none given kind.Policy) (has_none given kind.Mode) (has_none given kind.Inherit) (has_none given kind.Unaliased) (has_none given kind.Workers) (has_none given kind.Print) h in
+    (parts.1, parts.2, parts.3, parts.4, parts.5, parts.6)
+
+none_of : (given : List GivenOption) → list_all (has_none given) unchecked_kinds ≡ true → (k : Kind) → k ≢ kind.Ids → k ≢ kind.Linux → count_of k given ≡ 0
+none_of given h kind.Policy ids linux = eqb-true (count_of kind.Policy given) 0 (unchecked_parts given h).0
+none_of given h kind.Mode ids linux = eqb-true (count_of kind.Mode given) 0 (unchecked_parts given h).1
+none_of given h kind.Inherit ids linux = eqb-true (count_of kind.Inherit given) 0 (unchecked_parts given h).2
+none_of given h kind.Unaliased ids linux = eqb-true (count_of kind.Unaliased given) 0 (unchecked_parts given h).3
+none_of given h kind.Ids ids linux = absurd (ids refl)
+none_of given h kind.Workers ids linux = eqb-true (count_of kind.Workers given) 0 (unchecked_parts given h).4
+none_of given h kind.Print ids linux = eqb-true (count_of kind.Print given) 0 (unchecked_parts given h).5
+none_of given h kind.Linux ids linux = absurd (linux refl)
+
+is_spelled_check : (given : List GivenOption) (policy : Word) (script : Option Word) (words : List Word) → words ≡ all_spelled given ++ policy ∷ maybe_word script → AreWithin given → not (has_dash policy) ≡ true → MayBeOperand script →
+    may_be_checked given ≡ true → SpellsCheck (codes "check" ∷ words) (check_words given policy script)
+is_spelled_check given policy script words are within one two may =
+    let m : ((may_be_given given ≡ true) × (list_all (has_none given) unchecked_kinds ≡ true)) = and_parts (may_be_given given) (list_all (has_none given) unchecked_kinds) may in
+    record {
+      given = given;
+      within = within;
+      together = to_may given m.0;
+      no_more = none_of given m.1;
+      policy = no_dash (has_dash policy) one;
+      script = two;
+      words_are = ap (λ ws. codes "check" ∷ ws) are;
+      asked = refl;
+    }
+
+check_spelled : (given : List GivenOption) (rest words : List Word) → words ≡ all_spelled given ++ rest → AreWithin given → IfSome (check_with given rest) (SpellsCheck (codes "check" ∷ words))
+check_spelled given [] words are within = tt
+check_spelled given (policy ∷ []) words are within =
+    if_some (SpellsCheck (codes "check" ∷ words)) (not (has_dash policy) && may_be_checked given) (Some (check_words given policy None)) (λ all.
+    let p : ((not (has_dash policy) ≡ true) × (may_be_checked given ≡ true)) = and_parts (not (has_dash policy)) (may_be_checked given) all in
+    is_spelled_check given policy None words are within p.0 tt p.1)
+check_spelled given (policy ∷ script ∷ []) words are within =
+    if_some (SpellsCheck (codes "check" ∷ words)) (not (has_dash policy) && (not (has_dash script) && may_be_checked given)) (Some (check_words given policy (Some script))) (λ all.
+    let p : ((not (has_dash policy) ≡ true) × ((not (has_dash script) && may_be_checked given) ≡ true)) = and_parts (not (has_dash policy)) (not (has_dash script) && may_be_checked given) all in
+    let q : ((not (has_dash script) ≡ true) × (may_be_checked given ≡ true)) = and_parts (not (has_dash script)) (may_be_checked given) p.1 in
+    is_spelled_check given policy (Some script) words are within p.0 (no_dash (has_dash script) q.0) q.1)
+check_spelled given (a ∷ b ∷ c ∷ rest) words are within = tt
 
 named : (name known : Word) (words : List Word) (P : List Word → Type 0) → bytes_eq name known ≡ true → P (known ∷ words) → P (name ∷ words)
 named name known words P same p = subst (λ w. P (w ∷ words)) (sym ((bytes_eq-Decides name known).0 same)) p

@@ -3,7 +3,7 @@ use Rattle.std.proofs.Common.{◌≡◌, ℕ, suc, ◌≤◌, List, [], ◌∷�
 use Rattle.std.proofs.Math.Numerals.{one-add}
 use Rattle.std.specs.Prelude.{IfSome}
 use Rattle.st_command.specs.Words.{Word}
-use Rattle.st_command.specs.Given.{GivenOption, PolicyFile, ModeIs, Inherits, Unaliased, IdsAre, WorkersAre, PrintIs, AreWithin, count_of}
+use Rattle.st_command.specs.Given.{GivenOption, PolicyFile, ModeIs, Inherits, Unaliased, IdsAre, WorkersAre, PrintIs, EmulatesLinux, AreWithin, count_of}
 use Rattle.st_command.specs.Command.{RunWords, policies_of, workers_of}
 use Rattle.st_command.specs.Grammar.{SpellsCommand, SpellsRun, SpellsGen}
 use Rattle.st_command.specs.Reading.{command_in, run_of_words, gen_of_words, IsWithinLimits, IsRunWithinLimits}
@@ -21,6 +21,7 @@ policies_counted (Unaliased ∷ given) = omega (arith, policies_counted given)
 policies_counted (IdsAre uid gid ∷ given) = omega (arith, policies_counted given)
 policies_counted (WorkersAre count ∷ given) = omega (arith, policies_counted given)
 policies_counted (PrintIs print ∷ given) = omega (arith, policies_counted given)
+policies_counted (EmulatesLinux ∷ given) = omega (arith, policies_counted given)
 
 workers_within : (given : List GivenOption) → AreWithin given → (1 ≤ unwrap_or (workers_of given) 1) × (unwrap_or (workers_of given) 1 ≤ 8)
 workers_within [] within = (omega arith, omega arith)
@@ -31,6 +32,7 @@ workers_within (Unaliased ∷ given) within = workers_within given within.1
 workers_within (IdsAre uid gid ∷ given) within = workers_within given within.1
 workers_within (WorkersAre count ∷ given) within = within.0
 workers_within (PrintIs print ∷ given) within = workers_within given within.1
+workers_within (EmulatesLinux ∷ given) within = workers_within given within.1
 
 spelled_within : (words : List Word) (c : Command) → SpellsCommand words c → IsWithinLimits c
 spelled_within words (command.Step step) is =

@@ -7,7 +7,7 @@ use Rattle.std.specs.Str.{bytes_eq}
 use Rattle.st_law.specs.declared.input.Mode.{Mode}
 use Rattle.st_law.specs.declared.input.Mode.TheVariants.{Enforce, Learn, AskText}
 use Rattle.st_command.specs.Words.{Word, has_dash, ids_in, workers_in}
-use Rattle.st_command.specs.Given.{GivenOption, PolicyFile, ModeIs, Inherits, Unaliased, IdsAre, WorkersAre, PrintIs, mode_word, print_word, option_words, all_spelled, IsOptionWithin, AreWithin, alone, print_in, valued, TakenOptions, with_option, none_taken, options_in, next_option}
+use Rattle.st_command.specs.Given.{GivenOption, PolicyFile, ModeIs, Inherits, Unaliased, IdsAre, WorkersAre, PrintIs, EmulatesLinux, mode_word, print_word, option_words, all_spelled, IsOptionWithin, AreWithin, alone, print_in, valued, TakenOptions, with_option, none_taken, options_in, next_option}
 use Rattle.st_command.specs.declared.given.Print.{Print}
 use Rattle.st_command.specs.declared.given.Print.TheVariants.{Audit, Trace, Schedule, Policy}
 use Rattle.st_command.proofs.Numbers.{AreIds, ids_in-decimal, ids_in-sound, ArePositive, positive_in-decimal, positive_in-sound}
@@ -60,6 +60,7 @@ spelled_first (WorkersAre count) words within =
     valued_more (codes "-w") (decimal count) words (WorkersAre count) refl (ap (option_map WorkersAre) (positive_in-decimal 8 count (omega (arith, within.1)) within.0 within.1))
 spelled_first (PrintIs print) words within =
     valued_more (codes "--print") (print_word print) words (PrintIs print) refl (ap (option_map PrintIs) (print_in-word print))
+spelled_first EmulatesLinux words within = alone_more (codes "--linux") words EmulatesLinux refl
 
 -- options added before what is taken
 abbrev pub with_options : List GivenOption → TakenOptions → TakenOptions
@@ -86,7 +87,7 @@ unlike word known without with = false_from_ne_true (bytes_eq word known) (λ sa
 
 alone_none : (word : Word) → has_dash word ≡ false → alone word ≡ None
 alone_none word h =
-    rw (unlike word (codes "-A") h refl, unlike word (codes "-a") h refl, unlike word (codes "-t") h refl, unlike word (codes "-i") h refl, unlike word (codes "-u") h refl) refl
+    rw (unlike word (codes "-A") h refl, unlike word (codes "-a") h refl, unlike word (codes "-t") h refl, unlike word (codes "-i") h refl, unlike word (codes "-u") h refl, unlike word (codes "--linux") h refl) refl
 
 valued_none : (word value : Word) → has_dash word ≡ false → valued word value ≡ None
 valued_none word value h =
@@ -123,7 +124,8 @@ alone_sound word =
     pick P (bytes_eq word (codes "-a")) _ _ (λ same. (ap (λ w. w ∷ []) (same_word word (codes "-a") same), tt)) (
     pick P (bytes_eq word (codes "-t")) _ _ (λ same. (ap (λ w. w ∷ []) (same_word word (codes "-t") same), tt)) (
     pick P (bytes_eq word (codes "-i")) _ _ (λ same. (ap (λ w. w ∷ []) (same_word word (codes "-i") same), tt)) (
-    pick P (bytes_eq word (codes "-u")) _ _ (λ same. (ap (λ w. w ∷ []) (same_word word (codes "-u") same), tt)) tt))))
+    pick P (bytes_eq word (codes "-u")) _ _ (λ same. (ap (λ w. w ∷ []) (same_word word (codes "-u") same), tt)) (
+    pick P (bytes_eq word (codes "--linux")) _ _ (λ same. (ap (λ w. w ∷ []) (same_word word (codes "--linux") same), tt)) tt)))))
 
 print_sound : (word : Word) → IfSome (print_in word) (λ print. print_word print ≡ word)
 print_sound word =

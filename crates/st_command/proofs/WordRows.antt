@@ -1,12 +1,13 @@
 -- Examples of words that spell no command, and of words that are taken as they stand.
 use Rattle.std.proofs.Common.{◌≡◌, ℕ, List, [], ◌∷◌, codes, Option, Some, None, refl}
+use Rattle.st_emulation.specs.declared.emulation.Emulation.TheVariants.{Native, Linux}
 use Rattle.st_law.specs.declared.input.Mode.TheVariants.{Learn}
 use Rattle.st_command.specs.Words.{Word}
-use Rattle.st_command.specs.Given.{GivenOption, PolicyFile, ModeIs, Inherits, Unaliased, IdsAre, WorkersAre, PrintIs}
+use Rattle.st_command.specs.Given.{PolicyFile, ModeIs, Inherits, Unaliased, IdsAre, WorkersAre, PrintIs, EmulatesLinux}
 use Rattle.st_command.specs.Command.{RunWords, replay_words, run_words}
 use Rattle.st_command.specs.Reading.{command_in, run_of_words, gen_of_words}
 use Rattle.st_command.specs.declared.command.Command.{Command}
-use Rattle.st_command.specs.declared.command.Command.TheVariants.{Replay}
+use Rattle.st_command.specs.declared.command.Command.TheVariants.{Check, Replay}
 use Rattle.st_command.specs.declared.given.Print.TheVariants.{Trace}
 
 -- what words are read as: a command, a `run`, and the rounds of a `gen`
@@ -98,13 +99,49 @@ a_gen_with_an_option = refl
 a_gen_with_more : SpellNothing (codes "gen" ∷ codes "1" ∷ codes "2" ∷ [])
 a_gen_with_more = refl
 
+-- `gen` doesn't depend on the emulation
+a_gen_of_linux : SpellNothing (codes "gen" ∷ codes "--linux" ∷ codes "1" ∷ [])
+a_gen_of_linux = refl
+
+-- the emulation is given once, before the operands, and without a value
+linux_twice : SpellNothing (codes "step" ∷ codes "--linux" ∷ codes "-a" ∷ codes "--linux" ∷ codes "s" ∷ codes "c" ∷ [])
+linux_twice = refl
+
+linux_twice_of_check : SpellNothing (codes "check" ∷ codes "--linux" ∷ codes "--linux" ∷ codes "p" ∷ [])
+linux_twice_of_check = refl
+
+linux_after_the_script : SpellNothing (codes "run" ∷ codes "s" ∷ codes "--linux" ∷ [])
+linux_after_the_script = refl
+
+linux_with_a_value : SpellNothing (codes "replay" ∷ codes "--linux=1" ∷ codes "s" ∷ codes "t" ∷ [])
+linux_with_a_value = refl
+
+-- `check` has no mode, and ids once
+a_check_with_a_mode : SpellNothing (codes "check" ∷ codes "--linux" ∷ codes "-a" ∷ codes "p" ∷ [])
+a_check_with_a_mode = refl
+
+a_check_with_ids_twice : SpellNothing (codes "check" ∷ codes "-c" ∷ codes "1:2" ∷ codes "-c" ∷ codes "1:2" ∷ codes "p" ∷ [])
+a_check_with_ids_twice = refl
+
+-- `check` has ids and the emulation in any order
+a_check_of_linux : command_in (codes "check" ∷ codes "--linux" ∷ codes "-c" ∷ codes "1:2" ∷ codes "p" ∷ codes "s" ∷ []) ≡
+    Some (Check record { policy = codes "p"; script = Some (codes "s"); ids = Some (1, 2); emulation = Linux })
+a_check_of_linux = refl
+
+a_check_with_ids_first : command_in (codes "check" ∷ codes "-c" ∷ codes "1:2" ∷ codes "--linux" ∷ codes "p" ∷ []) ≡
+    Some (Check record { policy = codes "p"; script = None; ids = Some (1, 2); emulation = Linux })
+a_check_with_ids_first = refl
+
+a_native_check : command_in (codes "check" ∷ codes "p" ∷ []) ≡ Some (Check record { policy = codes "p"; script = None; ids = None; emulation = Native })
+a_native_check = refl
+
 -- every option may be given
-all_options : run_of_words (codes "run" ∷ codes "-f" ∷ codes "p" ∷ codes "-A" ∷ codes "-i" ∷ codes "-u" ∷ codes "-c" ∷ codes "1:2" ∷ codes "-w" ∷ codes "8" ∷ codes "--print" ∷ codes "trace" ∷ codes "s" ∷ []) ≡
-    Some (run_words (PolicyFile (codes "p") ∷ ModeIs Learn ∷ Inherits ∷ Unaliased ∷ IdsAre 1 2 ∷ WorkersAre 8 ∷ PrintIs Trace ∷ []) (codes "s"))
+all_options : run_of_words (codes "run" ∷ codes "-f" ∷ codes "p" ∷ codes "-A" ∷ codes "-i" ∷ codes "-u" ∷ codes "-c" ∷ codes "1:2" ∷ codes "-w" ∷ codes "8" ∷ codes "--print" ∷ codes "trace" ∷ codes "--linux" ∷ codes "s" ∷ []) ≡
+    Some (run_words (PolicyFile (codes "p") ∷ ModeIs Learn ∷ Inherits ∷ Unaliased ∷ IdsAre 1 2 ∷ WorkersAre 8 ∷ PrintIs Trace ∷ EmulatesLinux ∷ []) (codes "s"))
 all_options = refl
 
-a_replay_with_options : command_in (codes "replay" ∷ codes "-f" ∷ codes "p" ∷ codes "-A" ∷ codes "-w" ∷ codes "8" ∷ codes "s" ∷ codes "t" ∷ []) ≡
-    Some (Replay (replay_words (PolicyFile (codes "p") ∷ ModeIs Learn ∷ WorkersAre 8 ∷ []) (codes "s") (codes "t")))
+a_replay_with_options : command_in (codes "replay" ∷ codes "--linux" ∷ codes "-f" ∷ codes "p" ∷ codes "-A" ∷ codes "-w" ∷ codes "8" ∷ codes "s" ∷ codes "t" ∷ []) ≡
+    Some (Replay (replay_words (EmulatesLinux ∷ PolicyFile (codes "p") ∷ ModeIs Learn ∷ WorkersAre 8 ∷ []) (codes "s") (codes "t")))
 a_replay_with_options = refl
 
 -- an option's value may begin with a dash

@@ -1,23 +1,26 @@
 -- What the commands are asked to do.
-use Rattle.std.specs.Prelude.{ℕ, Bool, true, false, not, ◌&&◌, nat_le, nat_lt, ◌==◌, if◌then◌else◌, List, [], ◌∷◌, Option, Some, None, option_map, unwrap_or}
+use Rattle.std.specs.Prelude.{ℕ, Bool, true, false, not, ◌&&◌, nat_le, nat_lt, ◌==◌, if◌then◌else◌, List, [], ◌∷◌, Option, Some, None, unwrap_or}
 use Rattle.std.specs.List.{list_all}
+use Rattle.st_emulation.specs.declared.emulation.Emulation.{Emulation}
+use Rattle.st_emulation.specs.declared.emulation.Emulation.TheVariants.{Native, Linux}
 use Rattle.st_law.specs.declared.input.Mode.{Mode}
 use Rattle.st_law.specs.declared.input.Mode.TheVariants.{Enforce}
 use Rattle.st_law.specs.declared.input.Options.{Options}
 use Rattle.st_command.specs.Words.{Word, has_dash, rounds_in}
-use Rattle.st_command.specs.Given.{GivenOption, PolicyFile, ModeIs, IdsAre, WorkersAre, PrintIs, count_of, TakenOptions}
+use Rattle.st_command.specs.Given.{GivenOption, PolicyFile, ModeIs, IdsAre, WorkersAre, PrintIs, EmulatesLinux, count_of, TakenOptions}
 use Rattle.st_command.specs.declared.given.Kind.{Kind}
 use Rattle.st_command.specs.declared.given.Kind.TheVariants as kind
 use Rattle.st_command.specs.declared.given.Print.{Print}
 use Rattle.st_command.specs.declared.given.Print.TheVariants.{Audit}
 
--- what `step` is asked to do: the names of its files, the options of its run, and what is printed of the run
+-- what `step` is asked to do: the names of its files, the options of its run, what is printed of the run, and under which emulation
 pub record StepWords : Type 0 where
   pub policies : List Word
   pub script : Word
   pub schedule : Word
   pub options : Options
   pub print : Print
+  pub emulation : Emulation
 
 -- what `run` is asked to do: as `step`, but without a schedule
 pub record RunWords : Type 0 where
@@ -25,6 +28,7 @@ pub record RunWords : Type 0 where
   pub script : Word
   pub options : Options
   pub print : Print
+  pub emulation : Emulation
 
 -- what `replay` is asked to do: as `step`, but with a trace in place of a schedule, and nothing of the run is printed
 pub record ReplayWords : Type 0 where
@@ -32,12 +36,14 @@ pub record ReplayWords : Type 0 where
   pub script : Word
   pub trace : Word
   pub options : Options
+  pub emulation : Emulation
 
--- what `check` is asked to do: the names of its files, and the ids of `-c`
+-- what `check` is asked to do: the names of its files, the ids of `-c`, and the emulation
 pub record CheckWords : Type 0 where
   pub policy : Word
   pub script : Option Word
   pub ids : Option (ℕ × ℕ)
+  pub emulation : Emulation
 
 -- ---- what options say
 
@@ -69,6 +75,12 @@ option_print [] = None
 option_print (PrintIs print ∷ options) = Some print
 option_print (_ ∷ options) = option_print options
 
+-- the emulation: Linux if an option says so
+abbrev pub emulation_of : List GivenOption → Emulation
+emulation_of [] = Native
+emulation_of (EmulatesLinux ∷ options) = Linux
+emulation_of (_ ∷ options) = emulation_of options
+
 -- the options of a run: without a mode it denies what no filter decides, and it has one worker unless an option says otherwise
 abbrev pub options_of : List GivenOption → Options
 options_of given = record {
@@ -87,6 +99,7 @@ step_words given script schedule = record {
   schedule = schedule;
   options = options_of given;
   print = unwrap_or (option_print given) Audit;
+  emulation = emulation_of given;
 }
 
 -- what `run` is asked to do by these options and this operand
@@ -96,17 +109,28 @@ run_words given script = record {
   script = script;
   options = options_of given;
   print = unwrap_or (option_print given) Audit;
+  emulation = emulation_of given;
 }
 
 -- what `replay` is asked to do by these options and operands
 abbrev pub replay_words : List GivenOption → Word → Word → ReplayWords
-replay_words given script trace = record { policies = policies_of given; script = script; trace = trace; options = options_of given }
+replay_words given script trace = record {
+  policies = policies_of given;
+  script = script;
+  trace = trace;
+  options = options_of given;
+  emulation = emulation_of given;
+}
+
+-- what `check` is asked to do by these options and operands
+abbrev pub check_words : List GivenOption → Word → Option Word → CheckWords
+check_words given policy script = record { policy = policy; script = script; ids = ids_of given; emulation = emulation_of given }
 
 -- ---- the words after the command's name
 
 -- the kinds of options that may be given once
 abbrev pub single_kinds : List Kind
-single_kinds = kind.Mode ∷ kind.Inherit ∷ kind.Unaliased ∷ kind.Ids ∷ kind.Workers ∷ kind.Print ∷ []
+single_kinds = kind.Mode ∷ kind.Inherit ∷ kind.Unaliased ∷ kind.Ids ∷ kind.Workers ∷ kind.Print ∷ kind.Linux ∷ []
 
 -- whether options may be given together: at most 8 policy files, and each other kind once
 abbrev pub may_be_given : List GivenOption → Bool
@@ -150,22 +174,24 @@ abbrev pub gen_in : List Word → Option ℕ
 gen_in (word ∷ []) = rounds_in word
 gen_in _ = None
 
--- the ids of `check`, which has no other option
-abbrev pub check_ids : List GivenOption → Option (Option (ℕ × ℕ))
-check_ids [] = Some None
-check_ids (option ∷ []) = option_map Some (ids_of (option ∷ []))
-check_ids _ = None
+-- the kinds of options that `check` doesn't have
+abbrev pub unchecked_kinds : List Kind
+unchecked_kinds = kind.Policy ∷ kind.Mode ∷ kind.Inherit ∷ kind.Unaliased ∷ kind.Workers ∷ kind.Print ∷ []
 
--- what `check` is asked to do with these ids by the words after its options
-abbrev pub check_with : Option (ℕ × ℕ) → List Word → Option CheckWords
-check_with ids (policy ∷ []) = if not (has_dash policy) then Some (record { policy = policy; script = None; ids = ids }) else None
-check_with ids (policy ∷ script ∷ []) =
-    if not (has_dash policy) && not (has_dash script) then Some (record { policy = policy; script = Some script; ids = ids }) else None
-check_with ids _ = None
+-- whether options may be given together to `check`, which has `-c` and `--linux`
+abbrev pub may_be_checked : List GivenOption → Bool
+may_be_checked given = may_be_given given && list_all (λ kind. count_of kind given == 0) unchecked_kinds
+
+-- what `check` is asked to do by the words after its options
+abbrev pub check_with : List GivenOption → List Word → Option CheckWords
+check_with given (policy ∷ []) = if not (has_dash policy) && may_be_checked given then Some (check_words given policy None) else None
+check_with given (policy ∷ script ∷ []) =
+    if not (has_dash policy) && (not (has_dash script) && may_be_checked given) then Some (check_words given policy (Some script)) else None
+check_with given _ = None
 
 -- what `check` is asked to do by its options and the words after them
 abbrev pub check_in : TakenOptions → Option CheckWords
-check_in taken = elim (check_ids taken.given) [ Some ids ↦ check_with ids taken.rest | None ↦ None ]
+check_in taken = check_with taken.given taken.rest
 
 -- the options that the script of `check` is read with: the defaults, except for the ids
 abbrev pub check_options : CheckWords → Options

@@ -9,7 +9,8 @@ use Rattle.st_command.specs.declared.given.Kind.TheVariants as kind
 use Rattle.st_command.specs.declared.given.Print.{Print}
 use Rattle.st_command.specs.declared.given.Print.TheVariants.{Audit, Trace, Schedule, Policy}
 
--- an option: a policy file, a mode, that policies are inherited, that aliasing is off, ids, a number of workers, or what is printed
+-- an option: a policy file, a mode, that policies are inherited, that aliasing is off, ids, a number of workers, what is printed, or that
+-- the programs are those of Linux
 pub data GivenOption : Type 0 where
   PolicyFile : Word → GivenOption
   ModeIs : Mode → GivenOption
@@ -18,6 +19,7 @@ pub data GivenOption : Type 0 where
   IdsAre : ℕ → ℕ → GivenOption
   WorkersAre : ℕ → GivenOption
   PrintIs : Print → GivenOption
+  EmulatesLinux : GivenOption
 
 -- ---- how options are spelled
 
@@ -41,6 +43,7 @@ option_words Unaliased = codes "-u" ∷ []
 option_words (IdsAre uid gid) = codes "-c" ∷ (decimal uid ++ (codes ":" ++ decimal gid)) ∷ []
 option_words (WorkersAre count) = codes "-w" ∷ decimal count ∷ []
 option_words (PrintIs print) = codes "--print" ∷ print_word print ∷ []
+option_words EmulatesLinux = codes "--linux" ∷ []
 
 -- the words of options in order
 abbrev pub all_spelled : List GivenOption → List Word
@@ -69,6 +72,7 @@ is_option_of kind.Unaliased Unaliased = true
 is_option_of kind.Ids (IdsAre uid gid) = true
 is_option_of kind.Workers (WorkersAre count) = true
 is_option_of kind.Print (PrintIs print) = true
+is_option_of kind.Linux EmulatesLinux = true
 is_option_of _ _ = false
 
 -- how many options of a kind there are
@@ -86,6 +90,7 @@ alone word =
     else if bytes_eq word (codes "-t") then Some (ModeIs AskText)
     else if bytes_eq word (codes "-i") then Some Inherits
     else if bytes_eq word (codes "-u") then Some Unaliased
+    else if bytes_eq word (codes "--linux") then Some EmulatesLinux
     else None
 
 -- what is printed, by the word for it

@@ -1,14 +1,14 @@
 -- The grammar of the command line: which words spell which command.
 --
---     check [-c U:G] POLICY [SCRIPT]
+--     check {OPTION} POLICY [SCRIPT]
 --     step {OPTION} SCRIPT SCHEDULE
 --     replay {OPTION} SCRIPT TRACE
 --     run {OPTION} SCRIPT
 --     gen N
-use Rattle.std.specs.Prelude.{◌≡◌, ◌≢◌, ℕ, ◌<◌, ◌≤◌, ◌^◌, false, List, [], ◌∷◌, ◌++◌, codes, decimal, Option, Some, None}
+use Rattle.std.specs.Prelude.{◌≡◌, ◌≢◌, ℕ, ◌≤◌, false, List, [], ◌∷◌, ◌++◌, codes, decimal, Option, Some, None}
 use Rattle.st_command.specs.Words.{Word, has_dash}
-use Rattle.st_command.specs.Given.{GivenOption, IdsAre, option_words, all_spelled, AreWithin, count_of}
-use Rattle.st_command.specs.Command.{StepWords, ReplayWords, RunWords, CheckWords, step_words, replay_words, run_words}
+use Rattle.st_command.specs.Given.{GivenOption, all_spelled, AreWithin, count_of}
+use Rattle.st_command.specs.Command.{StepWords, ReplayWords, RunWords, CheckWords, step_words, replay_words, run_words, check_words}
 use Rattle.st_command.specs.declared.command.Command.{Command}
 use Rattle.st_command.specs.declared.command.Command.TheVariants as command
 use Rattle.st_command.specs.declared.given.Kind.{Kind}
@@ -55,16 +55,6 @@ pub record SpellsGen (words : List Word) (rounds : ℕ) : Type 0 where
   pub most : rounds ≤ 512
   pub words_are : words ≡ codes "gen" ∷ decimal rounds ∷ []
 
--- the words of ids, if they are given
-abbrev pub ids_spelled : Option (ℕ × ℕ) → List Word
-ids_spelled None = []
-ids_spelled (Some ids) = option_words (IdsAre ids.0 ids.1)
-
--- ids are within their bounds
-abbrev pub IdsFit : Option (ℕ × ℕ) → Type 0
-IdsFit None = Unit {0}
-IdsFit (Some ids) = (ids.0 < 2 ^ 32) × (ids.1 < 2 ^ 32)
-
 -- the word of an operand that may be left out, if it is given
 abbrev pub maybe_word : Option Word → List Word
 maybe_word None = []
@@ -74,12 +64,16 @@ abbrev pub MayBeOperand : Option Word → Type 0
 MayBeOperand None = Unit {0}
 MayBeOperand (Some word) = has_dash word ≡ false
 
--- words are `check`, optional ids, a policy, and an optional script
+-- words are `check`, optional ids and emulation in any order, a policy, and an optional script
 pub record SpellsCheck (words : List Word) (check : CheckWords) : Type 0 where
-  pub ids : IdsFit check.ids
+  pub given : List GivenOption
+  pub within : AreWithin given
+  pub together : MayBeGiven given
+  pub no_more : (k : Kind) → k ≢ kind.Ids → k ≢ kind.Linux → count_of k given ≡ 0
   pub policy : has_dash check.policy ≡ false
   pub script : MayBeOperand check.script
-  pub words_are : words ≡ codes "check" ∷ (ids_spelled check.ids ++ check.policy ∷ maybe_word check.script)
+  pub words_are : words ≡ codes "check" ∷ (all_spelled given ++ check.policy ∷ maybe_word check.script)
+  pub asked : check ≡ check_words given check.policy check.script
 
 -- words spell a command
 abbrev pub SpellsCommand : List Word → Command → Type 0

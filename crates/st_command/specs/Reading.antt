@@ -3,7 +3,7 @@ use Rattle.std.specs.Prelude.{ℕ, ◌≤◌, if◌then◌else◌, List, [], ◌
 use Rattle.std.specs.Str.{bytes_eq}
 use Rattle.std.specs.Borrow.{Bor}
 use Rattle.st_command.specs.Words.{Word}
-use Rattle.st_command.specs.Given.{GivenOption, PolicyFile, ModeIs, Inherits, Unaliased, IdsAre, WorkersAre, PrintIs, options_in}
+use Rattle.st_command.specs.Given.{GivenOption, PolicyFile, ModeIs, Inherits, Unaliased, IdsAre, WorkersAre, PrintIs, EmulatesLinux, options_in}
 use Rattle.st_command.specs.Command.{RunWords, check_in, step_in, replay_in, run_in, gen_in}
 use Rattle.st_command.specs.declared.command.Command.{Command}
 use Rattle.st_command.specs.declared.command.Command.TheVariants as command
@@ -52,6 +52,7 @@ option_value given.Unaliased = Unaliased
 option_value (given.Ids uid gid) = IdsAre uid gid
 option_value (given.Workers count) = WorkersAre count
 option_value (given.Print print) = PrintIs print
+option_value given.Linux = EmulatesLinux
 
 -- the abstract values of an option of the code and of the words after it
 abbrev pub shown_next : Given × Bor (List Word) → GivenOption × List Word

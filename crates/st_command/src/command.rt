@@ -3,6 +3,7 @@ ghost use Rattle.st_command.specs.Command.{check_options};
 
 use crate::given::Print;
 use st_base::{Sequence, Text};
+use st_emulation::Emulation;
 use st_law::{Mode, Options};
 use std::marker::Model;
 
@@ -15,6 +16,7 @@ pub struct StepWords<'a> {
     pub schedule: &'a Text,
     pub options: Options,
     pub print: Print,
+    pub emulation: Emulation,
 }
 
 impl<'a> Model for StepWords<'a> {
@@ -23,7 +25,7 @@ impl<'a> Model for StepWords<'a> {
 
     ghost Value = { command.StepWords };
 
-    ghost view = { λ s. record { policies = map (λ name. name.now) s.policies; script = s.script.now; schedule = s.schedule.now; options = s.options; print = s.print } };
+    ghost view = { λ s. record { policies = map (λ name. name.now) s.policies; script = s.script.now; schedule = s.schedule.now; options = s.options; print = s.print; emulation = s.emulation } };
 }
 
 /// What `replay` is asked to do.
@@ -34,6 +36,7 @@ pub struct ReplayWords<'a> {
     pub script: &'a Text,
     pub trace: &'a Text,
     pub options: Options,
+    pub emulation: Emulation,
 }
 
 impl<'a> Model for ReplayWords<'a> {
@@ -42,7 +45,7 @@ impl<'a> Model for ReplayWords<'a> {
 
     ghost Value = { command.ReplayWords };
 
-    ghost view = { λ r. record { policies = map (λ name. name.now) r.policies; script = r.script.now; trace = r.trace.now; options = r.options } };
+    ghost view = { λ r. record { policies = map (λ name. name.now) r.policies; script = r.script.now; trace = r.trace.now; options = r.options; emulation = r.emulation } };
 }
 
 /// What `run` is asked to do.
@@ -53,6 +56,7 @@ pub struct RunWords<'a> {
     pub script: &'a Text,
     pub options: Options,
     pub print: Print,
+    pub emulation: Emulation,
 }
 
 impl<'a> Model for RunWords<'a> {
@@ -61,7 +65,7 @@ impl<'a> Model for RunWords<'a> {
 
     ghost Value = { command.RunWords };
 
-    ghost view = { λ r. record { policies = map (λ name. name.now) r.policies; script = r.script.now; options = r.options; print = r.print } };
+    ghost view = { λ r. record { policies = map (λ name. name.now) r.policies; script = r.script.now; options = r.options; print = r.print; emulation = r.emulation } };
 }
 
 /// What `check` is asked to do.
@@ -71,6 +75,7 @@ pub struct CheckWords<'a> {
     pub script: Option<&'a Text>,
     /// The ids of `-c`, with which filters may grant ids.
     pub ids: Option<(u32, u32)>,
+    pub emulation: Emulation,
 }
 
 impl<'a> Model for CheckWords<'a> {
@@ -79,7 +84,7 @@ impl<'a> Model for CheckWords<'a> {
 
     ghost Value = { command.CheckWords };
 
-    ghost view = { λ c. record { policy = c.policy.now; script = option_copied c.script; ids = c.ids } };
+    ghost view = { λ c. record { policy = c.policy.now; script = option_copied c.script; ids = c.ids; emulation = c.emulation } };
 }
 
 impl CheckWords<'_> {
@@ -100,7 +105,7 @@ impl CheckWords<'_> {
 /// A command that words spell.
 #[derive(Debug, Drop)]
 pub enum Command<'a> {
-    /// `check [-c U:G] POLICY [SCRIPT]`
+    /// `check OPTIONS POLICY [SCRIPT]`
     Check(CheckWords<'a>),
     /// `step OPTIONS SCRIPT SCHEDULE`
     Step(StepWords<'a>),

@@ -1,10 +1,11 @@
 ghost use Rattle.std.specs.Prelude.{◌≡◌, map, option_map, IfOk};
 ghost use Rattle.st_command.specs.Given.{alone, valued, print_in, is_option_of, count_of};
-ghost use Rattle.st_command.specs.Command.{policies_of, mode_of, ids_of, workers_of, option_print};
+ghost use Rattle.st_command.specs.Command.{policies_of, mode_of, ids_of, workers_of, option_print, emulation_of};
 ghost use Rattle.st_command.specs.Reading.{option_value};
 
 use crate::words::{ids_in, workers_in};
 use st_base::{Sequence, Text};
+use st_emulation::Emulation;
 use st_law::Mode;
 use std::alloc::{AllocError, Global};
 
@@ -31,6 +32,7 @@ pub enum Kind {
     Ids,
     Workers,
     Print,
+    Linux,
 }
 
 /// An option as it is given.
@@ -43,6 +45,8 @@ pub enum Given<'a> {
     Ids(u32, u32),
     Workers(u32),
     Print(Print),
+    /// The programs are those of Linux.
+    Linux,
 }
 
 /// The option that this word is without a value.
@@ -59,6 +63,8 @@ pub(crate) fn alone<'a>(word: &[u8]) -> Option<Given<'a>>
         Some(Given::Inherit)
     } else if word == b"-u".as_slice() {
         Some(Given::Unaliased)
+    } else if word == b"--linux".as_slice() {
+        Some(Given::Linux)
     } else {
         None
     }
@@ -111,6 +117,7 @@ fn is_of(kind: Kind, option: &Given<'_>) -> bool
         Given::Ids(_, _) => matches!(kind, Kind::Ids),
         Given::Workers(_) => matches!(kind, Kind::Workers),
         Given::Print(_) => matches!(kind, Kind::Print),
+        Given::Linux => matches!(kind, Kind::Linux),
     }
 }
 
@@ -189,4 +196,16 @@ pub(crate) fn print_of(options: &[Given<'_>]) -> Option<Print>
         }
     }
     None
+}
+
+/// The emulation: Linux if an option says so.
+pub(crate) fn emulation_of(options: &[Given<'_>]) -> Emulation
+    ensures { result ≡ emulation_of (map option_value options.now) }
+{
+    for option in options {
+        if let Given::Linux = option {
+            return Emulation::Linux;
+        }
+    }
+    Emulation::Native
 }

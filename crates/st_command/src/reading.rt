@@ -1,11 +1,12 @@
-ghost use Rattle.std.specs.Prelude.{◌≡◌, ◌<◌, ◌≤◌, length, map, option_map, IfOk, IfSome};
+ghost use Rattle.std.specs.Prelude.{◌≡◌, ◌<◌, ◌≤◌, length, map, option_copied, option_map, IfOk, IfSome};
 ghost use Rattle.st_command.specs.Given.{next_option, options_in};
-ghost use Rattle.st_command.specs.Command.{may_be_given, may_be_replayed, options_of, step_words, step_with, replay_words, replay_with, run_words, run_with, check_ids, check_with};
+ghost use Rattle.st_command.specs.Command.{may_be_given, may_be_replayed, options_of, step_words, step_with, replay_words, replay_with, run_words, run_with, check_words, may_be_checked, check_with};
 ghost use Rattle.st_command.specs.Reading.{option_value, shown_next, command_after, command_in, run_of_words, gen_of_words, IsWithinLimits, IsRunWithinLimits};
 
 use crate::command::{CheckWords, Command, ReplayWords, RunWords, StepWords};
 use crate::given::{
-    Given, Kind, Print, alone, count_of, ids_of, mode_of, policies_of, print_of, valued, workers_of,
+    Given, Kind, Print, alone, count_of, emulation_of, ids_of, mode_of, policies_of, print_of,
+    valued, workers_of,
 };
 use crate::words::{has_dash, rounds_in};
 use st_base::{Sequence, Text};
@@ -56,6 +57,7 @@ fn may_be_given(given: &[Given<'_>]) -> bool
         && count_of(Kind::Ids, given) <= 1
         && count_of(Kind::Workers, given) <= 1
         && count_of(Kind::Print, given) <= 1
+        && count_of(Kind::Linux, given) <= 1
 }
 
 fn options_of(given: &[Given<'_>]) -> Options
@@ -84,6 +86,7 @@ fn step_of<'a>(
         schedule,
         options: options_of(given),
         print: print_of(given).unwrap_or(Print::Audit),
+        emulation: emulation_of(given),
     })
 }
 
@@ -125,6 +128,7 @@ fn replay_of<'a>(
         script,
         trace,
         options: options_of(given),
+        emulation: emulation_of(given),
     })
 }
 
@@ -158,6 +162,7 @@ fn run_of<'a>(
         script,
         options: options_of(given),
         print: print_of(given).unwrap_or(Print::Audit),
+        emulation: emulation_of(given),
     })
 }
 
@@ -179,20 +184,33 @@ fn run_with<'a>(
     }
 }
 
-// The ids of `check`, which has no other option.
-fn check_ids(given: &[Given<'_>]) -> Option<Option<(u32, u32)>>
-    ensures { result ≡ check_ids (map option_value given.now) }
+// Whether options may be given together to `check`, which has `-c` and `--linux`.
+fn may_be_checked(given: &[Given<'_>]) -> bool
+    ensures { result ≡ may_be_checked (map option_value given.now) }
 {
-    match given {
-        [] => Some(None),
-        [_] => Some(Some(ids_of(given)?)),
-        _ => None,
+    may_be_given(given)
+        && count_of(Kind::Policy, given) == 0
+        && count_of(Kind::Mode, given) == 0
+        && count_of(Kind::Inherit, given) == 0
+        && count_of(Kind::Unaliased, given) == 0
+        && count_of(Kind::Workers, given) == 0
+        && count_of(Kind::Print, given) == 0
+}
+
+fn check_of<'a>(given: &[Given<'_>], policy: &'a Text, script: Option<&'a Text>) -> CheckWords<'a>
+    ensures { result ≡ check_words (map option_value given.now) policy.now (option_copied script.entry) }
+{
+    CheckWords {
+        policy,
+        script,
+        ids: ids_of(given),
+        emulation: emulation_of(given),
     }
 }
 
-// What `check` is asked to do with these ids by the words after its options.
-fn check_with<'a>(ids: Option<(u32, u32)>, operands: &'a [Text]) -> Option<CheckWords<'a>>
-    ensures { result ≡ check_with ids operands.now }
+// What `check` is asked to do by its options and the words after them.
+fn check_with<'a>(given: &[Given<'_>], operands: &'a [Text]) -> Option<CheckWords<'a>>
+    ensures { result ≡ check_with (map option_value given.now) operands.now }
 {
     let (policy, script) = match operands {
         [policy] => (policy, None),
@@ -202,11 +220,11 @@ fn check_with<'a>(ids: Option<(u32, u32)>, operands: &'a [Text]) -> Option<Check
     if has_dash(policy.bytes()) || script.is_some_and(|script| has_dash(script.bytes())) {
         return None;
     }
-    Some(CheckWords {
-        policy,
-        script,
-        ids,
-    })
+    if may_be_checked(given) {
+        Some(check_of(given, policy, script))
+    } else {
+        None
+    }
 }
 
 // The command of this name that the words after the name spell.
@@ -219,10 +237,7 @@ fn command_after<'a>(
 {
     let (given, operands) = options_in(alloc, words)?;
     if name == b"check".as_slice() {
-        let Some(ids) = check_ids(given.as_slice()) else {
-            return Ok(None);
-        };
-        Ok(check_with(ids, operands).map(Command::Check))
+        Ok(check_with(given.as_slice(), operands).map(Command::Check))
     } else if name == b"step".as_slice() {
         let step = step_with(alloc, given.as_slice(), operands)?;
         Ok(step.map(Command::Step))

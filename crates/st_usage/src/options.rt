@@ -30,11 +30,17 @@ pub fn value_of(word: &[u8]) -> Option<&'static str> {
     }
 }
 
+// Whether an option says that the programs are those of Linux.
+fn is_linux(word: &[u8]) -> bool {
+    word == b"--linux".as_slice()
+}
+
 // Whether a word is an option of `step` and of `run`. All but one are options of `replay`.
 fn is_of_runs(word: &[u8]) -> bool {
     is_mode(word)
         || word == b"-i".as_slice()
         || word == b"-u".as_slice()
+        || is_linux(word)
         || value_of(word).is_some()
 }
 
@@ -61,7 +67,7 @@ impl CommandName {
         match self {
             CommandName::Step | CommandName::Run => is_of_runs(word),
             CommandName::Replay => is_of_runs(word) && word != b"--print".as_slice(),
-            CommandName::Check => word == b"-c".as_slice(),
+            CommandName::Check => word == b"-c".as_slice() || is_linux(word),
             CommandName::Gen => false,
         }
     }

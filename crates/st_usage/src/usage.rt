@@ -35,7 +35,7 @@ struct Described {
 }
 
 // The options of `step`, `replay` and `run`.
-const OF_RUNS: [Described; 8] = [
+const OF_RUNS: [Described; 9] = [
     Described {
         name: "POLICY",
         form: Form::LetterAndValue('f'),
@@ -77,7 +77,16 @@ const OF_RUNS: [Described; 8] = [
         form: Form::LetterAndValue('w'),
         help: "how many workers copy and judge the arguments of calls, 1 to 8; without it 1",
     },
+    LINUX,
 ];
+
+// An option of each command but `gen`.
+const LINUX: Described = Described {
+    name: "linux",
+    form: Form::Name,
+    help: "programs and policies are those of Linux: 'Emulation: linux' and 'linux-CALL', open{n}\
+           with Linux's flags, and Linux's numbers of errors in the audit",
+};
 
 // An option of `step` and of `run` alone.
 const PRINT: Described = Described {
@@ -110,12 +119,13 @@ const TRACE: Described = Described {
     help: "for replay, what happened: a trace as --print trace writes it",
 };
 
-const OF_CHECK: [Described; 3] = [
+const OF_CHECK: [Described; 4] = [
     Described {
         name: "U:G",
         form: Form::LetterAndValue('c'),
         help: "lets the filters of the policy grant ids",
     },
+    LINUX,
     Described {
         name: "POLICY",
         form: Form::Operand,
