@@ -1,5 +1,6 @@
 -- What is written of a generated run, and why there is none.
 use Rattle.std.specs.Prelude.{◌≡◌, ◌⊎◌, ℕ, true, false, List, [], Some, None, Ok, Err}
+use Rattle.st_emulation.specs.declared.emulation.Emulation.TheVariants.{Native}
 use Rattle.st_filter.specs.declared.set.BinaryPolicy.{BinaryPolicy}
 use Rattle.st_grammar.specs.Grammar.{Reads}
 use Rattle.st_grammar.specs.Reading.{refusal_in}
@@ -28,7 +29,7 @@ generated_options = record { mode = Enforce; inherit = false; aliasing = true; i
 pub record IsInputOf (policy text : List ℕ) (i : Input) : Type 0 where
   pub script : ReadScript
   pub policies : List BinaryPolicy
-  pub script_is : script_in text generated_options ≡ Ok script
+  pub script_is : script_in text generated_options Native ≡ Ok script
   pub policies_are : Reads policy script.env [] policies
   pub input_is : i ≡ input_with policies generated_options script
 
@@ -46,7 +47,7 @@ pub record IsGeneratedLine (rounds : ℕ) (line : List ℕ) : Type 0 where
 
 -- why a script isn't read: it has a fault, or memory ran out
 abbrev pub RefusesScript : List ℕ → Refusal → Type 0
-RefusesScript text (Script fault) = script_in text generated_options ≡ Err fault
+RefusesScript text (Script fault) = script_in text generated_options Native ≡ Err fault
 RefusesScript text NoMemory = Unit {0}
 RefusesScript text _ = ⊥
 
@@ -59,4 +60,4 @@ RefusesPolicy policy env _ = ⊥
 -- why there is no input: the script isn't read, or the script is read and the policy isn't
 abbrev pub RefusesInput : List ℕ → List ℕ → Refusal → Type 0
 RefusesInput policy text refusal =
-    RefusesScript text refusal ⊎ ((script : ReadScript) × (script_in text generated_options ≡ Ok script) × RefusesPolicy policy script.env refusal)
+    RefusesScript text refusal ⊎ ((script : ReadScript) × (script_in text generated_options Native ≡ Ok script) × RefusesPolicy policy script.env refusal)

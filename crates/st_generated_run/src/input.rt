@@ -10,6 +10,7 @@ ghost use Rattle.st_script.specs.Reading.{script_in};
 ghost use Rattle.st_script.specs.Startable.{IsRunnableScript};
 ghost use Rattle.st_generated_run.specs.Generated.{generated_options, IsInputOf, RefusesInput, RefusesPolicy, RefusesScript};
 
+use st_emulation::Emulation;
 use st_filter::PolicySet;
 use st_generator::law::how_long_a_generated_script_is;
 use st_generator::{gen_script, generated_policy};
@@ -41,13 +42,13 @@ fn generated_options() -> Options
 // Reads a script for a generated run.
 fn script_of(alloc: Global, text: &[u8]) -> Result<ReadScript, Refusal>
     requires { length text.now < 2 ^ 32 }
-    ensures script { IfOk result (λ script. script_in text.now generated_options ≡ Ok script) }
+    ensures script { IfOk result (λ script. script_in text.now generated_options Emulation.Native ≡ Ok script) }
     ensures few_filters { IfOk result (λ script. filters_in script.blocks ≤ MOST_FILTERS) }
     ensures few_policies { IfOk result (λ script. length script.blocks < 2 ^ 31) }
     ensures can_start { IfOk result IsRunnableScript }
     ensures refused { IfErr result (RefusesScript text.now) }
 {
-    match read_script(alloc, text, &generated_options()) {
+    match read_script(alloc, text, &generated_options(), Emulation::Native) {
         Ok(script) => Ok(script),
         Err(ScriptFault::NoMemory) => Err(Refusal::NoMemory),
         Err(fault) => Err(Refusal::Script(fault)),

@@ -19,8 +19,8 @@ use Rattle.st_reading.proofs.Leads.{leads_has, leads_policies, leads_script}
 use Rattle.st_reading.proofs.Refusals.{append_nil, fetch_refused, policies_refused, script_refused}
 
 module _ (contents : Contents) (words : InputWords) (R : Input → Meaning → Type 0) where
-  after_script : (script : ReadScript) → IsScript (contents words.script) words.options script → (o : Meaning) → MeansAfterScript contents words (λ input. R input o) script o → MeansInput contents words (λ input. R input o) o
-  after_script script is o m = leads_script (contents words.script) words.options script (λ script. MeansAfterScript contents words (λ input. R input o) script o) o is m
+  after_script : (script : ReadScript) → IsScript (contents words.script) words.options words.emulation script → (o : Meaning) → MeansAfterScript contents words (λ input. R input o) script o → MeansInput contents words (λ input. R input o) o
+  after_script script is o m = leads_script (contents words.script) words.options words.emulation script (λ script. MeansAfterScript contents words (λ input. R input o) script o) o is m
 
   -- an input that is read leads to what is meant after it
   pub after_input : (input : Input) → IsInput contents words input → (o : Meaning) → R input o → MeansInput contents words (λ input. R input o) o
@@ -34,7 +34,7 @@ module _ (contents : Contents) (words : InputWords) (R : Input → Meaning → T
       names which.Script ≡ words.script ∷ [] → ((n : ℕ) → names (which.Policy n) ≡ words.script ∷ take n words.policies) →
       (r : Refusal) → InputRefused contents words faults faults_after old new r → RefusesFiles contents IsMeaning names faults faults_after old new r
   input_refused IsMeaning names faults faults_after old new lead first more r (inl p) =
-      script_refused contents IsMeaning names faults faults_after old new words.script words.options (λ script o. MeansAfterScript contents words (λ input. R input o) script o) first
+      script_refused contents IsMeaning names faults faults_after old new words.script words.options words.emulation (λ script o. MeansAfterScript contents words (λ input. R input o) script o) first
       (p.1 ∙ ap (λ ns. old ++ ns) (sym first)) lead r p.0
   input_refused IsMeaning names faults faults_after old new lead first more r (inr p) =
       policies_refused contents IsMeaning names faults faults_after old new p.0.env words.policies (words.script ∷ []) (λ policies o. R (input_with policies words.options p.0) o)
@@ -76,7 +76,7 @@ module _ (contents : Contents) (words : InputWords) (last : Word) (w : Which) (M
         (λ o m. lead o (after_input contents words AfterLast input is o m)) r p
 
 -- with all its files read, `step` means to run this input
-pub step_means : (contents : Contents) (step : StepWords) (script : ReadScript) (policies : List BinaryPolicy) (schedule : ReadSchedule) → IsScript (contents step.script) step.options script →
+pub step_means : (contents : Contents) (step : StepWords) (script : ReadScript) (policies : List BinaryPolicy) (schedule : ReadSchedule) → IsScript (contents step.script) step.options step.emulation script →
     ArePolicies contents script.env step.policies [] policies → Has (contents step.schedule) (λ text. schedule ≡ schedule_in text) → Means contents (command.Step step) (Runs (input_with policies step.options script) schedule)
 step_means contents step script policies schedule is are has =
     let input : Input = input_with policies step.options script in

@@ -5,6 +5,7 @@ use Rattle.std.specs.Borrow.{Bor}
 use Rattle.std.proofs.Math.Seq.{take-append-add}
 use Rattle.st_outside.specs.Files.{FileView, Unknown, Absent, FileBytes, CanHold, CanFit}
 use Rattle.st_outside.specs.declared.files.TheConstants.{FILE_LIMIT}
+use Rattle.st_emulation.specs.declared.emulation.Emulation.{Emulation}
 use Rattle.st_filter.specs.declared.set.BinaryPolicy.{BinaryPolicy}
 use Rattle.st_grammar.specs.declared.env.Env.{Env}
 use Rattle.st_law.specs.declared.input.Options.{Options}
@@ -30,9 +31,9 @@ pub has_fits : (contents : FileView) (P : List ℕ → Type 0) → Has contents 
 has_fits contents P has = held_fits contents has.text has.content has.within
 
 -- a script that is read leads to what is meant after it
-pub leads_script : (contents : FileView) (options : Options) (script : ReadScript) (R : ReadScript → Type 0) (o : Meaning) → IsScript contents options script → R script → Fetches contents which.Script (λ text. SaysScript (script_in text options) R o) o
-leads_script contents options script R o is r =
-    leads_has contents which.Script (λ text. script_in text options ≡ Ok script) (λ text. SaysScript (script_in text options) R o) o is (subst (λ s. SaysScript s R o) (sym is.says) r)
+pub leads_script : (contents : FileView) (options : Options) (emulation : Emulation) (script : ReadScript) (R : ReadScript → Type 0) (o : Meaning) → IsScript contents options emulation script → R script → Fetches contents which.Script (λ text. SaysScript (script_in text options emulation) R o) o
+leads_script contents options emulation script R o is r =
+    leads_has contents which.Script (λ text. script_in text options emulation ≡ Ok script) (λ text. SaysScript (script_in text options emulation) R o) o is (subst (λ s. SaysScript s R o) (sym is.says) r)
 
 -- policy files that are read lead to what is meant after them
 pub leads_policies : (contents : Contents) (env : Env) (R : List BinaryPolicy → Type 0) (o : Meaning) (front rest : List Word) (n : ℕ) (before policies : List BinaryPolicy) →

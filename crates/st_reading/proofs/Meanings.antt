@@ -110,14 +110,14 @@ is_one outcome a b u v p q = p ∙ sym q
 
 canon_one : (contents : Contents) (name : Word) (env : Env) → IsFileKnown (contents name) → IsOne (MeansCanon contents name env)
 canon_one contents name env known =
-    policies_one contents env (λ policies o. o ≡ Prints (canon policies)) (λ policies. is_one (Prints (canon policies))) (name ∷ []) (known, tt) 1 []
+    policies_one contents env (λ policies o. o ≡ Prints (canon policies env.emulation)) (λ policies. is_one (Prints (canon policies env.emulation))) (name ∷ []) (known, tt) 1 []
 
 -- an input has one meaning if what follows it has
 pub input_one : (contents : Contents) (words : InputWords) (R : Input → Meaning → Type 0) → ((input : Input) → IsOne (R input)) → IsFileKnown (contents words.script) → AreFilesKnown contents words.policies →
     IsOne (λ o. MeansInput contents words (λ input. R input o) o)
 input_one contents words R one script policies =
-    fetches_one (contents words.script) which.Script (λ text o. SaysScript (script_in text words.options) (λ script. MeansAfterScript contents words (λ input. R input o) script o) o) script
-    (λ text. script_one (script_in text words.options) (λ script o. MeansAfterScript contents words (λ input. R input o) script o)
+    fetches_one (contents words.script) which.Script (λ text o. SaysScript (script_in text words.options words.emulation) (λ script. MeansAfterScript contents words (λ input. R input o) script o) o) script
+    (λ text. script_one (script_in text words.options words.emulation) (λ script o. MeansAfterScript contents words (λ input. R input o) script o)
     (λ script. policies_one contents script.env (λ policies o. R (input_with policies words.options script) o)
     (λ policies. one (input_with policies words.options script)) words.policies policies 1 []))
 
@@ -130,18 +130,18 @@ last_one contents words last w M known =
     (λ input. fetches_one (contents last) w (λ text o. o ≡ M input text) last_known (λ text. is_one (M input text)))
     known.0 (known_front contents words.policies (last ∷ []) known.1)
 
-check_one : (contents : Contents) (policy : Word) (ids : Option (ℕ × ℕ)) (script : Option Word) → let check : CheckWords = record { policy = policy; script = script; ids = ids } in
+check_one : (contents : Contents) (other : CheckWords) (script : Option Word) → let check : CheckWords = record other { script = script } in
     AreFilesKnown contents (names_of (command.Check check)) → IsOne (MeansCheck contents check script)
-check_one contents policy ids None known = canon_one contents policy (bare_env (is_some ids)) known.0
-check_one contents policy ids (Some name) known =
-    let check : CheckWords = record { policy = policy; script = Some name; ids = ids } in
-    fetches_one (contents name) which.Script (λ text o. SaysScript (script_in text (check_options check)) (λ script. MeansCanon contents policy script.env o) o) known.0
-    (λ text. script_one (script_in text (check_options check)) (λ script o. MeansCanon contents policy script.env o) (λ script. canon_one contents policy script.env known.1.0))
+check_one contents other None known = canon_one contents other.policy (bare_env (is_some other.ids) other.emulation) known.0
+check_one contents other (Some name) known =
+    let check : CheckWords = record other { script = Some name } in
+    fetches_one (contents name) which.Script (λ text o. SaysScript (script_in text (check_options check) check.emulation) (λ script. MeansCanon contents check.policy script.env o) o) known.0
+    (λ text. script_one (script_in text (check_options check) check.emulation) (λ script o. MeansCanon contents check.policy script.env o) (λ script. canon_one contents check.policy script.env known.1.0))
 
 pub one_meaning : (contents : Contents) (c : Command) → AreFilesKnown contents (names_of c) → IsOne (Means contents c)
 one_meaning contents (command.Step step) known = last_one contents (step_input step) step.schedule which.Schedule (λ input text. Runs input (schedule_in text)) known
 one_meaning contents (command.Replay replay) known = last_one contents (replay_input replay) replay.trace which.Trace Replays known
-one_meaning contents (command.Check check) known = check_one contents check.policy check.ids check.script known
+one_meaning contents (command.Check check) known = check_one contents check check.script known
 
 -- ---- at least one meaning
 
@@ -190,14 +190,14 @@ is_some_one outcome go = (outcome, go, refl)
 
 canon_some : (contents : Contents) (name : Word) (env : Env) → IsFileKnown (contents name) → HasOne (MeansCanon contents name env)
 canon_some contents name env known =
-    policies_some contents env (λ policies o. o ≡ Prints (canon policies)) (λ policies. is_some_one (Prints (canon policies)) refl) (name ∷ []) (known, tt) 1 [] (omega arith)
+    policies_some contents env (λ policies o. o ≡ Prints (canon policies env.emulation)) (λ policies. is_some_one (Prints (canon policies env.emulation)) refl) (name ∷ []) (known, tt) 1 [] (omega arith)
 
 -- an input has a meaning if what follows it has
 pub input_some : (contents : Contents) (words : InputWords) (R : Input → Meaning → Type 0) → ((input : Input) → HasOne (R input)) → IsFileKnown (contents words.script) → AreFilesKnown contents words.policies →
     HasOne (λ o. MeansInput contents words (λ input. R input o) o)
 input_some contents words R some script policies =
-    fetches_some (contents words.script) which.Script (λ text o. SaysScript (script_in text words.options) (λ script. MeansAfterScript contents words (λ input. R input o) script o) o) script
-    (λ text. script_some (script_in text words.options) (λ script o. MeansAfterScript contents words (λ input. R input o) script o)
+    fetches_some (contents words.script) which.Script (λ text o. SaysScript (script_in text words.options words.emulation) (λ script. MeansAfterScript contents words (λ input. R input o) script o) o) script
+    (λ text. script_some (script_in text words.options words.emulation) (λ script o. MeansAfterScript contents words (λ input. R input o) script o)
     (λ script. policies_some contents script.env (λ policies o. R (input_with policies words.options script) o)
     (λ policies. some (input_with policies words.options script)) words.policies policies 1 [] (omega arith)))
 
@@ -210,15 +210,15 @@ last_some contents words last w M go known =
     (λ input. fetches_some (contents last) w (λ text o. o ≡ M input text) last_known (λ text. is_some_one (M input text) (go input text)))
     known.0 (known_front contents words.policies (last ∷ []) known.1)
 
-check_some : (contents : Contents) (policy : Word) (ids : Option (ℕ × ℕ)) (script : Option Word) → let check : CheckWords = record { policy = policy; script = script; ids = ids } in
+check_some : (contents : Contents) (other : CheckWords) (script : Option Word) → let check : CheckWords = record other { script = script } in
     AreFilesKnown contents (names_of (command.Check check)) → HasOne (MeansCheck contents check script)
-check_some contents policy ids None known = canon_some contents policy (bare_env (is_some ids)) known.0
-check_some contents policy ids (Some name) known =
-    let check : CheckWords = record { policy = policy; script = Some name; ids = ids } in
-    fetches_some (contents name) which.Script (λ text o. SaysScript (script_in text (check_options check)) (λ script. MeansCanon contents policy script.env o) o) known.0
-    (λ text. script_some (script_in text (check_options check)) (λ script o. MeansCanon contents policy script.env o) (λ script. canon_some contents policy script.env known.1.0))
+check_some contents other None known = canon_some contents other.policy (bare_env (is_some other.ids) other.emulation) known.0
+check_some contents other (Some name) known =
+    let check : CheckWords = record other { script = Some name } in
+    fetches_some (contents name) which.Script (λ text o. SaysScript (script_in text (check_options check) check.emulation) (λ script. MeansCanon contents check.policy script.env o) o) known.0
+    (λ text. script_some (script_in text (check_options check) check.emulation) (λ script o. MeansCanon contents check.policy script.env o) (λ script. canon_some contents check.policy script.env known.1.0))
 
 pub some_meaning : (contents : Contents) (c : Command) → AreFilesKnown contents (names_of c) → HasOne (Means contents c)
 some_meaning contents (command.Step step) known = last_some contents (step_input step) step.schedule which.Schedule (λ input text. Runs input (schedule_in text)) (λ input text. refl) known
 some_meaning contents (command.Replay replay) known = last_some contents (replay_input replay) replay.trace which.Trace Replays (λ input text. refl) known
-some_meaning contents (command.Check check) known = check_some contents check.policy check.ids check.script known
+some_meaning contents (command.Check check) known = check_some contents check check.script known

@@ -79,7 +79,7 @@ pub record IsInputRead (P : PolicyProperty) (contents : Contents) (words : Input
   pub script_held : CanHold (contents words.script) script_text
   pub script_within : length script_text ≤ FILE_LIMIT
   pub script : ReadScript
-  pub script_is : script_in script_text words.options ≡ Ok script
+  pub script_is : script_in script_text words.options words.emulation ≡ Ok script
   pub policies : List BinaryPolicy
   pub kept : P script.env policies
   pub says : Read (input_with policies words.options script)
@@ -87,8 +87,8 @@ pub record IsInputRead (P : PolicyProperty) (contents : Contents) (words : Input
 pub input_read : (P : PolicyProperty) → ((env : Env) → P env []) → (contents : Contents) (words : InputWords) → AreKept P contents words.policies → (outcome : Meaning) → IsRead outcome → (Read : Input → Type 0) →
     MeansInput contents words Read outcome → IsInputRead P contents words Read
 input_read P none contents words keeps outcome read Read meant =
-    let x = fetched contents outcome read words.script which.Script (λ text. SaysScript (script_in text words.options) (λ script. MeansAfterScript contents words Read script outcome) outcome) meant in
-    let s = script_read contents outcome read (script_in x.text words.options) (λ script. MeansAfterScript contents words Read script outcome) x.says in
+    let x = fetched contents outcome read words.script which.Script (λ text. SaysScript (script_in text words.options words.emulation) (λ script. MeansAfterScript contents words Read script outcome) outcome) meant in
+    let s = script_read contents outcome read (script_in x.text words.options words.emulation) (λ script. MeansAfterScript contents words Read script outcome) x.says in
     let p = policies_read contents outcome read P s.0.env (λ policies. Read (input_with policies words.options s.0)) words.policies keeps 1 [] (none s.0.env) s.2 in
     record {
       script_text = x.text;
@@ -109,7 +109,7 @@ pub record IsStepRead (P : PolicyProperty) (contents : Contents) (step : StepWor
   pub script_held : CanHold (contents step.script) script_text
   pub script_within : length script_text ≤ FILE_LIMIT
   pub script : ReadScript
-  pub script_is : script_in script_text step.options ≡ Ok script
+  pub script_is : script_in script_text step.options step.emulation ≡ Ok script
   pub policies : List BinaryPolicy
   pub kept : P script.env policies
   pub schedule_text : List ℕ

@@ -1,6 +1,7 @@
 -- The refusal of a part is the refusal that the whole command means.
 use Rattle.std.proofs.Common.{◌≡◌, ℕ, ◌+◌, ◌⊎◌, inl, inr, false, List, [], ◌∷◌, ◌++◌, length, take, Option, Some, None, Result, Ok, Err, refl, ap, sym, ◌∙◌, subst, arith, append_assoc}
 use Rattle.st_outside.specs.Count.{HasRisen}
+use Rattle.st_emulation.specs.declared.emulation.Emulation.{Emulation}
 use Rattle.st_filter.specs.declared.set.BinaryPolicy.{BinaryPolicy}
 use Rattle.st_grammar.specs.declared.env.Env.{Env}
 use Rattle.st_printing.specs.Canon.{canon}
@@ -45,23 +46,23 @@ module _ (contents : Contents) (IsMeaning : Meaning → Type 0) (names_up_to : W
     fetch_refused R lead (Policy n fault) p = absurd p
 
   -- a script file that is refused
-  pub script_refused : (name : Word) (options : Options) (R : ReadScript → Meaning → Type 0) → names_up_to which.Script ≡ name ∷ [] → AreAskedTo names_up_to which.Script old new →
-      ((o : Meaning) → Fetches (contents name) which.Script (λ text. SaysScript (script_in text options) (λ script. R script o) o) o → IsMeaning o) →
-      (r : Refusal) → ScriptRefused (contents name) options faults faults_after r → RefusesFiles contents IsMeaning names_up_to faults faults_after old new r
-  script_refused name options R named asked lead (Script fault) p = (
-    lead (Refuses (Script fault)) (leads_has (contents name) which.Script _ (λ text. SaysScript (script_in text options) (λ script. R script (Refuses (Script fault))) (Refuses (Script fault))) (Refuses (Script fault)) p
+  pub script_refused : (name : Word) (options : Options) (emulation : Emulation) (R : ReadScript → Meaning → Type 0) → names_up_to which.Script ≡ name ∷ [] → AreAskedTo names_up_to which.Script old new →
+      ((o : Meaning) → Fetches (contents name) which.Script (λ text. SaysScript (script_in text options emulation) (λ script. R script o) o) o → IsMeaning o) →
+      (r : Refusal) → ScriptRefused (contents name) options emulation faults faults_after r → RefusesFiles contents IsMeaning names_up_to faults faults_after old new r
+  script_refused name options emulation R named asked lead (Script fault) p = (
+    lead (Refuses (Script fault)) (leads_has (contents name) which.Script _ (λ text. SaysScript (script_in text options emulation) (λ script. R script (Refuses (Script fault))) (Refuses (Script fault))) (Refuses (Script fault)) p
         (subst (λ s. SaysScript s (λ script. R script (Refuses (Script fault))) (Refuses (Script fault))) (sym p.says) refl)),
     asked,
   )
-  script_refused name options R named asked lead (Missing w) p =
-      fetch_refused which.Script name [] named asked (λ text o. SaysScript (script_in text options) (λ script. R script o) o) lead (Missing w) p
-  script_refused name options R named asked lead (TooLong w) p =
-      fetch_refused which.Script name [] named asked (λ text o. SaysScript (script_in text options) (λ script. R script o) o) lead (TooLong w) p
-  script_refused name options R named asked lead ReadFault p =
-      fetch_refused which.Script name [] named asked (λ text o. SaysScript (script_in text options) (λ script. R script o) o) lead ReadFault p
-  script_refused name options R named asked lead NoMemory p =
-      fetch_refused which.Script name [] named asked (λ text o. SaysScript (script_in text options) (λ script. R script o) o) lead NoMemory p
-  script_refused name options R named asked lead (Policy n fault) p = absurd p
+  script_refused name options emulation R named asked lead (Missing w) p =
+      fetch_refused which.Script name [] named asked (λ text o. SaysScript (script_in text options emulation) (λ script. R script o) o) lead (Missing w) p
+  script_refused name options emulation R named asked lead (TooLong w) p =
+      fetch_refused which.Script name [] named asked (λ text o. SaysScript (script_in text options emulation) (λ script. R script o) o) lead (TooLong w) p
+  script_refused name options emulation R named asked lead ReadFault p =
+      fetch_refused which.Script name [] named asked (λ text o. SaysScript (script_in text options emulation) (λ script. R script o) o) lead ReadFault p
+  script_refused name options emulation R named asked lead NoMemory p =
+      fetch_refused which.Script name [] named asked (λ text o. SaysScript (script_in text options emulation) (λ script. R script o) o) lead NoMemory p
+  script_refused name options emulation R named asked lead (Policy n fault) p = absurd p
 
   -- one of several policy files that is refused
   module _ (env : Env) (names first : List Word) (Read : List BinaryPolicy → Meaning → Type 0)
@@ -112,38 +113,38 @@ append_nil (name ∷ names) = ap (λ ns. name ∷ ns) (append_nil names)
 check_leads : (contents : Contents) (check : CheckWords) (script : Option Word) (env : Env) → GivesEnv contents check script env → (o : Meaning) → MeansCanon contents check.policy env o → MeansCheck contents check script o
 check_leads contents check None env gives o m = subst (λ e. MeansCanon contents check.policy e o) gives m
 check_leads contents check (Some name) env gives o m =
-    leads_script (contents name) (check_options check) gives.0 (λ script. MeansCanon contents check.policy script.env o) o gives.1
+    leads_script (contents name) (check_options check) check.emulation gives.0 (λ script. MeansCanon contents check.policy script.env o) o gives.1
     (subst (λ e. MeansCanon contents check.policy e o) gives.2 m)
 
 module _ (contents : Contents) (faults faults_after : ℕ) (old new : List Word) where
-  check_refused : (policy : Word) (ids : Option (ℕ × ℕ)) (script : Option Word) (r : Refusal) → EnvRefused contents (record { policy = policy; script = script; ids = ids }) script faults faults_after r →
-      new ≡ old ++ maybe_word script → RefusesReading contents (command.Check (record { policy = policy; script = script; ids = ids })) faults faults_after old new r
-  check_refused policy ids None r p asked =
-      subst (RefusesReading contents (command.Check (record { policy = policy; script = None; ids = ids })) faults faults_after old new) (sym p) (inl (asked ∙ append_nil old))
-  check_refused policy ids (Some name) r p asked =
-      let check : CheckWords = record { policy = policy; script = Some name; ids = ids } in
-      script_refused contents (Means contents (command.Check check)) (names_to (command.Check check)) faults faults_after old new name (check_options check) (λ script o. MeansCanon contents policy script.env o) refl asked (λ o m. m) r p
+  check_refused : (other : CheckWords) (script : Option Word) (r : Refusal) → EnvRefused contents (record other { script = script }) script faults faults_after r →
+      new ≡ old ++ maybe_word script → RefusesReading contents (command.Check (record other { script = script })) faults faults_after old new r
+  check_refused other None r p asked =
+      subst (RefusesReading contents (command.Check (record other { script = None })) faults faults_after old new) (sym p) (inl (asked ∙ append_nil old))
+  check_refused other (Some name) r p asked =
+      let check : CheckWords = record other { script = Some name } in
+      script_refused contents (Means contents (command.Check check)) (names_to (command.Check check)) faults faults_after old new name (check_options check) check.emulation (λ script o. MeansCanon contents check.policy script.env o) refl asked (λ o m. m) r p
 
   pub check_env_refused : (check : CheckWords) (r : Refusal) → EnvRefused contents check check.script faults faults_after r → new ≡ old ++ maybe_word check.script →
       RefusesReading contents (command.Check check) faults faults_after old new r
-  check_env_refused check r p asked = check_refused check.policy check.ids check.script r p asked
+  check_env_refused check r p asked = check_refused check check.script r p asked
 
   module _ (check : CheckWords) (env : Env) (gives : GivesEnv contents check check.script env) where
     pub check_policies_refused : (r : Refusal) → PoliciesRefused contents env (check.policy ∷ []) faults faults_after (old ++ maybe_word check.script) new r →
         RefusesReading contents (command.Check check) faults faults_after old new r
     check_policies_refused r p =
-        policies_refused contents (Means contents (command.Check check)) (names_to (command.Check check)) faults faults_after old new env (check.policy ∷ []) (maybe_word check.script) (λ policies o. o ≡ Prints (canon policies))
+        policies_refused contents (Means contents (command.Check check)) (names_to (command.Check check)) faults faults_after old new env (check.policy ∷ []) (maybe_word check.script) (λ policies o. o ≡ Prints (canon policies env.emulation))
         (check_leads contents check check.script env gives) (λ n. refl) r p
 
-    canon_meant : (policies : List BinaryPolicy) → ArePolicies contents env (check.policy ∷ []) [] policies → (o : Meaning) → o ≡ Prints (canon policies) → Means contents (command.Check check) o
+    canon_meant : (policies : List BinaryPolicy) → ArePolicies contents env (check.policy ∷ []) [] policies → (o : Meaning) → o ≡ Prints (canon policies env.emulation) → Means contents (command.Check check) o
     canon_meant policies are o m =
-        check_leads contents check check.script env gives o (leads_policies contents env (λ ps. o ≡ Prints (canon ps)) o (check.policy ∷ []) [] 1 [] policies are m)
+        check_leads contents check check.script env gives o (leads_policies contents env (λ ps. o ≡ Prints (canon ps env.emulation)) o (check.policy ∷ []) [] 1 [] policies are m)
 
     asked_whole : new ≡ (old ++ maybe_word check.script) ++ check.policy ∷ [] → AskedTo (command.Check check) (which.Policy 1) old new
     asked_whole asked = asked ∙ append_assoc old (maybe_word check.script) (check.policy ∷ [])
 
     pub check_read : (policies : List BinaryPolicy) → ArePolicies contents env (check.policy ∷ []) [] policies → new ≡ (old ++ maybe_word check.script) ++ check.policy ∷ [] →
-        (printed : List ℕ) → printed ≡ canon policies → EndsReading contents (command.Check check) faults faults_after old new (Ok (reading.Text printed))
+        (printed : List ℕ) → printed ≡ canon policies env.emulation → EndsReading contents (command.Check check) faults faults_after old new (Ok (reading.Text printed))
     check_read policies are asked printed is = (canon_meant policies are (Prints printed) (ap Prints is), asked_whole asked)
 
     -- memory runs out for its text

@@ -17,12 +17,13 @@ use Rattle.st_command.specs.declared.command.Command.TheVariants.{Step}
 use Rattle.st_reading.specs.Files.{InputEnds}
 use Rattle.st_reading.specs.Meaning.{AreFilesKnown, Contents, InputWords, Meaning, Means, MeansAfterScript, MeansPolicies, MeansSchedule, Prints, Runs, SaysPolicy, SaysScript}
 use Rattle.st_reading.specs.RunMeaning.{EndsReadingRun, MeansRun, no_lines, run_input, run_names, run_names_to, starts, with_schedule_of}
+use Rattle.st_reading.specs.Runnable.{StartsNatively}
 use Rattle.st_reading.specs.declared.refusal.Refusal.{Refusal}
 use Rattle.st_reading.specs.declared.refusal.Which.TheVariants as which
 use Rattle.st_reading.proofs.Inputs.{after_input, input_refused}
 use Rattle.st_reading.proofs.Meanings.{HasOne, IsOne, input_one, input_some, is_one, is_some_one}
 use Rattle.st_reading.proofs.ReadFiles.{IsInputRead, IsRead, fetched, input_or, script_read, text_read}
-use Rattle.st_reading.proofs.Runnable.{AreClean, BlocksAreUngranted, RepliesAreUngranted, clean_input, read_can_run}
+use Rattle.st_reading.proofs.Runnable.{AreClean, BlocksAreUngranted, RepliesAreUngranted, clean_input, read_can_run, starts_natively}
 
 -- ---- how its reading ends
 
@@ -73,6 +74,12 @@ run_can_run replies blocks contents run input limits meant =
     let x = run_read contents run (starts input) tt meant in
     subst CanRun (sym (ap (input_or input) x.says)) (read_can_run replies blocks contents (run_input run) (λ other. starts input ≡ starts other) x limits.1 limits.2)
 
+-- `run` starts natively
+pub run_starts : (contents : Contents) (run : RunWords) (input : Input) → MeansRun contents run (starts input) → StartsNatively contents (run_input run) input
+run_starts contents run input meant =
+    let x = run_read contents run (starts input) tt meant in
+    starts_natively contents (run_input run) (λ other. starts input ≡ starts other) x input (ap (input_or input) x.says)
+
 -- ---- `step` with the same words
 
 module _ (contents : Contents) (o other : Meaning) (read : IsRead o) where
@@ -96,8 +103,8 @@ step_means_what_run_means contents run input meant name text held within =
     let words : InputWords = run_input run in
     let Started : Input → Type 0 = λ read. o ≡ starts read in
     let Scheduled : Input → Type 0 = λ read. MeansSchedule contents step read other in
-    let x = fetched contents o tt run.script which.Script (λ t. SaysScript (script_in t run.options) (λ script. MeansAfterScript contents words Started script o) o) meant in
-    let s = script_read contents o tt (script_in x.text run.options) (λ script. MeansAfterScript contents words Started script o) x.says in
+    let x = fetched contents o tt run.script which.Script (λ t. SaysScript (script_in t run.options run.emulation) (λ script. MeansAfterScript contents words Started script o) o) meant in
+    let s = script_read contents o tt (script_in x.text run.options run.emulation) (λ script. MeansAfterScript contents words Started script o) x.says in
     let scheduled : (policies : List BinaryPolicy) → o ≡ starts (input_with policies run.options s.0) → Scheduled (input_with policies run.options s.0) =
     λ policies is. inr (inr (inr (text, held, within, ap (λ (m : Meaning). Runs (input_or input m) (schedule_in text)) is))) in
     inr (inr (inr (

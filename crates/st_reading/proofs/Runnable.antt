@@ -3,6 +3,7 @@ use native.Mathlib.Omega.{arith}
 use Rattle.std.proofs.Common.{◌≡◌, ◌≤◌, ◌∙◌, ℕ, true, List, [], ◌∷◌, length, Option, Some, None, is_some, Ok, refl, ap, sym, subst}
 use Rattle.st_outside.specs.Files.{CanHold}
 use Rattle.st_outside.specs.declared.files.TheConstants.{FILE_LIMIT}
+use Rattle.st_emulation.specs.declared.emulation.Emulation.{Emulation}
 use Rattle.st_filter.specs.declared.set.BinaryPolicy.{BinaryPolicy}
 use Rattle.st_printing.specs.Canon.{canon}
 use Rattle.st_grammar.specs.Grammar.{Reads}
@@ -15,12 +16,12 @@ use Rattle.st_learn.specs.Learnt.{NoneAsks}
 use Rattle.st_reached.specs.Grants.{RepliesUngranted, SetIdsUngranted}
 use Rattle.st_reached.specs.Runnable.{CanRun}
 use Rattle.st_script_faults.specs.Environment.{learns}
-use Rattle.st_script.proofs.ReadTexts.{read_has}
+use Rattle.st_script.proofs.ReadTexts.{emulation_is, read_has}
 use Rattle.st_script.proofs.Startable.{script_can_start}
 use Rattle.st_script.proofs.Ungranted.{read_ungranted}
 use Rattle.st_schedule.specs.Schedule.{schedule_in}
 use Rattle.st_script.specs.Reading.{script_in}
-use Rattle.st_script.specs.Startable.{input_with}
+use Rattle.st_script.specs.Startable.{input_with, native_start}
 use Rattle.st_script.specs.declared.reading.ReadScript.{ReadScript}
 use Rattle.st_command.specs.Words.{Word}
 use Rattle.st_command.specs.Command.{StepWords, ReplayWords, CheckWords, check_options}
@@ -31,7 +32,7 @@ use Rattle.st_reading.specs.Ends.{AskedTo, as_meaning}
 use Rattle.st_reading.specs.Bare.{bare_env}
 use Rattle.st_reading.specs.Kinds.{OnlyPrints, OnlyReplays, OnlyRuns}
 use Rattle.st_reading.specs.Meaning.{Contents, Fetches, InputWords, Meaning, Means, Stops, Refuses, Runs, Replays, Prints, SaysScript, MeansInput, MeansSchedule, MeansStep, MeansTrace, MeansReplay, MeansCanon, MeansCheck, step_input, replay_input, last_file}
-use Rattle.st_reading.specs.Runnable.{IsRunnable}
+use Rattle.st_reading.specs.Runnable.{IsRunnable, StartsNatively}
 use Rattle.st_reading.specs.declared.reading.Reading.{Reading}
 use Rattle.st_reading.specs.declared.reading.Reading.TheVariants as reading_is
 use Rattle.st_reading.specs.declared.refusal.Refusal.{Refusal}
@@ -58,9 +59,9 @@ read_clean text env old set read before = record {
 }
 
 -- if a run learns, its script has policies read so that filters are learnt
-pub script_learns : (text : List ℕ) (options : Options) (script : ReadScript) → script_in text options ≡ Ok script → options.mode ≡ Learn → script.env.learn ≡ true
-script_learns text options script is learning =
-    let same : script.env.learn ≡ learns options.mode = read_has (λ (other : ReadScript). other.env.learn ≡ learns options.mode) text options (λ uncut none. refl) script is in
+pub script_learns : (text : List ℕ) (options : Options) (emulation : Emulation) (script : ReadScript) → script_in text options emulation ≡ Ok script → options.mode ≡ Learn → script.env.learn ≡ true
+script_learns text options emulation script is learning =
+    let same : script.env.learn ≡ learns options.mode = read_has (λ (other : ReadScript). other.env.learn ≡ learns options.mode) text options emulation (λ uncut none. refl) script is in
     same ∙ ap learns learning
 
 pub all_clean : (contents : Contents) (names : List Word) → AreKept AreClean contents names
@@ -73,23 +74,23 @@ clean_input contents words outcome read Read meant = input_read AreClean none_cl
 
 -- the replies of each script that is read grant no ids for setting ids
 abbrev pub RepliesAreUngranted : Type 0
-RepliesAreUngranted = (text : List ℕ) (options : Options) (script : ReadScript) → script_in text options ≡ Ok script → RepliesUngranted script.replies
+RepliesAreUngranted = (text : List ℕ) (options : Options) (emulation : Emulation) (script : ReadScript) → script_in text options emulation ≡ Ok script → RepliesUngranted script.replies
 
 -- and so do its policies
 abbrev pub BlocksAreUngranted : Type 0
-BlocksAreUngranted = (text : List ℕ) (options : Options) (script : ReadScript) → script_in text options ≡ Ok script → SetIdsUngranted script.blocks
+BlocksAreUngranted = (text : List ℕ) (options : Options) (emulation : Emulation) (script : ReadScript) → script_in text options emulation ≡ Ok script → SetIdsUngranted script.blocks
 
 -- an input that was read can be run with one to eight workers
 pub read_can_run : RepliesAreUngranted → BlocksAreUngranted → (contents : Contents) (words : InputWords) (Read : Input → Type 0) (x : IsInputRead AreClean contents words Read) →
     1 ≤ words.options.workers → words.options.workers ≤ 8 → CanRun (input_with x.policies words.options x.script)
 read_can_run replies blocks contents words Read x some few =
-    let can_start = script_can_start x.script_text words.options x.script x.script_is in
+    let can_start = script_can_start x.script_text words.options words.emulation x.script x.script_is in
     record {
-      startable = can_start.startable x.policies words.options (script_learns x.script_text words.options x.script x.script_is) some few;
+      startable = can_start.startable x.policies words.options (script_learns x.script_text words.options words.emulation x.script x.script_is) some few;
       system = can_start.system x.policies words.options;
       bounded = can_start.bounded;
-      ungranted = (x.kept.ungranted, blocks x.script_text words.options x.script x.script_is);
-      replies = replies x.script_text words.options x.script x.script_is;
+      ungranted = (x.kept.ungranted, blocks x.script_text words.options words.emulation x.script x.script_is);
+      replies = replies x.script_text words.options words.emulation x.script x.script_is;
     }
 
 pub runnable : RepliesAreUngranted → BlocksAreUngranted → (contents : Contents) (step : StepWords) (input : Input) (schedule : ReadSchedule) → MeansStep contents step (Runs input schedule) → IsRunnable step input
@@ -98,9 +99,9 @@ runnable replies blocks contents step input schedule meant =
     let x = clean_input contents (step_input step) run tt (λ read. MeansSchedule contents step read run) meant in
     let c = fetched contents run tt step.schedule which.Schedule (λ text. run ≡ Runs (input_with x.policies step.options x.script) (schedule_in text)) x.says in
     let input_is : input ≡ input_with x.policies step.options x.script = ap (input_or input) c.says in
-    let can_start = script_can_start x.script_text step.options x.script x.script_is in
-    let ungranted_replies = replies x.script_text step.options x.script x.script_is in
-    let ungranted_blocks = blocks x.script_text step.options x.script x.script_is in
+    let can_start = script_can_start x.script_text step.options step.emulation x.script x.script_is in
+    let ungranted_replies = replies x.script_text step.options step.emulation x.script x.script_is in
+    let ungranted_blocks = blocks x.script_text step.options step.emulation x.script x.script_is in
     record {
       script = x.script;
       policies = x.policies;
@@ -110,8 +111,37 @@ runnable replies blocks contents step input schedule meant =
       blocks = ungranted_blocks;
       replies = ungranted_replies;
       can_run = λ some few. subst CanRun (sym input_is) (read_can_run replies blocks contents (step_input step) (λ read. MeansSchedule contents step read run) x some few);
-      unasked = λ learning. x.kept.unasked (script_learns x.script_text step.options x.script x.script_is learning);
+      unasked = λ learning. x.kept.unasked (script_learns x.script_text step.options step.emulation x.script x.script_is learning);
     }
+
+-- ---- starts
+
+-- an input that was read starts natively
+pub starts_natively : (contents : Contents) (words : InputWords) (Read : Input → Type 0) (x : IsInputRead AreClean contents words Read) (input : Input) →
+    input ≡ input_with x.policies words.options x.script → StartsNatively contents words input
+starts_natively contents words Read x input is = record {
+  script = x.script;
+  script_is = record { text = x.script_text; content = x.script_held; within = x.script_within; says = x.script_is };
+  start_is =
+      ap (λ (i : Input). i.start) is ∙
+      ap (λ (emulation : Emulation). native_start emulation x.script.start) (emulation_is x.script_text words.options words.emulation x.script x.script_is);
+}
+
+pub step_starts : (contents : Contents) (step : StepWords) (input : Input) (schedule : ReadSchedule) → MeansStep contents step (Runs input schedule) → StartsNatively contents (step_input step) input
+step_starts contents step input schedule meant =
+    let run : Meaning = Runs input schedule in
+    let Read : Input → Type 0 = λ read. MeansSchedule contents step read run in
+    let x = clean_input contents (step_input step) run tt Read meant in
+    let c = fetched contents run tt step.schedule which.Schedule (λ text. run ≡ Runs (input_with x.policies step.options x.script) (schedule_in text)) x.says in
+    starts_natively contents (step_input step) Read x input (ap (input_or input) c.says)
+
+pub replay_starts : (contents : Contents) (replay : ReplayWords) (input : Input) (text : List ℕ) → MeansReplay contents replay (Replays input text) → StartsNatively contents (replay_input replay) input
+replay_starts contents replay input text meant =
+    let outcome : Meaning = Replays input text in
+    let Read : Input → Type 0 = λ read. MeansTrace contents replay read outcome in
+    let x = clean_input contents (replay_input replay) outcome tt Read meant in
+    let c = fetched contents outcome tt replay.trace which.Trace (λ held. outcome ≡ Replays (input_with x.policies replay.options x.script) held) x.says in
+    starts_natively contents (replay_input replay) Read x input (ap (input_or input) c.says)
 
 -- the input whose trace `replay` means to replay can be run, and its trace can be fetched
 pub replay_can_run : RepliesAreUngranted → BlocksAreUngranted → (contents : Contents) (replay : ReplayWords) (input : Input) (text : List ℕ) → IsWithinLimits (Replay replay) →
@@ -159,14 +189,14 @@ replay_replays contents replay outcome meant =
 
 canon_prints : (contents : Contents) (name : Word) (env : Env) (outcome : Meaning) → IsRead outcome → MeansCanon contents name env outcome → OnlyPrints outcome
 canon_prints contents name env outcome read meant =
-    let p = policies_read contents outcome read AreClean env (λ policies. outcome ≡ Prints (canon policies)) (name ∷ []) (all_clean contents (name ∷ [])) 1 [] (none_clean env) meant in
+    let p = policies_read contents outcome read AreClean env (λ policies. outcome ≡ Prints (canon policies env.emulation)) (name ∷ []) (all_clean contents (name ∷ [])) 1 [] (none_clean env) meant in
     subst OnlyPrints (sym p.2) tt
 
 read_prints : (contents : Contents) (check : CheckWords) (script : Option Word) (outcome : Meaning) → IsRead outcome → MeansCheck contents check script outcome → OnlyPrints outcome
-read_prints contents check None outcome read meant = canon_prints contents check.policy (bare_env (is_some check.ids)) outcome read meant
+read_prints contents check None outcome read meant = canon_prints contents check.policy (bare_env (is_some check.ids) check.emulation) outcome read meant
 read_prints contents check (Some name) outcome read meant =
-    let x = fetched contents outcome read name which.Script (λ text. SaysScript (script_in text (check_options check)) (λ script. MeansCanon contents check.policy script.env outcome) outcome) meant in
-    let s = script_read contents outcome read (script_in x.text (check_options check)) (λ script. MeansCanon contents check.policy script.env outcome) x.says in
+    let x = fetched contents outcome read name which.Script (λ text. SaysScript (script_in text (check_options check) check.emulation) (λ script. MeansCanon contents check.policy script.env outcome) outcome) meant in
+    let s = script_read contents outcome read (script_in x.text (check_options check) check.emulation) (λ script. MeansCanon contents check.policy script.env outcome) x.says in
     canon_prints contents check.policy s.0.env outcome read s.2
 
 pub check_prints : (contents : Contents) (check : CheckWords) (outcome : Meaning) → MeansCheck contents check check.script outcome → OnlyPrints outcome

@@ -4,6 +4,7 @@ use Rattle.st_outside.specs.Count.{HasRisen}
 use Rattle.st_outside.specs.Files.{FileView, CanHold, CanLack, CanExceed, CanFit}
 use Rattle.st_outside.specs.declared.files.TheConstants.{FILE_LIMIT}
 use Rattle.st_filter.specs.declared.set.BinaryPolicy.{BinaryPolicy}
+use Rattle.st_emulation.specs.declared.emulation.Emulation.{Emulation}
 use Rattle.st_grammar.specs.declared.env.Env.{Env}
 use Rattle.st_grammar.specs.Reading.{refusal_in}
 use Rattle.st_grammar.specs.Grammar as policy
@@ -43,18 +44,18 @@ FetchRefused contents w old new (Policy n fault) = ⊥
 -- ---- scripts
 
 -- the file is read as this script
-abbrev pub IsScript : FileView → Options → ReadScript → Type 0
-IsScript contents options script = Has contents (λ text. script_in text options ≡ Ok script)
+abbrev pub IsScript : FileView → Options → Emulation → ReadScript → Type 0
+IsScript contents options emulation script = Has contents (λ text. script_in text options emulation ≡ Ok script)
 
 -- why a script was not read
-abbrev pub ScriptRefused : FileView → Options → ℕ → ℕ → Refusal → Type 0
-ScriptRefused contents options old new (Script fault) = Has contents (λ text. script_in text options ≡ Err fault)
-ScriptRefused contents options old new refusal = FetchRefused contents which.Script old new refusal
+abbrev pub ScriptRefused : FileView → Options → Emulation → ℕ → ℕ → Refusal → Type 0
+ScriptRefused contents options emulation old new (Script fault) = Has contents (λ text. script_in text options emulation ≡ Err fault)
+ScriptRefused contents options emulation old new refusal = FetchRefused contents which.Script old new refusal
 
 -- how the reading of a script ends
-abbrev pub ScriptEnds : FileView → Options → ℕ → ℕ → Result ReadScript Refusal → Type 0
-ScriptEnds contents options old new (Ok script) = IsScript contents options script
-ScriptEnds contents options old new (Err refusal) = ScriptRefused contents options old new refusal
+abbrev pub ScriptEnds : FileView → Options → Emulation → ℕ → ℕ → Result ReadScript Refusal → Type 0
+ScriptEnds contents options emulation old new (Ok script) = IsScript contents options emulation script
+ScriptEnds contents options emulation old new (Err refusal) = ScriptRefused contents options emulation old new refusal
 
 -- ---- policies
 
@@ -106,15 +107,15 @@ PoliciesEnd contents env names faults faults_after old new (Err refusal) = Polic
 pub record IsInput (contents : Contents) (words : InputWords) (input : Input) : Type 0 where
   pub script : ReadScript
   pub policies : List BinaryPolicy
-  pub script_is : IsScript (contents words.script) words.options script
+  pub script_is : IsScript (contents words.script) words.options words.emulation script
   pub policies_are : ArePolicies contents script.env words.policies [] policies
   pub input_is : input ≡ input_with policies words.options script
 
 -- why an input was not read, and the names that were asked for: the script was refused, or after it one of the policy files
 abbrev pub InputRefused : Contents → InputWords → ℕ → ℕ → List Word → List Word → Refusal → Type 0
 InputRefused contents words faults faults_after old new refusal =
-    (ScriptRefused (contents words.script) words.options faults faults_after refusal × (new ≡ old ++ words.script ∷ [])) ⊎
-    ((script : ReadScript) × IsScript (contents words.script) words.options script × PoliciesRefused contents script.env words.policies faults faults_after (old ++ words.script ∷ []) new refusal)
+    (ScriptRefused (contents words.script) words.options words.emulation faults faults_after refusal × (new ≡ old ++ words.script ∷ [])) ⊎
+    ((script : ReadScript) × IsScript (contents words.script) words.options words.emulation script × PoliciesRefused contents script.env words.policies faults faults_after (old ++ words.script ∷ []) new refusal)
 
 -- how the reading of an input ends
 abbrev pub InputEnds : Contents → InputWords → ℕ → ℕ → List Word → List Word → Result Input Refusal → Type 0
@@ -139,13 +140,13 @@ TraceEnds contents old new (Err refusal) = FetchRefused contents which.Trace old
 
 -- the environment of a script, or the bare one if there is no script
 abbrev pub GivesEnv : Contents → CheckWords → Option Word → Env → Type 0
-GivesEnv contents check None env = env ≡ bare_env (is_some check.ids)
-GivesEnv contents check (Some name) env = (script : ReadScript) × IsScript (contents name) (check_options check) script × (env ≡ script.env)
+GivesEnv contents check None env = env ≡ bare_env (is_some check.ids) check.emulation
+GivesEnv contents check (Some name) env = (script : ReadScript) × IsScript (contents name) (check_options check) check.emulation script × (env ≡ script.env)
 
 -- why there is no environment: the script was not read, or there is no script and memory ran out
 abbrev pub EnvRefused : Contents → CheckWords → Option Word → ℕ → ℕ → Refusal → Type 0
 EnvRefused contents check None faults faults_after refusal = refusal ≡ NoMemory
-EnvRefused contents check (Some name) faults faults_after refusal = ScriptRefused (contents name) (check_options check) faults faults_after refusal
+EnvRefused contents check (Some name) faults faults_after refusal = ScriptRefused (contents name) (check_options check) check.emulation faults faults_after refusal
 
 -- how the reading of the environment ends; without a script no file is asked for
 abbrev pub EnvEnds : Contents → CheckWords → ℕ → ℕ → List Word → List Word → Result Env Refusal → Type 0

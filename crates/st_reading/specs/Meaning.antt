@@ -3,6 +3,7 @@
 use Rattle.std.specs.Prelude.{◌≡◌, ℕ, ◌+◌, ◌≤◌, ◌⊎◌, Bool, true, false, List, [], ◌∷◌, ◌++◌, length, take, Option, Some, None, is_some, Result, Ok, Err}
 use Rattle.st_outside.specs.Files.{FileView, Unknown, Absent, FileBytes, CanHold, CanLack, CanExceed}
 use Rattle.st_outside.specs.declared.files.TheConstants.{FILE_LIMIT}
+use Rattle.st_emulation.specs.declared.emulation.Emulation.{Emulation}
 use Rattle.st_filter.specs.declared.set.BinaryPolicy.{BinaryPolicy}
 use Rattle.st_grammar.specs.declared.env.Env.{Env}
 use Rattle.st_grammar.specs.declared.fault.PolicyRefusal.{PolicyRefusal}
@@ -83,11 +84,13 @@ MeansPolicies contents env n (name ∷ names) before Read outcome =
 
 -- ---- inputs
 
--- what the input of a run is read from: the names of its policy files, the name of its script, and its options
+-- what the input of a run is read from: the names of its policy files, the name of its script, its options, and the emulation that the files
+-- are for
 pub record InputWords : Type 0 where
   pub policies : List Word
   pub script : Word
   pub options : Options
+  pub emulation : Emulation
 
 -- what is meant once the script is read: the policies are read with its environment, and the input has this meaning
 abbrev pub MeansAfterScript : Contents → InputWords → (Input → Type 0) → ReadScript → Meaning → Type 0
@@ -98,12 +101,12 @@ MeansAfterScript contents words Read script outcome =
 abbrev pub MeansInput : Contents → InputWords → (Input → Type 0) → Meaning → Type 0
 MeansInput contents words Read outcome =
     Fetches (contents words.script) which.Script
-    (λ text. SaysScript (script_in text words.options) (λ script. MeansAfterScript contents words Read script outcome) outcome) outcome
+    (λ text. SaysScript (script_in text words.options words.emulation) (λ script. MeansAfterScript contents words Read script outcome) outcome) outcome
 
 -- ---- commands
 
 abbrev pub step_input : StepWords → InputWords
-step_input step = record { policies = step.policies; script = step.script; options = step.options }
+step_input step = record { policies = step.policies; script = step.script; options = step.options; emulation = step.emulation }
 
 -- what `step` means once its input is read: its schedule is fetched and read, whatever it says
 abbrev pub MeansSchedule : Contents → StepWords → Input → Meaning → Type 0
@@ -114,7 +117,7 @@ abbrev pub MeansStep : Contents → StepWords → Meaning → Type 0
 MeansStep contents step outcome = MeansInput contents (step_input step) (λ input. MeansSchedule contents step input outcome) outcome
 
 abbrev pub replay_input : ReplayWords → InputWords
-replay_input replay = record { policies = replay.policies; script = replay.script; options = replay.options }
+replay_input replay = record { policies = replay.policies; script = replay.script; options = replay.options; emulation = replay.emulation }
 
 -- what `replay` means once its input is read: its trace is fetched, whatever it says
 abbrev pub MeansTrace : Contents → ReplayWords → Input → Meaning → Type 0
@@ -123,16 +126,16 @@ MeansTrace contents replay input outcome = Fetches (contents replay.trace) which
 abbrev pub MeansReplay : Contents → ReplayWords → Meaning → Type 0
 MeansReplay contents replay outcome = MeansInput contents (replay_input replay) (λ input. MeansTrace contents replay input outcome) outcome
 
--- what `check` means with this environment: the canonical text of its policies is printed
+-- what `check` means with this environment: the canonical text of its policies is printed, under the environment's emulation
 abbrev pub MeansCanon : Contents → Word → Env → Meaning → Type 0
-MeansCanon contents name env outcome = MeansPolicies contents env 1 (name ∷ []) [] (λ policies. outcome ≡ Prints (canon policies)) outcome
+MeansCanon contents name env outcome = MeansPolicies contents env 1 (name ∷ []) [] (λ policies. outcome ≡ Prints (canon policies env.emulation)) outcome
 
 -- what `check` means, with the environment of a script or the bare one
 abbrev pub MeansCheck : Contents → CheckWords → Option Word → Meaning → Type 0
-MeansCheck contents check None outcome = MeansCanon contents check.policy (bare_env (is_some check.ids)) outcome
+MeansCheck contents check None outcome = MeansCanon contents check.policy (bare_env (is_some check.ids) check.emulation) outcome
 MeansCheck contents check (Some name) outcome =
     Fetches (contents name) which.Script
-    (λ text. SaysScript (script_in text (check_options check)) (λ script. MeansCanon contents check.policy script.env outcome) outcome) outcome
+    (λ text. SaysScript (script_in text (check_options check) check.emulation) (λ script. MeansCanon contents check.policy script.env outcome) outcome) outcome
 
 -- what a command means over files of which this much is known
 abbrev pub Means : Contents → Command → Meaning → Type 0

@@ -19,7 +19,7 @@ abbrev pub starts : Input → Meaning
 starts input = Runs input no_lines
 
 abbrev pub run_input : RunWords → InputWords
-run_input run = record { policies = run.policies; script = run.script; options = run.options }
+run_input run = record { policies = run.policies; script = run.script; options = run.options; emulation = run.emulation }
 
 -- what `run` means over files of which this much is known
 abbrev pub MeansRun : Contents → RunWords → Meaning → Type 0
@@ -43,4 +43,4 @@ EndsReadingRun contents run faults faults_after old new (Err refusal) = RefusesF
 
 -- `step` with the same options and script, what it prints included, and with a schedule of this name
 abbrev pub with_schedule_of : RunWords → Word → StepWords
-with_schedule_of run name = record { policies = run.policies; script = run.script; schedule = name; options = run.options; print = run.print }
+with_schedule_of run name = record { policies = run.policies; script = run.script; schedule = name; options = run.options; print = run.print; emulation = run.emulation }

@@ -2,6 +2,7 @@ ghost use Rattle.std.specs.Prelude.{◌≡◌, [], ◌∷◌, IfOk};
 ghost use Rattle.st_reading.specs.Bare.{bare_env};
 
 use st_base::{Sequence, Text};
+use st_emulation::Emulation;
 use st_grammar::{Env, NamedId};
 use st_lex::Dollars;
 use std::alloc::{AllocError, Global};
@@ -18,8 +19,8 @@ fn only(alloc: Global, name: &[u8]) -> Result<Sequence<NamedId>, AllocError>
 
 /// The environment that policies are read with without a script: the user `root` and the group `wheel`. With `elevate` filters may grant
 /// ids.
-pub fn bare_env(alloc: Global, elevate: bool) -> Result<Env, AllocError>
-    ensures { IfOk result (λ env. env ≡ bare_env elevate) }
+pub fn bare_env(alloc: Global, elevate: bool, emulation: Emulation) -> Result<Env, AllocError>
+    ensures { IfOk result (λ env. env ≡ bare_env elevate emulation) }
 {
     Ok(Env {
         users: only(alloc, b"root")?,
@@ -31,5 +32,6 @@ pub fn bare_env(alloc: Global, elevate: bool) -> Result<Env, AllocError>
         },
         elevate,
         learn: false,
+        emulation,
     })
 }

@@ -5,9 +5,10 @@ ghost use Rattle.st_filter.specs.Policies.{filters_in};
 ghost use Rattle.st_filter.specs.declared.set.TheConstants.{MOST_FILTERS};
 ghost use Rattle.st_reading.specs.Files.{FetchRefused, ScriptEnds, PolicyEnds, PoliciesEnd, InputEnds, ScheduleEnds, TraceEnds};
 
-use crate::input::input_with;
+use crate::input::{input_with, made_native};
 use crate::refusal::{Refusal, Which};
 use st_base::Text;
+use st_emulation::Emulation;
 use st_filter::PolicySet;
 use st_grammar::{Env, PolicyFault};
 use st_law::{Input, Options, ReadSchedule};
@@ -36,22 +37,23 @@ fn fetch<F: Files>(alloc: Global, files: &mut F, name: &Text, which: Which) -> R
     }
 }
 
-/// Fetches a script and reads it.
+/// Fetches a script whose filters are for an emulation, and reads it.
 pub(crate) fn read_script_file<F: Files>(
     alloc: Global,
     files: &mut F,
     name: &Text,
     options: &Options,
+    emulation: Emulation,
 ) -> Result<ReadScript, Refusal>
     ensures contents { F.contents files.new ≡ F.contents files.old }
     ensures asked { F.asked files.new ≡ F.asked files.old ++ name.now ∷ [] }
-    ensures ends { ScriptEnds (F.contents files.old name.now) options.now (F.faults files.old) (F.faults files.new) result }
+    ensures ends { ScriptEnds (F.contents files.old name.now) options.now emulation (F.faults files.old) (F.faults files.new) result }
     ensures few_filters { IfOk result (λ script. filters_in script.blocks ≤ MOST_FILTERS) }
     ensures few_policies { IfOk result (λ script. length script.blocks < 2 ^ 31) }
     ensures quiet { result ≢ Err Refusal.ReadFault → F.faults files.new ≡ F.faults files.old }
 {
     let text = fetch(alloc, files, name, Which::Script)?;
-    match read_script(alloc, text.bytes(), options) {
+    match read_script(alloc, text.bytes(), options, emulation) {
         Ok(script) => Ok(script),
         Err(ScriptFault::NoMemory) => Err(Refusal::NoMemory),
         Err(fault) => Err(Refusal::Script(fault)),
@@ -104,22 +106,36 @@ pub(crate) fn read_policy_files<F: Files>(
     Ok(policies)
 }
 
-/// Fetches the files that an input is read from, and reads them: the script, then each policy file.
+/// What an input is read from.
+pub(crate) struct InputWords<'w, 'a> {
+    /// The names of the policy files, in order.
+    pub policies: &'w [&'a Text],
+    pub script: &'a Text,
+    pub options: Options,
+    pub emulation: Emulation,
+}
+
+/// Fetches the files that an input is read from, and reads them: the script, whose start is made native, then each policy file.
 pub(crate) fn read_input<F: Files>(
     alloc: Global,
     files: &mut F,
-    script: &Text,
-    policies: &[&Text],
-    options: Options,
+    words: InputWords<'_, '_>,
 ) -> Result<Input, Refusal>
-    requires { length policies.now ≤ 8 }
+    requires { length words.policies.now ≤ 8 }
     ensures contents { F.contents files.new ≡ F.contents files.old }
-    ensures ends { InputEnds (F.contents files.old) (record { policies = map (λ name. name.now) policies.now; script = script.now; options = options }) (F.faults files.old) (F.faults files.new) (F.asked files.old) (F.asked files.new) result }
+    ensures ends { InputEnds (F.contents files.old) (record { policies = map (λ name. name.now) words.entry.policies.now; script = words.entry.script.now; options = words.entry.options; emulation = words.entry.emulation }) (F.faults files.old) (F.faults files.new) (F.asked files.old) (F.asked files.new) result }
     ensures quiet { result ≢ Err Refusal.ReadFault → F.faults files.new ≡ F.faults files.old }
 {
-    let script = read_script_file(alloc, files, script, &options)?;
-    let policies = read_policy_files(alloc, files, &script.env, policies)?;
-    Ok(input_with(alloc, policies, options, script))
+    let InputWords {
+        policies,
+        script,
+        options,
+        emulation,
+    } = words;
+    let script = read_script_file(alloc, files, script, &options, emulation)?;
+    let native = made_native(alloc, script)?;
+    let policies = read_policy_files(alloc, files, &native.env, policies)?;
+    Ok(input_with(alloc, policies, options, native))
 }
 
 /// Fetches a schedule and reads it.

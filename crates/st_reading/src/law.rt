@@ -6,10 +6,10 @@ ghost use Rattle.st_command.specs.Reading.{IsRunWithinLimits, IsWithinLimits};
 ghost use Rattle.st_command.specs.Words.{Word};
 ghost use Rattle.st_command.specs.declared.command.Command.{Command};
 ghost use Rattle.st_command.specs.declared.command.Command.TheVariants as command;
-ghost use Rattle.st_reading.specs.Meaning.{Contents, Meaning, Means, Runs, Replays, Prints, is_stop, AreFilesKnown, names_of};
-ghost use Rattle.st_reading.specs.RunMeaning.{MeansRun, starts, no_lines, run_names, with_schedule_of};
+ghost use Rattle.st_reading.specs.Meaning.{Contents, Meaning, Means, Runs, Replays, Prints, is_stop, AreFilesKnown, names_of, step_input, replay_input};
+ghost use Rattle.st_reading.specs.RunMeaning.{MeansRun, starts, no_lines, run_input, run_names, with_schedule_of};
 ghost use Rattle.st_reading.specs.Kinds.{OnlyRuns, OnlyReplays, OnlyPrints};
-ghost use Rattle.st_reading.specs.Runnable.{IsRunnable};
+ghost use Rattle.st_reading.specs.Runnable.{IsRunnable, StartsNatively};
 ghost use Rattle.st_outside.specs.Files.{CanHold};
 ghost use Rattle.st_outside.specs.declared.files.TheConstants.{FILE_LIMIT};
 ghost use Rattle.st_reached.specs.Runnable.{CanRun};
@@ -24,6 +24,14 @@ pub fn a_command_has_one_meaning()
     ensures some { (contents : Contents) (c : Command) → AreFilesKnown contents (names_of c) → (outcome : Meaning) × (is_stop outcome ≡ false) × Means contents c outcome }
     ensures one { (contents : Contents) (c : Command) (a b : Meaning) → AreFilesKnown contents (names_of c) → is_stop a ≡ false → is_stop b ≡ false →
         Means contents c a → Means contents c b → a ≡ b }
+{}
+
+/// Each input that `step`, `replay` or `run` means has the start that its script says, with native flags in place of Linux ones if the words
+/// ask for Linux.
+pub fn what_is_meant_starts_natively()
+    ensures step { (contents : Contents) (step : StepWords) (input : Input) (schedule : ReadSchedule) → Means contents (command.Step step) (Runs input schedule) → StartsNatively contents (step_input step) input }
+    ensures replay { (contents : Contents) (replay : ReplayWords) (input : Input) (text : List ℕ) → Means contents (command.Replay replay) (Replays input text) → StartsNatively contents (replay_input replay) input }
+    ensures run { (contents : Contents) (run : RunWords) (input : Input) → MeansRun contents run (starts input) → StartsNatively contents (run_input run) input }
 {}
 
 /// Each input that `step` means to run can be run: its script, its policies and its replies have what a run needs, and its options are those

@@ -8,7 +8,7 @@ ghost use Rattle.st_reading.specs.Ends.{EndsReading, ending};
 
 use crate::environment::bare_env;
 use crate::files::{
-    fetch_trace, read_input, read_policy_files, read_schedule_file, read_script_file,
+    InputWords, fetch_trace, read_input, read_policy_files, read_schedule_file, read_script_file,
 };
 use crate::refusal::Refusal;
 use st_base::Text;
@@ -44,9 +44,12 @@ fn read_step<F: Files>(
     let input = read_input(
         alloc,
         files,
-        step.script,
-        step.policies.as_slice(),
-        step.options,
+        InputWords {
+            policies: step.policies.as_slice(),
+            script: step.script,
+            options: step.options,
+            emulation: step.emulation,
+        },
     )?;
     let schedule = read_schedule_file(alloc, files, step.schedule)?;
     Ok(Reading::Run(input, schedule))
@@ -66,9 +69,12 @@ fn read_replay<F: Files>(
     let input = read_input(
         alloc,
         files,
-        replay.script,
-        replay.policies.as_slice(),
-        replay.options,
+        InputWords {
+            policies: replay.policies.as_slice(),
+            script: replay.script,
+            options: replay.options,
+            emulation: replay.emulation,
+        },
     )?;
     let trace = fetch_trace(alloc, files, replay.trace)?;
     Ok(Reading::Replay(input, trace))
@@ -86,10 +92,10 @@ fn env_of_check<F: Files>(
 {
     match check.script {
         Some(name) => {
-            let script = read_script_file(alloc, files, name, &check.options())?;
+            let script = read_script_file(alloc, files, name, &check.options(), check.emulation)?;
             Ok(script.env)
         }
-        None => Ok(bare_env(alloc, check.ids.is_some())?),
+        None => Ok(bare_env(alloc, check.ids.is_some(), check.emulation)?),
     }
 }
 
@@ -105,7 +111,7 @@ fn read_check<F: Files>(
 {
     let env = env_of_check(alloc, check, files)?;
     let policies = read_policy_files(alloc, files, &env, &[check.policy])?;
-    Ok(Reading::Text(print_policies(alloc, &policies)?))
+    Ok(Reading::Text(print_policies(alloc, &policies, env.emulation)?))
 }
 
 /// Fetches the files that a command names and reads them: the script, then each policy file, after the policies of the files before it and

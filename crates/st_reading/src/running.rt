@@ -3,7 +3,7 @@ ghost use Rattle.std.specs.Prelude.{◌≡◌, ◌≢◌};
 ghost use Rattle.st_command.specs.Reading.{IsRunWithinLimits};
 ghost use Rattle.st_reading.specs.RunMeaning.{EndsReadingRun};
 
-use crate::files::read_input;
+use crate::files::{InputWords, read_input};
 use crate::refusal::Refusal;
 use st_command::RunWords;
 use st_law::Input;
@@ -28,8 +28,11 @@ pub fn read_run<F: Files>(
     read_input(
         alloc,
         files,
-        run.script,
-        run.policies.as_slice(),
-        run.options,
+        InputWords {
+            policies: run.policies.as_slice(),
+            script: run.script,
+            options: run.options,
+            emulation: run.emulation,
+        },
     )
 }

@@ -58,8 +58,8 @@ pieces_small (Space ∷ ps) well = (omega arith, pieces_small ps well)
 -- policies that can be written were read, namely from the text that is written
 writable_is_read : (env : Env) (set : List BinaryPolicy) → AreWritable env set → WasRead env set
 writable_is_read env set w =
-    let bytes : AreTextBytes (canon set) = All-from_recursion IsByte (canon set) (pieces_small (set_pieces set) (well_written env set w)) in
-    After (canon set) [] set bytes Nothing (written_is_read env set w)
+    let bytes : AreTextBytes (canon set env.emulation) = All-from_recursion IsByte (canon set env.emulation) (pieces_small (set_pieces set env.emulation) (well_written env set w)) in
+    After (canon set env.emulation) [] set bytes Nothing (written_is_read env set w)
 
 pub exactly_read : (env : Env) (set : List BinaryPolicy) → HasPlainDollars env → HasSmallIds env → WasRead env set ↔ AreWritable env set
 exactly_read env set plain small = ((λ was. read_is_writable env set was plain small), writable_is_read env set)

@@ -1,6 +1,7 @@
 -- A run that learns through a link, the text of what it has learnt, and the policies that the text is read as.
 use Rattle.std.proofs.Common.{◌≡◌, true, false, List, [], ◌∷◌, ◌++◌, ℕ, Option, Some, None, Ok, refl, codes}
 use Rattle.std.specs.Prelude.{reverse}
+use Rattle.st_emulation.specs.declared.emulation.Emulation.TheVariants.{Native, Linux}
 use Rattle.st_filter.specs.declared.set.BinaryPolicy.{BinaryPolicy}
 use Rattle.st_law.specs.Machine.{state_at}
 use Rattle.st_law.specs.declared.input.Input.{Input}
@@ -23,17 +24,27 @@ learnt = policies_of link_learner (trace link_learner (rest ∷ []))
 
 -- the environment without users and groups, in which filters are learnt
 abbrev learning : Env
-learning = record { users = []; groups = []; dollars = record { home = codes "/root"; user = codes "root"; cwd = codes "/" }; elevate = false; learn = true }
+learning = record { users = []; groups = []; dollars = record { home = codes "/root"; user = codes "root"; cwd = codes "/" }; elevate = false; learn = true; emulation = Native }
 
 -- the file has the name by which it was reached, not that of the link that was opened
 abbrev two_rows : List ℕ
 two_rows = codes "Policy: /bin/cat, Emulation: native" ++ 10 ∷ codes "native-fsread: filename eq \"/etc/passwd\" then permit" ++ 10 ∷ []
 
-learnt_text : canon learnt ≡ two_rows
+learnt_text : canon learnt Native ≡ two_rows
 learnt_text = refl
 
 learnt_text_is_read : policies_in two_rows learning [] ≡ Ok (policy "/bin/cat" (passwd_only ∷ []) ∷ [])
 learnt_text_is_read = refl
+
+-- the same text for Linux
+abbrev linux_rows : List ℕ
+linux_rows = codes "Policy: /bin/cat, Emulation: linux" ++ 10 ∷ codes "linux-fsread: filename eq \"/etc/passwd\" then permit" ++ 10 ∷ []
+
+linux_text : canon learnt Linux ≡ linux_rows
+linux_text = refl
+
+linux_text_is_read : policies_in linux_rows (record learning { emulation = Linux }) [] ≡ Ok (policy "/bin/cat" (passwd_only ∷ []) ∷ [])
+linux_text_is_read = refl
 
 what_was_learnt : learnt ≡ policy "/bin/cat" (passwd_only ∷ []) ∷ []
 what_was_learnt = refl

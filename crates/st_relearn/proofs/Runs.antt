@@ -201,7 +201,7 @@ ReadsOnce = (text : List ℕ) (env : Env) (old a b : List BinaryPolicy) → Read
 
 -- the policies after a run are read again
 run_is_read : (env : Env) (i : Input) → IsStartable i → HasPlainTexts i.start → HasWritableReplies env i → HasWritableBlocks env i → AreWritable env i.policies.read → (h : History) → IsLawfulBack i h →
-    filters_in (learnt_in i (looking_back i h)) ≤ MOST_FILTERS → Reads (learnt_policy_text i (looking_back i h)) env [] (learnt_in i (looking_back i h))
+    filters_in (learnt_in i (looking_back i h)) ≤ MOST_FILTERS → Reads (learnt_policy_text i (looking_back i h) env.emulation) env [] (learnt_in i (looking_back i h))
 run_is_read env i startable texts replies blocks w h lawful few =
     learnt_is_read env i.policies (version_at i h) (changed_at i h) (session_at i h) w (forced_writable env i startable blocks w h lawful)
     (run_changes_writable env i startable texts blocks h lawful) (run_adds_writable env i startable texts replies h lawful) few
@@ -212,15 +212,15 @@ pub read_permits_made : PermitsMade → ReadsOnce → (env : Env) (i : Input) �
     NoneAsksInForce i.policies (looking_back i (later ++ Used t (Some q) call regs args ids result changes ∷ earlier)).versions → HaveSameVersions (looking_back i earlier) (looking_back i (later ++ Used t (Some q) call regs args ids result changes ∷ earlier)) →
     IsLawfulBack i (later ++ Used t (Some q) call regs args ids result changes ∷ earlier) →
     filters_in (learnt_in i (looking_back i (later ++ Used t (Some q) call regs args ids result changes ∷ earlier))) ≤ MOST_FILTERS →
-    ReadsAndPermits (learnt_policy_text i (looking_back i (later ++ Used t (Some q) call regs args ids result changes ∷ earlier))) env (looking_back i earlier) q ids
+    ReadsAndPermits (learnt_policy_text i (looking_back i (later ++ Used t (Some q) call regs args ids result changes ∷ earlier)) env.emulation) env (looking_back i earlier) q ids
 read_permits_made permits_made once env i startable texts replies blocks writable later earlier t q call regs args ids result changes plain same lawful few =
     let whole : History = later ++ Used t (Some q) call regs args ids result changes ∷ earlier in
     let set : List BinaryPolicy = learnt_in i (looking_back i whole) in
-    let reads : Reads (learnt_policy_text i (looking_back i whole)) env [] set = run_is_read env i startable texts replies blocks writable whole lawful few in
+    let reads : Reads (learnt_policy_text i (looking_back i whole) env.emulation) env [] set = run_is_read env i startable texts replies blocks writable whole lawful few in
     record {
       set = set;
       reads = reads;
-      alone = λ other again. once (learnt_policy_text i (looking_back i whole)) env [] other set again reads;
+      alone = λ other again. once (learnt_policy_text i (looking_back i whole) env.emulation) env [] other set again reads;
       permitted = permits_made i later earlier t q call regs args ids result changes plain same lawful;
     }
 
@@ -250,7 +250,7 @@ pub learnt_permits_made : PermitsMade → ReadsOnce → (env : Env) (i : Input) 
     (later earlier : History) (t q : ℕ) (call : SysCall) (regs : List ℕ) (args : List ArgText) (ids : Ids) (result : CallResult) (changes : List Change) →
     IsLawfulBack i (later ++ Used t (Some q) call regs args ids result changes ∷ earlier) →
     filters_in (learnt_in i (looking_back i (later ++ Used t (Some q) call regs args ids result changes ∷ earlier))) ≤ MOST_FILTERS →
-    ReadsAndPermits (learnt_policy_text i (looking_back i (later ++ Used t (Some q) call regs args ids result changes ∷ earlier))) env (looking_back i earlier) q ids
+    ReadsAndPermits (learnt_policy_text i (looking_back i (later ++ Used t (Some q) call regs args ids result changes ∷ earlier)) env.emulation) env (looking_back i earlier) q ids
 learnt_permits_made permits_made once env i startable texts mode learns plain small was later earlier t q call regs args ids result changes lawful few =
     let w : AreWritable env i.policies.read = read_is_writable env i.policies.read was plain small in
     let made : Entry = Used t (Some q) call regs args ids result changes in

@@ -6,6 +6,8 @@ use Rattle.std.specs.Prelude.{IfSome, find, nat_eq}
 use Rattle.st_base.specs.declared.ids.Ids.{Ids}
 use Rattle.st_calls.specs.declared.argument.ArgText.{ArgText}
 use Rattle.st_calls.specs.declared.call.SysCall.{SysCall}
+use Rattle.st_emulation.specs.declared.emulation.Emulation.{Emulation}
+use Rattle.st_emulation.specs.declared.emulation.Emulation.TheVariants.{Native, Linux}
 use Rattle.st_filter.specs.Formula.{FilterValue}
 use Rattle.st_filter.specs.Policies.{filters_in}
 use Rattle.st_filter.specs.declared.filter.Action.{Action}
@@ -34,7 +36,7 @@ use Rattle.st_script_faults.specs.Faults.{filter_read, filter_said, policy_said,
 use Rattle.st_script_faults.specs.Names.{Name, is_name_among, with_new_name}
 use Rattle.st_script_faults.specs.declared.fault.ScriptFault.{ScriptFault}
 use Rattle.st_script.specs.Reading.{blocks_in, filters_below, object_said, process_said, script_in, script_with, start_of, unless_begun, unless_fault, with_block}
-use Rattle.st_script.specs.Startable.{IsRunnableScript, input_with}
+use Rattle.st_script.specs.Startable.{IsRunnableScript, input_with, native_start}
 use Rattle.st_script.specs.declared.reading.ReadScript.{ReadScript}
 use Rattle.st_statements.specs.Parts.{is_normal}
 use Rattle.st_statements.specs.Statements.{lines_in}
@@ -43,6 +45,7 @@ use Rattle.st_statements.specs.declared.statement.ScriptProcess.{ScriptProcess}
 use Rattle.st_statements.specs.declared.statement.Statement.{Statement}
 use Rattle.st_statements.specs.declared.statement.Statement.TheVariants as says
 use Rattle.st_trace.specs.declared.entry.CallResult.{CallResult}
+use Rattle.st_trace.specs.declared.start.Start.{Start}
 use Rattle.st_trace.specs.declared.entry.Change.{Change}
 use Rattle.st_trace.specs.declared.entry.Entry.TheVariants.{Used}
 use Rattle.st_trace.specs.declared.start.GroupRow.{GroupRow}
@@ -87,6 +90,11 @@ start_plain lines plain = record {
   processes = All-from_recursion IsPlainProcess _ (each_given IsPlainLine IsPlainProcess (λ line. process_said line.says) lines plain (λ line here. process_plain line.says here));
   targets = All-from_recursion IsPlainObject _ (each_given IsPlainLine IsPlainObject (λ line. object_said line.says) lines plain (λ line here. object_plain line.says here));
 }
+
+-- and so can those of a start that is made native
+native_plain : (emulation : Emulation) (start : Start) → HasPlainTexts start → HasPlainTexts (native_start emulation start)
+native_plain Native start plain = plain
+native_plain Linux start plain = record { processes = plain.processes; targets = plain.targets }
 
 -- ---- the environment
 
@@ -163,9 +171,9 @@ group_ids : (groups : List GroupRow) → AllByRecursion IsPlainGroup groups → 
 group_ids [] all = tt
 group_ids (group ∷ groups) all = (all.0, group_ids groups all.1)
 
-module _ (options : Options) (lines : List ScriptLine) (plain : ArePlainLines lines) where
+module _ (options : Options) (lines : List ScriptLine) (emulation : Emulation) (plain : ArePlainLines lines) where
   abbrev env : Env
-  env = environment_of options lines
+  env = environment_of options lines emulation
 
   plain_dollars : HasPlainDollars env
   plain_dollars =
@@ -238,7 +246,7 @@ module _ (options : Options) (lines : List ScriptLine) (plain : ArePlainLines li
     lines_written = record {
       dollars = plain_dollars;
       ids = small_ids;
-      texts = start_plain lines plain;
+      texts = native_plain emulation (start_of lines) (start_plain lines plain);
       replies = All-from_recursion IsWritableReply _ (each_given IsPlainLine IsWritableReply (λ line. reply_said env line.says) lines plain (λ line here. reply_plain line.says here));
       blocks = All-from_recursion (IsWritablePolicy env) (blocks_in env lines) (blocks_plain lines plain);
     }
@@ -253,28 +261,28 @@ read_by : (o : Option ScriptFault) (read script : ReadScript) → unless_fault o
 read_by (Some fault) read script e = absurd (cc)
 read_by None read script e = cc
 
-read_is : (text : List ℕ) (options : Options) (script : ReadScript) → script_in text options ≡ Ok script → script_with (environment_of options (lines_in text)) (lines_in text) ≡ script
-read_is text options script e = read_by (script_fault options (lexed_text text).fault (lines_in text)) (script_with (environment_of options (lines_in text)) (lines_in text)) script e
+read_is : (text : List ℕ) (options : Options) (emulation : Emulation) (script : ReadScript) → script_in text options emulation ≡ Ok script → script_with (environment_of options (lines_in text) emulation) (lines_in text) ≡ script
+read_is text options emulation script e = read_by (script_fault options (lexed_text text).fault (lines_in text) emulation) (script_with (environment_of options (lines_in text) emulation) (lines_in text)) script e
 
-pub script_is_plain : ReadsFilters → (text : List ℕ) (options : Options) (script : ReadScript) → AreTextBytes text → script_in text options ≡ Ok script → HasPlainScript script
-script_is_plain sound text options script bytes e =
-    subst HasPlainScript (read_is text options script e)
-    (lines_written options (lines_in text) (script_lines text (recursion_from_All (λ b. b < 256) text bytes)) sound)
+pub script_is_plain : ReadsFilters → (text : List ℕ) (options : Options) (emulation : Emulation) (script : ReadScript) → AreTextBytes text → script_in text options emulation ≡ Ok script → HasPlainScript script
+script_is_plain sound text options emulation script bytes e =
+    subst HasPlainScript (read_is text options emulation script e)
+    (lines_written options (lines_in text) emulation (script_lines text (recursion_from_All (λ b. b < 256) text bytes)) sound)
 
 -- ---- runs of a script that learn
 
 -- the law that a run can start with a script that is read
 abbrev ScriptsStart : Type 0
-ScriptsStart = (text : List ℕ) (options : Options) (script : ReadScript) → script_in text options ≡ Ok script → IsRunnableScript script
+ScriptsStart = (text : List ℕ) (options : Options) (emulation : Emulation) (script : ReadScript) → script_in text options emulation ≡ Ok script → IsRunnableScript script
 
-pub script_permits_made : PermitsMade → ReadsOnce → ReadsFilters → ScriptsStart → (text : List ℕ) (options : Options) (script : ReadScript) (policies : List BinaryPolicy) →
-    AreTextBytes text → script_in text options ≡ Ok script → options.mode ≡ Learn → 1 ≤ options.workers → options.workers ≤ 8 → WasRead script.env policies →
+pub script_permits_made : PermitsMade → ReadsOnce → ReadsFilters → ScriptsStart → (text : List ℕ) (options : Options) (emulation : Emulation) (script : ReadScript) (policies : List BinaryPolicy) →
+    AreTextBytes text → script_in text options emulation ≡ Ok script → options.mode ≡ Learn → 1 ≤ options.workers → options.workers ≤ 8 → WasRead script.env policies →
     (later earlier : History) (t q : ℕ) (call : SysCall) (regs : List ℕ) (args : List ArgText) (ids : Ids) (result : CallResult) (changes : List Change) →
     IsLawfulBack (input_with policies options script) (later ++ Used t (Some q) call regs args ids result changes ∷ earlier) →
     filters_in (learnt_in (input_with policies options script) (looking_back (input_with policies options script) (later ++ Used t (Some q) call regs args ids result changes ∷ earlier))) ≤ MOST_FILTERS →
-    ReadsAndPermits (learnt_policy_text (input_with policies options script) (looking_back (input_with policies options script) (later ++ Used t (Some q) call regs args ids result changes ∷ earlier))) script.env (looking_back (input_with policies options script) earlier) q ids
-script_permits_made permits_made once sound start text options script policies bytes e mode some few was later earlier t q call regs args ids result changes lawful room =
-    let plain : HasPlainScript script = script_is_plain sound text options script bytes e in
-    let learning : script.env.learn ≡ true = ap (λ (s : ReadScript). s.env.learn) (sym (read_is text options script e)) ∙ ap learns mode in
-    learnt_permits_made permits_made once script.env (input_with policies options script) ((start text options script e).startable policies options (λ learns. learning) some few) plain.texts mode learning plain.dollars plain.ids was
+    ReadsAndPermits (learnt_policy_text (input_with policies options script) (looking_back (input_with policies options script) (later ++ Used t (Some q) call regs args ids result changes ∷ earlier)) script.env.emulation) script.env (looking_back (input_with policies options script) earlier) q ids
+script_permits_made permits_made once sound start text options emulation script policies bytes e mode some few was later earlier t q call regs args ids result changes lawful room =
+    let plain : HasPlainScript script = script_is_plain sound text options emulation script bytes e in
+    let learning : script.env.learn ≡ true = ap (λ (s : ReadScript). s.env.learn) (sym (read_is text options emulation script e)) ∙ ap learns mode in
+    learnt_permits_made permits_made once script.env (input_with policies options script) ((start text options emulation script e).startable policies options (λ learns. learning) some few) plain.texts mode learning plain.dollars plain.ids was
     later earlier t q call regs args ids result changes lawful room

@@ -106,7 +106,7 @@ module _ (env : Env) where
   -- ---- all policies
 
   pub learnt_is_read : (policies : PoliciesValue) (versions : List ℕ → ℕ) (changed : List (List ℕ)) (session : List SessionFilter) → AreWritable env policies.read → AreWritableInForce env policies versions → All IsWritableBinary changed → All (IsWritableKept env) session
-      → filters_in (learnt_policies policies versions changed session) ≤ MOST_FILTERS → Reads (canon (learnt_policies policies versions changed session)) env [] (learnt_policies policies versions changed session)
+      → filters_in (learnt_policies policies versions changed session) ≤ MOST_FILTERS → Reads (canon (learnt_policies policies versions changed session) env.emulation) env [] (learnt_policies policies versions changed session)
   learnt_is_read policies versions changed session w forced more kept few =
       let bs : List (List ℕ) = learnt_binaries policies.read changed in
       let binaries_are : AllByRecursion IsWritableBinary bs =

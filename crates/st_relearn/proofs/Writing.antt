@@ -15,6 +15,8 @@ use Rattle.st_calls.specs.Call.{rule_named}
 use Rattle.st_lex.specs.Pieces.{Piece, PlainWord, QuotedText, Sign, Space, CanBeReadBack, is_word_text, sign_bytes}
 use Rattle.st_lex.specs.Quote.{AreBytes, quoted}
 use Rattle.st_lex.specs.Tokens.{is_word_byte}
+use Rattle.st_emulation.specs.declared.emulation.Emulation.{Emulation}
+use Rattle.st_emulation.specs.declared.emulation.Emulation.TheVariants.{Native, Linux}
 use Rattle.st_filter.specs.Formula.{Formula, True, Test, Not, And, Or, FilterValue}
 use Rattle.st_filter.specs.declared.filter.Action.{Action}
 use Rattle.st_filter.specs.declared.filter.Action.TheVariants.{Permit, Deny, Ask}
@@ -65,25 +67,33 @@ named_bytes true false word e = absurd (cc)
 named_bytes false all word e = absurd (cc)
 
 -- a name outside the rules
-readable_other : (word : List ℕ) → if_name word ≡ Some word → rule_named word ≡ None → IsReadableName (name.Other word)
-readable_other word named none = record {
+readable_other : (emulation : Emulation) (word : List ℕ) → if_name word ≡ Some word → rule_named word ≡ None → IsReadableName emulation (name.Other word)
+readable_other Native word named none = record {
+  is_word = name_bytes word (named_bytes (nat_lt 0 (length word)) (list_all is_name_byte word) word named);
+  is_read = ap (option_map (λ (call : List ℕ). name_by call (rule_named call))) named ∙ ap (λ (o : Option Rule). Some (name_by word o)) none;
+}
+readable_other Linux word named none = record {
   is_word = name_bytes word (named_bytes (nat_lt 0 (length word)) (list_all is_name_byte word) word named);
   is_read = ap (option_map (λ (call : List ℕ). name_by call (rule_named call))) named ∙ ap (λ (o : Option Rule). Some (name_by word o)) none;
 }
 
-readable_call : (call : SysCall) → IsReadableName (name.Rule (Call call))
-readable_call Open = record { is_word = refl; is_read = refl }
-readable_call _ = record { is_word = refl; is_read = refl }
+readable_call : (emulation : Emulation) (call : SysCall) → IsReadableName emulation (name.Rule (Call call))
+readable_call Native Open = record { is_word = refl; is_read = refl }
+readable_call Native _ = record { is_word = refl; is_read = refl }
+readable_call Linux Open = record { is_word = refl; is_read = refl }
+readable_call Linux _ = record { is_word = refl; is_read = refl }
 
 -- every rule has a name that is read back
-readable_rule : (rule : Rule) → IsReadableName (name.Rule rule)
-readable_rule (Call call) = readable_call call
-readable_rule FsRead = record { is_word = refl; is_read = refl }
-readable_rule FsWrite = record { is_word = refl; is_read = refl }
+readable_rule : (emulation : Emulation) (rule : Rule) → IsReadableName emulation (name.Rule rule)
+readable_rule emulation (Call call) = readable_call emulation call
+readable_rule Native FsRead = record { is_word = refl; is_read = refl }
+readable_rule Native FsWrite = record { is_word = refl; is_read = refl }
+readable_rule Linux FsRead = record { is_word = refl; is_read = refl }
+readable_rule Linux FsWrite = record { is_word = refl; is_read = refl }
 
-readable_name : (n : FilterName) → IsWritableName n → IsReadableName n
-readable_name (name.Rule rule) w = readable_rule rule
-readable_name (name.Other word) w = readable_other word w.0 w.1
+readable_name : (emulation : Emulation) (n : FilterName) → IsWritableName n → IsReadableName emulation n
+readable_name emulation (name.Rule rule) w = readable_rule emulation rule
+readable_name emulation (name.Other word) w = readable_other emulation word w.0 w.1
 
 other_by : (word : List ℕ) (o : Option Rule) → name_by word o ≡ name.Other word → o ≡ None
 other_by word None e = refl
@@ -93,9 +103,10 @@ named_by : (b : Bool) (word : List ℕ) → option_map (λ (call : List ℕ). na
 named_by true word e = (refl, other_by word (rule_named word) (same_Some (name_by word (rule_named word)) (name.Other word) e))
 named_by false word e = absurd (cc)
 
-writable_name : (n : FilterName) → IsReadableName n → IsWritableName n
-writable_name (name.Rule rule) r = tt
-writable_name (name.Other word) r = named_by (nat_lt 0 (length word) && list_all is_name_byte word) word r.is_read
+writable_name : (emulation : Emulation) (n : FilterName) → IsReadableName emulation n → IsWritableName n
+writable_name emulation (name.Rule rule) r = tt
+writable_name Native (name.Other word) r = named_by (nat_lt 0 (length word) && list_all is_name_byte word) word r.is_read
+writable_name Linux (name.Other word) r = named_by (nat_lt 0 (length word) && list_all is_name_byte word) word r.is_read
 
 -- ---- expressions
 
@@ -174,7 +185,7 @@ writable_predicate (Some p) r = r
 
 readable_filter : (env : Env) (f : FilterValue) → IsWritableFilter env f → IsReadableFilter env f
 readable_filter env f w = record {
-  name = readable_name f.name w.name;
+  name = readable_name env.emulation f.name w.name;
   condition = readable_expression f.name f.formula w.expression;
   action = readable_action env f.action w.action;
   grant = readable_grant env f.name f.action f.grant w.grant;
@@ -183,7 +194,7 @@ readable_filter env f w = record {
 
 pub writable_filter : (env : Env) (f : FilterValue) → IsReadableFilter env f → IsWritableFilter env f
 writable_filter env f r = record {
-  name = writable_name f.name r.name;
+  name = writable_name env.emulation f.name r.name;
   expression = writable_expression f.name f.formula r.condition;
   action = writable_action env f.action r.action;
   grant = writable_grant env f.name f.action f.grant r.grant;
@@ -242,10 +253,10 @@ writable_policies env (p ∷ ps) r = (writable_policy env p r.0, writable_polici
 -- ---- policies that can be written are read again
 
 -- the pieces of policies that can be written can be read back
-pub well_written : (env : Env) (set : List BinaryPolicy) → AreWritable env set → CanBeReadBack (set_pieces set)
+pub well_written : (env : Env) (set : List BinaryPolicy) → AreWritable env set → CanBeReadBack (set_pieces set env.emulation)
 well_written env set w = well_set env set (readable_policies env set (recursion_from_All (IsWritablePolicy env) set w.each))
 
-pub written_is_read : (env : Env) (set : List BinaryPolicy) → AreWritable env set → Reads (canon set) env [] set
+pub written_is_read : (env : Env) (set : List BinaryPolicy) → AreWritable env set → Reads (canon set env.emulation) env [] set
 written_is_read env set w = readable-reads env set (record { each = readable_policies env set (recursion_from_All (IsWritablePolicy env) set w.each); new = w.new; few = w.few })
 
 -- ---- policies that were read can be written

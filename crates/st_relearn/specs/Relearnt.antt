@@ -2,6 +2,7 @@
 use Rattle.std.specs.Prelude.{◌≡◌, ◌≢◌, ℕ, List, []}
 use Rattle.std.specs.List.{All}
 use Rattle.st_base.specs.declared.ids.Ids.{Ids}
+use Rattle.st_emulation.specs.declared.emulation.Emulation.{Emulation}
 use Rattle.st_filter.specs.Policies.{PoliciesValue, in_force}
 use Rattle.st_filter.specs.declared.set.BinaryPolicy.{BinaryPolicy}
 use Rattle.st_law.specs.Sessions.{SessionFilter}
@@ -32,9 +33,9 @@ HasWritableBlocks env i = i.options.mode ≢ Learn → All (IsWritablePolicy env
 abbrev pub AreWritableInForce : Env → PoliciesValue → (List ℕ → ℕ) → Type 0
 AreWritableInForce env policies versions = (binary : List ℕ) → All (IsWritableFilter env) (in_force policies binary (versions binary))
 
--- the canonical text of the policies in a state, with the filters in force and what the session has added
-abbrev pub learnt_policy_text : Input → State → List ℕ
-learnt_policy_text i st = canon (learnt_in i st)
+-- the canonical text under an emulation of the policies in a state, with the filters in force and what the session has added
+abbrev pub learnt_policy_text : Input → State → Emulation → List ℕ
+learnt_policy_text i st emulation = canon (learnt_in i st) emulation
 
 -- a text is read alone as these policies and no others, and they permit the call of a number under these ids
 pub record ReadsAndPermits (text : List ℕ) (env : Env) (st : State) (q : ℕ) (ids : Ids) : Type 0 where

@@ -5,6 +5,7 @@ ghost use Rattle.st_calls.specs.Argument.{args_of};
 ghost use Rattle.st_calls.specs.declared.argument.ArgText.{ArgText};
 ghost use Rattle.st_calls.specs.declared.call.SysCall.{SysCall};
 ghost use Rattle.st_calls.specs.declared.judged.Snapshot.{Snapshot};
+ghost use Rattle.st_emulation.specs.declared.emulation.Emulation.{Emulation};
 ghost use Rattle.st_filter.specs.Formula.{FilterValue};
 ghost use Rattle.st_filter.specs.Policies.{PoliciesValue, filters_in};
 ghost use Rattle.st_filter.specs.declared.set.BinaryPolicy.{BinaryPolicy};
@@ -41,7 +42,7 @@ use st_script::reading::what_is_read_can_start;
 
 /// Policies that can be written are read again from their canonical text.
 pub fn what_can_be_written_is_read_again()
-    ensures { (env : Env) (set : List BinaryPolicy) → AreWritable env set → Reads (canon set) env [] set }
+    ensures { (env : Env) (set : List BinaryPolicy) → AreWritable env set → Reads (canon set env.emulation) env [] set }
 {}
 
 /// Policies can be written exactly when they were read from texts.
@@ -63,7 +64,7 @@ pub fn what_is_learnt_can_be_written()
 /// they, the filters in force, the binaries that were changed and the session's filters can be written and there are not too many filters
 /// in all.
 pub fn learnt_text_is_read_again()
-    ensures { (env : Env) (policies : PoliciesValue) (versions : List ℕ → ℕ) (changed : List (List ℕ)) (session : List SessionFilter) → AreWritable env policies.read → AreWritableInForce env policies versions → All IsWritableBinary changed → All (IsWritableKept env) session → filters_in (learnt_policies policies versions changed session) ≤ MOST_FILTERS → Reads (canon (learnt_policies policies versions changed session)) env [] (learnt_policies policies versions changed session) }
+    ensures { (env : Env) (policies : PoliciesValue) (versions : List ℕ → ℕ) (changed : List (List ℕ)) (session : List SessionFilter) → AreWritable env policies.read → AreWritableInForce env policies versions → All IsWritableBinary changed → All (IsWritableKept env) session → filters_in (learnt_policies policies versions changed session) ≤ MOST_FILTERS → Reads (canon (learnt_policies policies versions changed session) env.emulation) env [] (learnt_policies policies versions changed session) }
 {}
 
 /// Each copy that a lawful run makes has the arguments of its rule, and the arguments and the binary of its policy can be written, if the
@@ -84,7 +85,7 @@ pub fn what_a_run_adds_can_be_written()
 /// it was made under, as long as no policy was reloaded since. This needs that no filter in force asks, that all filters can be written, and
 /// that there are not too many in all.
 pub fn what_is_read_again_permits_what_was_made()
-    ensures { (env : Env) (input : Input) → IsStartable input → HasPlainTexts input.start → HasWritableReplies env input → HasWritableBlocks env input → AreWritable env input.policies.read → (later earlier : History) (t q : ℕ) (call : SysCall) (regs : List ℕ) (args : List ArgText) (ids : Ids) (result : CallResult) (changes : List Change) → NoneAsksInForce input.policies (looking_back input (later ++ Used t (Some q) call regs args ids result changes ∷ earlier)).versions → HaveSameVersions (looking_back input earlier) (looking_back input (later ++ Used t (Some q) call regs args ids result changes ∷ earlier)) → IsLawfulBack input (later ++ Used t (Some q) call regs args ids result changes ∷ earlier) → filters_in (learnt_in input (looking_back input (later ++ Used t (Some q) call regs args ids result changes ∷ earlier))) ≤ MOST_FILTERS → ReadsAndPermits (learnt_policy_text input (looking_back input (later ++ Used t (Some q) call regs args ids result changes ∷ earlier))) env (looking_back input earlier) q ids }
+    ensures { (env : Env) (input : Input) → IsStartable input → HasPlainTexts input.start → HasWritableReplies env input → HasWritableBlocks env input → AreWritable env input.policies.read → (later earlier : History) (t q : ℕ) (call : SysCall) (regs : List ℕ) (args : List ArgText) (ids : Ids) (result : CallResult) (changes : List Change) → NoneAsksInForce input.policies (looking_back input (later ++ Used t (Some q) call regs args ids result changes ∷ earlier)).versions → HaveSameVersions (looking_back input earlier) (looking_back input (later ++ Used t (Some q) call regs args ids result changes ∷ earlier)) → IsLawfulBack input (later ++ Used t (Some q) call regs args ids result changes ∷ earlier) → filters_in (learnt_in input (looking_back input (later ++ Used t (Some q) call regs args ids result changes ∷ earlier))) ≤ MOST_FILTERS → ReadsAndPermits (learnt_policy_text input (looking_back input (later ++ Used t (Some q) call regs args ids result changes ∷ earlier)) env.emulation) env (looking_back input earlier) q ids }
 {
     what_was_made_is_permitted_by_what_was_learnt();
     reading_is_one();
@@ -94,7 +95,7 @@ pub fn what_is_read_again_permits_what_was_made()
 /// texts that they were read with. The result permits each held call that the run has made, under the ids that it was made under, unless
 /// there are too many filters in all.
 pub fn learnt_text_permits_what_was_made()
-    ensures { (env : Env) (input : Input) → IsStartable input → HasPlainTexts input.start → input.options.mode ≡ Learn → env.learn ≡ true → HasPlainDollars env → HasSmallIds env → WasRead env input.policies.read → (later earlier : History) (t q : ℕ) (call : SysCall) (regs : List ℕ) (args : List ArgText) (ids : Ids) (result : CallResult) (changes : List Change) → IsLawfulBack input (later ++ Used t (Some q) call regs args ids result changes ∷ earlier) → filters_in (learnt_in input (looking_back input (later ++ Used t (Some q) call regs args ids result changes ∷ earlier))) ≤ MOST_FILTERS → ReadsAndPermits (learnt_policy_text input (looking_back input (later ++ Used t (Some q) call regs args ids result changes ∷ earlier))) env (looking_back input earlier) q ids }
+    ensures { (env : Env) (input : Input) → IsStartable input → HasPlainTexts input.start → input.options.mode ≡ Learn → env.learn ≡ true → HasPlainDollars env → HasSmallIds env → WasRead env input.policies.read → (later earlier : History) (t q : ℕ) (call : SysCall) (regs : List ℕ) (args : List ArgText) (ids : Ids) (result : CallResult) (changes : List Change) → IsLawfulBack input (later ++ Used t (Some q) call regs args ids result changes ∷ earlier) → filters_in (learnt_in input (looking_back input (later ++ Used t (Some q) call regs args ids result changes ∷ earlier))) ≤ MOST_FILTERS → ReadsAndPermits (learnt_policy_text input (looking_back input (later ++ Used t (Some q) call regs args ids result changes ∷ earlier)) env.emulation) env (looking_back input earlier) q ids }
 {
     what_was_made_is_permitted_by_what_was_learnt();
     reading_is_one();
@@ -102,7 +103,7 @@ pub fn learnt_text_permits_what_was_made()
 
 /// A script that was read has texts that can be quoted, ids of 32 bits, and replies and policies that can be written.
 pub fn what_a_script_says_can_be_written()
-    ensures { (text : List ℕ) (options : Options) (script : ReadScript) → AreTextBytes text → script_in text options ≡ Ok script → HasPlainScript script }
+    ensures { (text : List ℕ) (options : Options) (emulation : Emulation) (script : ReadScript) → AreTextBytes text → script_in text options emulation ≡ Ok script → HasPlainScript script }
 {
     what_is_read_is_a_filter();
 }
@@ -111,7 +112,7 @@ pub fn what_a_script_says_can_be_written()
 /// same names and texts. The result permits each held call that the run has made, under the ids that it was made under, unless there are
 /// too many filters in all.
 pub fn what_a_script_learns_permits_what_was_made()
-    ensures { (text : List ℕ) (options : Options) (script : ReadScript) (policies : List BinaryPolicy) → AreTextBytes text → script_in text options ≡ Ok script → options.mode ≡ Learn → 1 ≤ options.workers → options.workers ≤ 8 → WasRead script.env policies → (later earlier : History) (t q : ℕ) (call : SysCall) (regs : List ℕ) (args : List ArgText) (ids : Ids) (result : CallResult) (changes : List Change) → IsLawfulBack (input_with policies options script) (later ++ Used t (Some q) call regs args ids result changes ∷ earlier) → filters_in (learnt_in (input_with policies options script) (looking_back (input_with policies options script) (later ++ Used t (Some q) call regs args ids result changes ∷ earlier))) ≤ MOST_FILTERS → ReadsAndPermits (learnt_policy_text (input_with policies options script) (looking_back (input_with policies options script) (later ++ Used t (Some q) call regs args ids result changes ∷ earlier))) script.env (looking_back (input_with policies options script) earlier) q ids }
+    ensures { (text : List ℕ) (options : Options) (emulation : Emulation) (script : ReadScript) (policies : List BinaryPolicy) → AreTextBytes text → script_in text options emulation ≡ Ok script → options.mode ≡ Learn → 1 ≤ options.workers → options.workers ≤ 8 → WasRead script.env policies → (later earlier : History) (t q : ℕ) (call : SysCall) (regs : List ℕ) (args : List ArgText) (ids : Ids) (result : CallResult) (changes : List Change) → IsLawfulBack (input_with policies options script) (later ++ Used t (Some q) call regs args ids result changes ∷ earlier) → filters_in (learnt_in (input_with policies options script) (looking_back (input_with policies options script) (later ++ Used t (Some q) call regs args ids result changes ∷ earlier))) ≤ MOST_FILTERS → ReadsAndPermits (learnt_policy_text (input_with policies options script) (looking_back (input_with policies options script) (later ++ Used t (Some q) call regs args ids result changes ∷ earlier)) script.env.emulation) script.env (looking_back (input_with policies options script) earlier) q ids }
 {
     what_was_made_is_permitted_by_what_was_learnt();
     reading_is_one();

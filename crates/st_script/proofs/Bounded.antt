@@ -2,6 +2,7 @@
 use Rattle.std.proofs.Common.{◌≡◌, ℕ, ◌≤◌, false, List, [], length, None, Ok, refl, ap, arith}
 use Rattle.std.proofs.lemmas.List.Concat.{length-flat_map}
 use Rattle.std.proofs.lemmas.List.Elements.{All-from_recursion}
+use Rattle.st_emulation.specs.declared.emulation.Emulation.{Emulation}
 use Rattle.st_law.specs.declared.input.Options.{Options}
 use Rattle.st_lex.specs.Rows.{rows}
 use Rattle.st_lex.specs.Tokens.{lexed_text}
@@ -47,7 +48,7 @@ bounded whole lines uncut threads_are started_are none said placed =
     }
 
 -- a script that is read is bounded
-pub script_is_bounded : (text : List ℕ) (options : Options) (script : ReadScript) → script_in text options ≡ Ok script → IsBounded script.start
-script_is_bounded text options = read_has IsBoundedScript text options (λ uncut none.
+pub script_is_bounded : (text : List ℕ) (options : Options) (emulation : Emulation) (script : ReadScript) → script_in text options emulation ≡ Ok script → IsBounded script.start
+script_is_bounded text options emulation = read_has IsBoundedScript text options emulation (λ uncut none.
     let lines_rows = rows (tokens_before_fault_line (lexed_text text)) in
-    bounded (whole_in text options) (lines_in text) uncut refl refl none (lines_said text NoBody lines_rows) (lines_placed text NoBody lines_rows))
+    bounded (whole_in text options emulation) (lines_in text) uncut refl refl none (lines_said text NoBody lines_rows) (lines_placed text NoBody lines_rows))

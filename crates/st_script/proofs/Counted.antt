@@ -16,6 +16,7 @@ use Rattle.st_filter.specs.declared.set.Reply.{Reply}
 use Rattle.st_filter.specs.declared.set.TheConstants.{MOST_FILTERS}
 use Rattle.st_script_faults.specs.declared.row_value.RowValue.TheVariants as value
 use Rattle.st_law.specs.Inputs.{HasProcess, HasShortTarget}
+use Rattle.st_emulation.specs.declared.emulation.Emulation.{Emulation}
 use Rattle.st_law.specs.declared.input.Options.{Options}
 use Rattle.st_lex.specs.Unquote.{unquoted}
 use Rattle.st_model.specs.declared.limits.TheConstants.{LONGEST_TEXT}
@@ -371,6 +372,6 @@ within_bounds whole env lines none =
     }
 
 -- a script that is read is within the bounds
-pub script_within : (text : List ℕ) (options : Options) (script : ReadScript) → script_in text options ≡ Ok script → IsWithinBounds script
-script_within text options = read_has IsWithinBounds text options (λ uncut none.
-    within_bounds (whole_in text options) (whole_in text options).env (lines_in text) none)
+pub script_within : (text : List ℕ) (options : Options) (emulation : Emulation) (script : ReadScript) → script_in text options emulation ≡ Ok script → IsWithinBounds script
+script_within text options emulation = read_has IsWithinBounds text options emulation (λ uncut none.
+    within_bounds (whole_in text options emulation) (whole_in text options emulation).env (lines_in text) none)

@@ -1,6 +1,7 @@
 -- A script with policies and reloads, as it is read.
 use Rattle.std.proofs.Common.{◌≡◌, ℕ, List, [], ◌∷◌, ◌++◌, None, Ok, Err, false, refl, codes, map}
 use Rattle.st_calls.specs.declared.rule.Rule.TheVariants.{FsRead, FsWrite}
+use Rattle.st_emulation.specs.declared.emulation.Emulation.TheVariants.{Native}
 use Rattle.st_filter.specs.declared.filter.FilterName.{FilterName}
 use Rattle.st_filter.specs.declared.filter.FilterName.TheVariants as name
 use Rattle.st_filter.specs.declared.set.BinaryPolicy.{BinaryPolicy}
@@ -36,10 +37,10 @@ bodies (Ok script) = map (λ row. row.body) script.start.threads
 bodies (Err fault) = []
 
 abbrev binaries : List (List ℕ)
-binaries = map (λ policy. policy.binary) (blocks (script_in text options))
+binaries = map (λ policy. policy.binary) (blocks (script_in text options Native))
 
 abbrev names : List (List FilterName)
-names = map (λ policy. map (λ filter. filter.name) policy.filters) (blocks (script_in text options))
+names = map (λ policy. map (λ filter. filter.name) policy.filters) (blocks (script_in text options Native))
 
 binaries_are : binaries ≡ codes "/root/b" ∷ codes "/c" ∷ codes "/root/b" ∷ []
 binaries_are = refl
@@ -47,5 +48,5 @@ binaries_are = refl
 filters_are : names ≡ (name.Rule FsRead ∷ name.Rule FsWrite ∷ []) ∷ [] ∷ (name.Rule FsRead ∷ []) ∷ []
 filters_are = refl
 
-bodies_are : bodies (script_in text options) ≡ (Store 1 2 ∷ Reload 1 ∷ []) ∷ (Reload 3 ∷ Reload 2 ∷ []) ∷ []
+bodies_are : bodies (script_in text options Native) ≡ (Store 1 2 ∷ Reload 1 ∷ []) ∷ (Reload 3 ∷ Reload 2 ∷ []) ∷ []
 bodies_are = refl

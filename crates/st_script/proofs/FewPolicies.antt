@@ -8,6 +8,7 @@ use Rattle.st_filter.specs.Policies.{filters_in}
 use Rattle.st_filter.specs.declared.set.BinaryPolicy.{BinaryPolicy}
 use Rattle.st_filter.specs.declared.set.TheConstants.{MOST_FILTERS}
 use Rattle.st_grammar.specs.declared.env.Env.{Env}
+use Rattle.st_emulation.specs.declared.emulation.Emulation.{Emulation}
 use Rattle.st_law.specs.declared.input.Options.{Options}
 use Rattle.st_lex.proofs.Parts.{lexed_text-slices}
 use Rattle.st_lex.specs.Rows.{ends_line, has_token, lines, rows}
@@ -167,15 +168,15 @@ abbrev pub HasFewFilters : ReadScript → Type 0
 HasFewFilters script = filters_in script.blocks ≤ MOST_FILTERS
 
 -- the policies of a script that is read have numbers of 31 bits
-pub few_policies : (text : List ℕ) (options : Options) → length text < 2 ^ 32 → (script : ReadScript) → script_in text options ≡ Ok script → HasFewPolicies script
-few_policies text options small = read_has HasFewPolicies text options (λ uncut none.
+pub few_policies : (text : List ℕ) (options : Options) (emulation : Emulation) → length text < 2 ^ 32 → (script : ReadScript) → script_in text options emulation ≡ Ok script → HasFewPolicies script
+few_policies text options emulation small = read_has HasFewPolicies text options emulation (λ uncut none.
     let tokens = tokens_before_fault_line (lexed_text text) in
-    let policies = counted (whole_in text options).env text NoBody (rows tokens) in
+    let policies = counted (whole_in text options emulation).env text NoBody (rows tokens) in
     let kept = in_rows (lines tokens) in
     let all = in_lines tokens in
     let read = read_tokens text in
     omega (arith, policies, kept, all, read, small))
 
 -- and no more filters than a script may have
-pub few_filters_read : (text : List ℕ) (options : Options) (script : ReadScript) → script_in text options ≡ Ok script → HasFewFilters script
-few_filters_read text options = read_has HasFewFilters text options (λ uncut none. few_filters (whole_in text options) (whole_in text options).env (lines_in text) none)
+pub few_filters_read : (text : List ℕ) (options : Options) (emulation : Emulation) (script : ReadScript) → script_in text options emulation ≡ Ok script → HasFewFilters script
+few_filters_read text options emulation = read_has HasFewFilters text options emulation (λ uncut none. few_filters (whole_in text options emulation) (whole_in text options emulation).env (lines_in text) none)

@@ -8,6 +8,7 @@ use Rattle.st_filter.specs.declared.filter.Action.{Action}
 use Rattle.st_filter.specs.declared.filter.Action.TheVariants as action
 use Rattle.st_filter.specs.declared.set.BinaryPolicy.{BinaryPolicy}
 use Rattle.st_filter.specs.declared.set.Reply.{Reply}
+use Rattle.st_emulation.specs.declared.emulation.Emulation.{Emulation}
 use Rattle.st_law.specs.declared.input.Options.{Options}
 use Rattle.st_lex.specs.Unquote.{unquoted}
 use Rattle.st_grammar.specs.OneFilter.{FilterResult, ReadsFilter, filter_in}
@@ -69,9 +70,9 @@ module _ (sound : IsSound) where
   lines_ungranted env (line ∷ lines) = with_reply (reply_said env line.says) (filter_map (λ line. reply_said env line.says) lines) (said_ungranted env line.says) (lines_ungranted env lines)
 
   -- the replies of a script that is read grant no ids for setting ids
-  pub replies_ungranted : (text : List ℕ) (options : Options) (script : ReadScript) → script_in text options ≡ Ok script → RepliesUngranted script.replies
-  replies_ungranted text options =
-      read_has (λ (script : ReadScript). RepliesUngranted script.replies) text options (λ uncut none. All-from_recursion IsUngrantedReply _ (lines_ungranted (whole_in text options).env (lines_in text)))
+  pub replies_ungranted : (text : List ℕ) (options : Options) (emulation : Emulation) (script : ReadScript) → script_in text options emulation ≡ Ok script → RepliesUngranted script.replies
+  replies_ungranted text options emulation =
+      read_has (λ (script : ReadScript). RepliesUngranted script.replies) text options emulation (λ uncut none. All-from_recursion IsUngrantedReply _ (lines_ungranted (whole_in text options emulation).env (lines_in text)))
 
   filter_said_ungranted : (env : Env) (o : Option Statement) → IfSome (filter_said env o) IsUngrantedForSetting
   filter_said_ungranted env None = tt
@@ -96,6 +97,6 @@ module _ (sound : IsSound) where
   in_blocks_ungranted env (line ∷ lines) = block_ungranted (policy_said env line.says) (filters_below env lines) (blocks_in env lines) (below_ungranted env lines) (in_blocks_ungranted env lines)
 
   -- the policies of a script that is read grant no ids for setting ids
-  pub blocks_ungranted : (text : List ℕ) (options : Options) (script : ReadScript) → script_in text options ≡ Ok script → SetIdsUngranted script.blocks
-  blocks_ungranted text options =
-      read_has (λ (script : ReadScript). SetIdsUngranted script.blocks) text options (λ uncut none. All-from_recursion IsUngrantedPolicy _ (in_blocks_ungranted (whole_in text options).env (lines_in text)))
+  pub blocks_ungranted : (text : List ℕ) (options : Options) (emulation : Emulation) (script : ReadScript) → script_in text options emulation ≡ Ok script → SetIdsUngranted script.blocks
+  blocks_ungranted text options emulation =
+      read_has (λ (script : ReadScript). SetIdsUngranted script.blocks) text options emulation (λ uncut none. All-from_recursion IsUngrantedPolicy _ (in_blocks_ungranted (whole_in text options emulation).env (lines_in text)))

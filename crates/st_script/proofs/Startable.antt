@@ -6,18 +6,22 @@ use Rattle.std.specs.List.{All, AllByRecursion, filter_map}
 use Rattle.std.specs.Prelude.{unwrap_or}
 use Rattle.st_base.specs.Numbered.{item_at_number}
 use Rattle.st_filter.specs.declared.set.BinaryPolicy.{BinaryPolicy}
-use Rattle.st_law.specs.Inputs.{HasProcess, IsInstruction, IsStartable}
+use Rattle.st_law.specs.Inputs.{CanStart, HasProcess, IsInstruction, IsStartable}
 use Rattle.st_law.specs.Processes.{process_count}
 use Rattle.st_law.specs.State.{thread_count}
 use Rattle.st_law.specs.Threads.{owner_of_row}
 use Rattle.st_law.specs.declared.input.Input.{Input}
 use Rattle.st_law.specs.declared.input.Mode.TheVariants.{Learn}
+use Rattle.st_emulation.specs.declared.emulation.Emulation.{Emulation}
+use Rattle.st_emulation.specs.declared.emulation.Emulation.TheVariants.{Native, Linux}
 use Rattle.st_law.specs.declared.input.Options.{Options}
 use Rattle.st_names.specs.Name.{printed_name}
 use Rattle.st_names.specs.declared.limits.TheConstants.{LONGEST_NAME}
 use Rattle.st_lex.specs.Rows.{rows}
 use Rattle.st_lex.specs.Tokens.{lexed_text}
 use Rattle.st_base.proofs.Each.{each-append}
+use Rattle.st_linux.proofs.Kept.{bounded_kept, can_start_kept, startable_kept}
+use Rattle.st_reached.specs.Scripts.{IsBounded}
 use Rattle.st_script_faults.specs.Faults.{WholeScript, first_fault, started_after, threads_after}
 use Rattle.st_script_faults.specs.Names.{Name, Names, is_name_among, no_names, with_says}
 use Rattle.st_statements.specs.Lines.{tokens_before_fault_line}
@@ -26,10 +30,11 @@ use Rattle.st_statements.specs.Statements.{lines_in}
 use Rattle.st_statements.specs.declared.statement.OpenBody.TheVariants.{NoBody}
 use Rattle.st_statements.specs.declared.statement.ScriptLine.{ScriptLine}
 use Rattle.st_statements.specs.declared.statement.Statement.TheVariants as says
+use Rattle.st_trace.specs.declared.start.Start.{Start}
 use Rattle.st_trace.specs.declared.start.ThreadRow.{ThreadRow}
 use Rattle.st_script.specs.Bounds.{IsWithinBounds}
 use Rattle.st_script.specs.Reading.{BodyNames, body_in, body_names, policy_names_after, process_said, processes_after, script_in, script_with, store_of, stores, threads_in}
-use Rattle.st_script.specs.Startable.{IsRunnableScript, input_with}
+use Rattle.st_script.specs.Startable.{IsRunnableScript, input_as_written, native_start}
 use Rattle.st_script.specs.declared.reading.ReadScript.{ReadScript}
 use Rattle.st_script.proofs.Bounded.{bounded}
 use Rattle.st_script.proofs.Counted.{NoFault, AtEnd, After, known_by, none_has, not_false, numbered_within, or_left, or_right, policies_are, policies_within, policy_still_there, threads_within, within_bounds}
@@ -97,12 +102,30 @@ directories_short whole above _ (After _ n (says.Process process) lines ok rest)
     (omega (arith, few, printed), directories_short whole (with_says above (Some (says.Process process))) lines rest said.1)
 directories_short whole above _ (After _ n s lines ok rest) said = directories_short whole (with_says above (Some s)) lines rest said.1
 
+-- ---- starts that are made native
+
+-- an input with its start made native
+abbrev with_native_start : Emulation → Input → Input
+with_native_start emulation i = record i { start = native_start emulation i.start }
+
+native_startable : (emulation : Emulation) (i : Input) → IsStartable i → IsStartable (with_native_start emulation i)
+native_startable Native i can = can
+native_startable Linux i can = (startable_kept i).0 can
+
+native_system : (emulation : Emulation) (i : Input) → CanStart i → CanStart (with_native_start emulation i)
+native_system Native i can = can
+native_system Linux i can = (can_start_kept i).0 can
+
+native_bounded : (emulation : Emulation) (start : Start) → IsBounded start → IsBounded (native_start emulation start)
+native_bounded Native start bounds = bounds
+native_bounded Linux start bounds = (bounded_kept start).0 bounds
+
 -- ---- all conditions together
 
 startable : (whole : WholeScript) (lines : List ScriptLine) → whole.is_cut ≡ false → whole.threads ≡ threads_after [] lines → NoFault whole no_names lines → AreSaid lines → IsWithinBounds (script_with whole.env lines) →
-    (policies : List BinaryPolicy) (options : Options) → (options.mode ≡ Learn → whole.env.learn ≡ true) → 1 ≤ options.workers → options.workers ≤ 8 → IsStartable (input_with policies options (script_with whole.env lines))
+    (policies : List BinaryPolicy) (options : Options) → (options.mode ≡ Learn → whole.env.learn ≡ true) → 1 ≤ options.workers → options.workers ≤ 8 → IsStartable (input_as_written policies options (script_with whole.env lines))
 startable whole lines uncut threads_are ok said bounds policies options learning some few =
-    let i = input_with policies options (script_with whole.env lines) in
+    let i = input_as_written policies options (script_with whole.env lines) in
     let processes = processes_after [] lines in
     let ts = body_names lines in
     let among : length ts.threads ≤ length i.start.threads = let within = threads_within processes ts [] lines in omega (arith, within) in
@@ -119,26 +142,28 @@ startable whole lines uncut threads_are ok said bounds policies options learning
 
 can_start : (whole : WholeScript) (lines : List ScriptLine) → whole.is_cut ≡ false → whole.threads ≡ threads_after [] lines → whole.started ≡ started_after [] lines → first_fault whole no_names lines ≡ None → AreSaid lines → ArePlaced NoBody lines → IsRunnableScript (script_with whole.env lines)
 can_start whole lines uncut threads_are started_are none said placed =
+    let script = script_with whole.env lines in
     let ok = none_has whole no_names lines none in
     let bounds = within_bounds whole whole.env lines none in
     record {
-      startable = startable whole lines uncut threads_are ok said bounds;
+      startable = λ policies options learning some few.
+          native_startable whole.env.emulation (input_as_written policies options script) (startable whole lines uncut threads_are ok said bounds policies options learning some few);
       system = λ policies options.
-          let i = input_with policies options (script_with whole.env lines) in
+          let i = input_as_written policies options script in
           let processes : process_count i ≤ 64 = bounds.few_processes in
           let threads : thread_count i ≤ 64 = bounds.few_threads in
-          record {
+          native_system whole.env.emulation i (record {
             tree = objects_stand whole lines ok said;
             few_processes = omega (arith, processes);
             few_threads = omega (arith, threads);
             owners = owners_within _ _ bounds.processes;
             short = All-from_recursion _ _ (directories_short whole no_names lines ok said);
-          };
-      bounded = bounded whole lines uncut threads_are started_are none said placed;
+          });
+      bounded = native_bounded whole.env.emulation script.start (bounded whole lines uncut threads_are started_are none said placed);
     }
 
 -- a run can start with a script that is read
-pub script_can_start : (text : List ℕ) (options : Options) (script : ReadScript) → script_in text options ≡ Ok script → IsRunnableScript script
-script_can_start text options = read_has IsRunnableScript text options (λ uncut none.
+pub script_can_start : (text : List ℕ) (options : Options) (emulation : Emulation) (script : ReadScript) → script_in text options emulation ≡ Ok script → IsRunnableScript script
+script_can_start text options emulation = read_has IsRunnableScript text options emulation (λ uncut none.
     let lines_rows = rows (tokens_before_fault_line (lexed_text text)) in
-    can_start (whole_in text options) (lines_in text) uncut refl refl none (lines_said text NoBody lines_rows) (lines_placed text NoBody lines_rows))
+    can_start (whole_in text options emulation) (lines_in text) uncut refl refl none (lines_said text NoBody lines_rows) (lines_placed text NoBody lines_rows))

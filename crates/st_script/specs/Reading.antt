@@ -2,6 +2,7 @@
 -- in force.
 use Rattle.std.specs.Prelude.{ℕ, ◌+◌, if◌then◌else◌, List, [], ◌∷◌, ◌++◌, drop, map, slice_index, Option, Some, None, option_map, Result, Ok, Err}
 use Rattle.std.specs.List.{cons_option, filter_map, range_with_len}
+use Rattle.st_emulation.specs.declared.emulation.Emulation.{Emulation}
 use Rattle.st_filter.specs.Formula.{FilterValue}
 use Rattle.st_filter.specs.declared.set.BinaryPolicy.{BinaryPolicy}
 use Rattle.st_filter.specs.declared.set.Reply.{Reply}
@@ -210,9 +211,10 @@ unless_fault (Some fault) script = Err fault
 unless_fault None script = Ok script
 
 -- what lines are read as, if this lexical fault, or none, follows them
-abbrev pub read_lines : Options → Option LexFault → List ScriptLine → Result ReadScript ScriptFault
-read_lines options broken lines = unless_fault (script_fault options broken lines) (script_with (environment_of options lines) lines)
+abbrev pub read_lines : Options → Option LexFault → List ScriptLine → Emulation → Result ReadScript ScriptFault
+read_lines options broken lines emulation =
+    unless_fault (script_fault options broken lines emulation) (script_with (environment_of options lines emulation) lines)
 
--- what the text of a script is read as
-abbrev pub script_in : List ℕ → Options → Result ReadScript ScriptFault
-script_in text options = read_lines options (lexed_text text).fault (lines_in text)
+-- what the text of a script is read as, if its filters are for this emulation
+abbrev pub script_in : List ℕ → Options → Emulation → Result ReadScript ScriptFault
+script_in text options emulation = read_lines options (lexed_text text).fault (lines_in text) emulation

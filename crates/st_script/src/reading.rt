@@ -1,4 +1,5 @@
 ghost use Rattle.std.specs.Prelude.{◌≡◌, ◌≢◌, ◌^◌, ◌<◌, ◌≤◌, ℕ, List, [], None, Some, Ok, Err, length, IfOk, IfErr, OnOk};
+ghost use Rattle.st_emulation.specs.declared.emulation.Emulation.{Emulation};
 ghost use Rattle.st_filter.specs.Policies.{filters_in};
 ghost use Rattle.st_filter.specs.declared.set.TheConstants.{MOST_FILTERS};
 ghost use Rattle.st_law.specs.declared.input.Options.{Options};
@@ -13,6 +14,7 @@ ghost use Rattle.st_script.specs.Reading.{object_name, started_process, with_row
 
 use crate::bodies::threads_in;
 use st_base::{Sequence, Text};
+use st_emulation::Emulation;
 use st_filter::{BinaryPolicy, Reply};
 use st_grammar::Env;
 use st_law::Options;
@@ -29,7 +31,7 @@ use std::alloc::{AllocError, Global};
 /// A script that was read.
 #[derive(Debug, Drop)]
 pub struct ReadScript {
-    /// The start of its run.
+    /// The start of its run, as it is written.
     pub start: Start,
     /// The environment that policies are read with.
     pub env: Env,
@@ -176,13 +178,14 @@ fn env_and_filters(
     options: &Options,
     broken: Option<LexFault>,
     lines: &[ScriptLine],
+    emulation: Emulation,
 ) -> Result<(Env, ScriptFilters), ScriptFault>
-    ensures faultless { IfOk result (λ both. script_fault options.now broken lines.now ≡ None) }
-    ensures env { IfOk result (λ both. both.0 ≡ environment_of options.now lines.now) }
+    ensures faultless { IfOk result (λ both. script_fault options.now broken lines.now emulation ≡ None) }
+    ensures env { IfOk result (λ both. both.0 ≡ environment_of options.now lines.now emulation) }
     ensures filters { IfOk result (λ both. both.1 ≡ filters_after both.0 no_filters lines.now) }
-    ensures fault { IfErr result (λ f. f ≢ ScriptFault.NoMemory → script_fault options.now broken lines.now ≡ Some f) }
+    ensures fault { IfErr result (λ f. f ≢ ScriptFault.NoMemory → script_fault options.now broken lines.now emulation ≡ Some f) }
 {
-    let whole = whole_of(alloc, broken.is_some(), options, lines)?;
+    let whole = whole_of(alloc, broken.is_some(), options, lines, emulation)?;
     let filters = faultless_filters(alloc, &whole, broken, lines);
     let env = whole.into_env();
     Ok((env, filters?))
@@ -194,21 +197,27 @@ fn read_lines(
     options: &Options,
     broken: Option<LexFault>,
     lines: Vec<ScriptLine>,
+    emulation: Emulation,
 ) -> Result<ReadScript, ScriptFault>
-    ensures ok { IfOk result (λ script. read_lines options.now broken lines.items ≡ Ok script) }
-    ensures fault { IfErr result (λ f. f ≢ ScriptFault.NoMemory → read_lines options.now broken lines.items ≡ Err f) }
+    ensures ok { IfOk result (λ script. read_lines options.now broken lines.items emulation ≡ Ok script) }
+    ensures fault { IfErr result (λ f. f ≢ ScriptFault.NoMemory → read_lines options.now broken lines.items emulation ≡ Err f) }
 {
-    let (env, filters) = env_and_filters(alloc, options, broken, lines.as_slice())?;
+    let (env, filters) = env_and_filters(alloc, options, broken, lines.as_slice(), emulation)?;
     Ok(script_with(alloc, env, lines, filters)?)
 }
 
-/// Reads a script: the start of its run, the environment that policies are read with, the operator's replies, and the policies that reloads
-/// put in force. Otherwise the fault is that of the first line that has one. If the line has several, it is the first kind of them, and a
-/// lexical fault before all others.
-pub fn read_script(alloc: Global, text: &[u8], options: &Options) -> Result<ReadScript, ScriptFault>
+/// Reads a script whose filters are for an emulation: the start as it is written, the environment that policies are read with, the
+/// operator's replies, and the policies that reloads put in force. Otherwise the fault is that of the first line that has one. If the line
+/// has several, it is the first kind of them, and a lexical fault before all others.
+pub fn read_script(
+    alloc: Global,
+    text: &[u8],
+    options: &Options,
+    emulation: Emulation,
+) -> Result<ReadScript, ScriptFault>
     requires { length text.now < 2 ^ 32 }
-    ensures ok { IfOk result (λ script. script_in text.now options.now ≡ Ok script) }
-    ensures fault { IfErr result (λ f. f ≢ ScriptFault.NoMemory → script_in text.now options.now ≡ Err f) }
+    ensures ok { IfOk result (λ script. script_in text.now options.now emulation ≡ Ok script) }
+    ensures fault { IfErr result (λ f. f ≢ ScriptFault.NoMemory → script_in text.now options.now emulation ≡ Err f) }
     ensures bounds { IfOk result IsWithinBounds }
     ensures few_filters { IfOk result (λ script. filters_in script.blocks ≤ MOST_FILTERS) }
     ensures few_policies { IfOk result (λ script. length script.blocks < 2 ^ 31) }
@@ -217,15 +226,15 @@ pub fn read_script(alloc: Global, text: &[u8], options: &Options) -> Result<Read
 {
     let lexed = tokens(alloc, text)?;
     let lines = lines_of_tokens(alloc, text, looked_at(&lexed))?;
-    read_lines(alloc, options, lexed.fault, lines)
+    read_lines(alloc, options, lexed.fault, lines, emulation)
 }
 
 /// A run can start with a script that was read, under any policies and with one to eight workers.
 pub fn what_is_read_can_start()
-    ensures { (text : List ℕ) (options : Options) (script : ReadScript) → script_in text options ≡ Ok script → IsRunnableScript script }
+    ensures { (text : List ℕ) (options : Options) (emulation : Emulation) (script : ReadScript) → script_in text options emulation ≡ Ok script → IsRunnableScript script }
 {}
 
 /// A script that was read isn't too long, stores into memory only, and starts each thread in at most one way.
 pub fn what_is_read_is_bounded()
-    ensures { (text : List ℕ) (options : Options) (script : ReadScript) → script_in text options ≡ Ok script → IsBounded script.start }
+    ensures { (text : List ℕ) (options : Options) (emulation : Emulation) (script : ReadScript) → script_in text options emulation ≡ Ok script → IsBounded script.start }
 {}

@@ -1,5 +1,7 @@
 -- Scripts with policies and reloads, and their faults.
 use Rattle.std.proofs.Common.{◌≡◌, ℕ, List, [], ◌∷◌, ◌++◌, None, Some, false, refl, codes, Option}
+use Rattle.st_emulation.specs.declared.emulation.Emulation.{Emulation}
+use Rattle.st_emulation.specs.declared.emulation.Emulation.TheVariants.{Native, Linux}
 use Rattle.st_law.specs.declared.input.Mode.TheVariants.{Enforce, Learn}
 use Rattle.st_law.specs.declared.input.Options.{Options}
 use Rattle.st_lex.specs.Tokens.{lexed_text}
@@ -21,8 +23,12 @@ abbrev with_newlines : List (List ℕ) → List ℕ
 with_newlines [] = []
 with_newlines (line ∷ lines) = line ++ 10 ∷ with_newlines lines
 
+-- the fault of a script under an emulation
+abbrev fault_under : Emulation → Options → List (List ℕ) → Option ScriptFault
+fault_under emulation options lines = script_fault options (lexed_text (with_newlines lines)).fault (lines_in (with_newlines lines)) emulation
+
 abbrev fault_of : Options → List (List ℕ) → Option ScriptFault
-fault_of options lines = script_fault options (lexed_text (with_newlines lines)).fault (lines_in (with_newlines lines))
+fault_of = fault_under Native
 
 -- an administrator's reload
 abbrev reloading : List (List ℕ)
@@ -85,6 +91,34 @@ asks_while_learning = refl
 user_below : fault_of enforcing (codes "policy np \"/b\"" ∷ codes "native-open: permit, if user = u" ∷ codes "end" ∷ codes "user u 5 5 \"/\"" ∷ []) ≡ None
 user_below = refl
 
+-- ---- emulations
+
+-- a policy and a reply with native names
+abbrev native_rows : List (List ℕ)
+native_rows = codes "policy np \"/b\"" ∷ codes "native-open: permit" ∷ codes "end" ∷ codes "reply \"/b\" native-open: permit" ∷ []
+
+native_done : fault_of enforcing native_rows ≡ None
+native_done = refl
+
+native_under_linux : fault_under Linux enforcing native_rows ≡ Some (Expected 2)
+native_under_linux = refl
+
+-- the same with names of Linux
+abbrev linux_rows : List (List ℕ)
+linux_rows = codes "policy np \"/b\"" ∷ codes "linux-open: permit" ∷ codes "end" ∷ codes "reply \"/b\" linux-open: permit" ∷ []
+
+linux_done : fault_under Linux enforcing linux_rows ≡ None
+linux_done = refl
+
+linux_without_emulation : fault_of enforcing linux_rows ≡ Some (Expected 2)
+linux_without_emulation = refl
+
+native_reply : fault_under Linux enforcing (codes "reply \"/b\" native-open: permit" ∷ []) ≡ Some (Expected 1)
+native_reply = refl
+
+linux_reply : fault_of enforcing (codes "reply \"/b\" linux-open: permit" ∷ []) ≡ Some (Expected 1)
+linux_reply = refl
+
 -- ---- names
 
 again : fault_of enforcing (codes "policy np \"/b\"" ∷ codes "end" ∷ codes "policy np \"/c\"" ∷ codes "end" ∷ []) ≡ Some (Duplicate 3)
@@ -108,7 +142,7 @@ unknown_above_a_cut = refl
 -- ---- how many
 
 abbrev whole : WholeScript
-whole = whole_of false learning []
+whole = whole_of false learning [] Native
 
 abbrev full : Names
 full = record no_names { policies = codes "np" ∷ []; instructions = 4096; filters = 4096 }

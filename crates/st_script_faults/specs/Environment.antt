@@ -1,5 +1,6 @@
 -- The environment that policies and the filters of a script's replies are read with: what all rows of the script define.
 use Rattle.std.specs.Prelude.{ℕ, Bool, true, false, ◌||◌, ◌&&◌, not, ◌==◌, if◌then◌else◌, nat_le, List, [], ◌∷◌, length, map, codes, decimal, find, Option, Some, None, is_some}
+use Rattle.st_emulation.specs.declared.emulation.Emulation.{Emulation}
 use Rattle.st_law.specs.declared.input.Mode.{Mode}
 use Rattle.st_law.specs.declared.input.Mode.TheVariants.{Enforce, Learn, AskText}
 use Rattle.st_law.specs.declared.input.Options.{Options}
@@ -95,12 +96,13 @@ learns Learn = true
 learns Enforce = false
 learns AskText = false
 
--- the environment that the lines of a script define
-abbrev pub environment_of : Options → List ScriptLine → Env
-environment_of options lines = record {
+-- the environment that the lines of a script define, if their filters are for this emulation
+abbrev pub environment_of : Options → List ScriptLine → Emulation → Env
+environment_of options lines emulation = record {
   users = map user_id (users_below [] lines);
   groups = map group_id (groups_below [] lines);
   dollars = dollars_of options (users_below [] lines) (first_traced [] lines);
   elevate = is_some options.ids;
   learn = learns options.mode;
+  emulation = emulation;
 }

@@ -1,6 +1,7 @@
 -- The faults of a script, by line.
 use Rattle.std.specs.Prelude.{◌≡◌, ℕ, ◌+◌, Bool, true, false, ◌||◌, ◌&&◌, not, if◌then◌else◌, nat_le, nat_lt, List, [], ◌∷◌, ◌++◌, length, Option, Some, None, is_some, option_map, option_and_then, Ok, Err}
 use Rattle.std.specs.List.{list_any}
+use Rattle.st_emulation.specs.declared.emulation.Emulation.{Emulation}
 use Rattle.st_filter.specs.Formula.{FilterValue}
 use Rattle.st_law.specs.declared.input.Options.{Options}
 use Rattle.st_lex.specs.declared.token.LexFault.{LexFault}
@@ -270,12 +271,12 @@ started_after names [] = names
 started_after names (line ∷ lines) = started_after (with_started names line.says) lines
 
 -- what the rows of a script are read with, from the whole script
-abbrev pub whole_of : Bool → Options → List ScriptLine → WholeScript
-whole_of is_cut options lines = record {
+abbrev pub whole_of : Bool → Options → List ScriptLine → Emulation → WholeScript
+whole_of is_cut options lines emulation = record {
   is_cut = is_cut;
   threads = threads_after [] lines;
   started = started_after [] lines;
-  env = environment_of options lines;
+  env = environment_of options lines emulation;
 }
 
 -- the lexical fault of a script
@@ -288,6 +289,6 @@ first_of (Some fault) other = Some fault
 first_of None other = other
 
 -- the fault of a script: that of its first line that has one, otherwise the lexical fault
-abbrev pub script_fault : Options → Option LexFault → List ScriptLine → Option ScriptFault
-script_fault options broken lines =
-    first_of (first_fault (whole_of (is_some broken) options lines) no_names lines) (script_lexical_fault broken)
+abbrev pub script_fault : Options → Option LexFault → List ScriptLine → Emulation → Option ScriptFault
+script_fault options broken lines emulation =
+    first_of (first_fault (whole_of (is_some broken) options lines emulation) no_names lines) (script_lexical_fault broken)

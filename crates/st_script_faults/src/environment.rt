@@ -4,6 +4,7 @@ ghost use Rattle.st_script_faults.specs.Environment.{new_user, users_below, new_
 use crate::limits::MOST_PROCESSES;
 use crate::names::NameIndex;
 use st_base::{Sequence, Text};
+use st_emulation::Emulation;
 use st_grammar::{Env, NamedId};
 use st_law::{Mode, Options};
 use st_lex::Dollars;
@@ -253,14 +254,15 @@ fn users_and_dollars(
     Ok((ids, dollars_of(alloc, options, users.as_slice(), process)?))
 }
 
-/// The environment that policies and the filters of replies are read with: users and groups of all lines, of each name the first, and the
-/// three texts of the first traced process. A process that is refused is skipped.
+/// The environment that policies and the filters of replies are read with: users and groups of all lines, of each name the first, the
+/// three texts of the first traced process, and the emulation. A process that is refused is skipped.
 pub fn environment_of(
     alloc: Global,
     options: &Options,
     lines: &[ScriptLine],
+    emulation: Emulation,
 ) -> Result<Env, AllocError>
-    ensures { IfOk result (λ env. env ≡ environment_of options.now lines.now) }
+    ensures { IfOk result (λ env. env ≡ environment_of options.now lines.now emulation) }
 {
     let (users, dollars) = users_and_dollars(alloc, options, lines)?;
     Ok(Env {
@@ -269,5 +271,6 @@ pub fn environment_of(
         dollars,
         elevate: options.ids.is_some(),
         learn: learns(options.mode),
+        emulation,
     })
 }

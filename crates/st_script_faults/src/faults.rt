@@ -17,6 +17,7 @@ use crate::names::{NameIndex, NamesAbove, directory_of, store_count};
 use crate::row_value::{RowValue, row_value};
 use crate::script_filters::ScriptFilters;
 use st_base::Text;
+use st_emulation::Emulation;
 use st_filter::MOST_FILTERS;
 use st_grammar::Env;
 use st_law::Options;
@@ -385,14 +386,15 @@ pub fn whole_of<'a>(
     is_cut: bool,
     options: &Options,
     lines: &'a [ScriptLine],
+    emulation: Emulation,
 ) -> Result<Whole<'a>, AllocError>
-    ensures { IfOk result (λ whole. whole ≡ whole_of is_cut options.now lines.now) }
+    ensures { IfOk result (λ whole. whole ≡ whole_of is_cut options.now lines.now emulation) }
 {
     Ok(Whole {
         is_cut,
         threads: threads_of(alloc, lines)?,
         started: started_of(alloc, lines)?,
-        env: environment_of(alloc, options, lines)?,
+        env: environment_of(alloc, options, lines, emulation)?,
     })
 }
 

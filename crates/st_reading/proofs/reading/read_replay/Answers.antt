@@ -22,7 +22,7 @@ returns-in_err-input-clause-ends g c =
     let contents = g.F.Files.contents c.args.files.now in
     let faults = g.F.Files.faults c.args.files.now in
     let old = g.F.Files.asked c.args.files.now in
-    let replay : ReplayWords = record { policies = words_at c.replay.inside.policies; script = c.replay.inside.script.now; trace = c.replay.inside.trace.now; options = c.replay.inside.options } in
+    let replay : ReplayWords = record { policies = words_at c.replay.inside.policies; script = c.replay.inside.script.now; trace = c.replay.inside.trace.now; options = c.replay.inside.options; emulation = c.replay.inside.emulation } in
     let words : InputWords = replay_input replay in
     let after = g.F.Files.faults c.read_input.new.files in
     let new = g.F.Files.asked c.read_input.new.files in
@@ -37,7 +37,7 @@ returns-in_err-trace-clause-ends g c =
     let contents = g.F.Files.contents c.args.files.now in
     let faults = g.F.Files.faults c.args.files.now in
     let old = g.F.Files.asked c.args.files.now in
-    let replay : ReplayWords = record { policies = words_at c.replay.inside.policies; script = c.replay.inside.script.now; trace = c.replay.inside.trace.now; options = c.replay.inside.options } in
+    let replay : ReplayWords = record { policies = words_at c.replay.inside.policies; script = c.replay.inside.script.now; trace = c.replay.inside.trace.now; options = c.replay.inside.options; emulation = c.replay.inside.emulation } in
     let words : InputWords = replay_input replay in
     let mid = g.F.Files.asked c.read_input.new.files in
     let after = g.F.Files.faults c.fetch_trace.new.files in
@@ -63,7 +63,7 @@ returns-clause-ends g c =
     let contents = g.F.Files.contents c.args.files.now in
     let faults = g.F.Files.faults c.args.files.now in
     let old = g.F.Files.asked c.args.files.now in
-    let replay : ReplayWords = record { policies = words_at c.replay.inside.policies; script = c.replay.inside.script.now; trace = c.replay.inside.trace.now; options = c.replay.inside.options } in
+    let replay : ReplayWords = record { policies = words_at c.replay.inside.policies; script = c.replay.inside.script.now; trace = c.replay.inside.trace.now; options = c.replay.inside.options; emulation = c.replay.inside.emulation } in
     let words : InputWords = replay_input replay in
     let mid = g.F.Files.asked c.read_input.new.files in
     let after = g.F.Files.faults c.fetch_trace.new.files in

@@ -23,7 +23,7 @@ returns-in_err-input-clause-ends g c =
     let contents = g.F.Files.contents c.args.files.now in
     let faults = g.F.Files.faults c.args.files.now in
     let old = g.F.Files.asked c.args.files.now in
-    let step : StepWords = record { policies = words_at c.step.inside.policies; script = c.step.inside.script.now; schedule = c.step.inside.schedule.now; options = c.step.inside.options; print = c.step.inside.print } in
+    let step : StepWords = record { policies = words_at c.step.inside.policies; script = c.step.inside.script.now; schedule = c.step.inside.schedule.now; options = c.step.inside.options; print = c.step.inside.print; emulation = c.step.inside.emulation } in
     let words : InputWords = step_input step in
     let after = g.F.Files.faults c.read_input.new.files in
     let new = g.F.Files.asked c.read_input.new.files in
@@ -38,7 +38,7 @@ returns-in_err-schedule-clause-ends g c =
     let contents = g.F.Files.contents c.args.files.now in
     let faults = g.F.Files.faults c.args.files.now in
     let old = g.F.Files.asked c.args.files.now in
-    let step : StepWords = record { policies = words_at c.step.inside.policies; script = c.step.inside.script.now; schedule = c.step.inside.schedule.now; options = c.step.inside.options; print = c.step.inside.print } in
+    let step : StepWords = record { policies = words_at c.step.inside.policies; script = c.step.inside.script.now; schedule = c.step.inside.schedule.now; options = c.step.inside.options; print = c.step.inside.print; emulation = c.step.inside.emulation } in
     let words : InputWords = step_input step in
     let mid = g.F.Files.asked c.read_input.new.files in
     let after = g.F.Files.faults c.read_schedule_file.new.files in
@@ -64,7 +64,7 @@ returns-clause-ends g c =
     let contents = g.F.Files.contents c.args.files.now in
     let faults = g.F.Files.faults c.args.files.now in
     let old = g.F.Files.asked c.args.files.now in
-    let step : StepWords = record { policies = words_at c.step.inside.policies; script = c.step.inside.script.now; schedule = c.step.inside.schedule.now; options = c.step.inside.options; print = c.step.inside.print } in
+    let step : StepWords = record { policies = words_at c.step.inside.policies; script = c.step.inside.script.now; schedule = c.step.inside.schedule.now; options = c.step.inside.options; print = c.step.inside.print; emulation = c.step.inside.emulation } in
     let words : InputWords = step_input step in
     let mid = g.F.Files.asked c.read_input.new.files in
     let after = g.F.Files.faults c.read_schedule_file.new.files in

@@ -11,7 +11,7 @@ returns-clause-ends g c =
     let contents = g.F.Files.contents c.args.files.now in
     let faults = g.F.Files.faults c.args.files.now in
     let old = g.F.Files.asked c.args.files.now in
-    let run : RunWords = record { policies = words_at c.run.inside.policies; script = c.run.inside.script.now; options = c.run.inside.options; print = c.run.inside.print } in
+    let run : RunWords = record { policies = words_at c.run.inside.policies; script = c.run.inside.script.now; options = c.run.inside.options; print = c.run.inside.print; emulation = c.run.inside.emulation } in
     let after = g.F.Files.faults c.read_input.new.files in
     let new = g.F.Files.asked c.read_input.new.files in
     subst (λ (r : RunWords). EndsReadingRun contents r faults after old new c.read_input.result) c.run.view_is

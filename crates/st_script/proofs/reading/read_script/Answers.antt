@@ -9,16 +9,16 @@ use Rattle.st_script.proofs.Startable.{script_can_start}
 use Rattle.st_script.proofs.reading.read_script.Goals as goal
 
 pub returns-clause-bounds : goal.returns-clause-bounds
-returns-clause-bounds c = result_has IsWithinBounds c.args.text.now c.args.options.now (script_within c.args.text.now c.args.options.now) c.read_lines.result (search rules)
+returns-clause-bounds c = result_has IsWithinBounds c.args.text.now c.args.options.now c.args.emulation (script_within c.args.text.now c.args.options.now c.args.emulation) c.read_lines.result (search rules)
 
 pub returns-clause-few_filters : goal.returns-clause-few_filters
-returns-clause-few_filters c = result_has HasFewFilters c.args.text.now c.args.options.now (few_filters_read c.args.text.now c.args.options.now) c.read_lines.result (search rules)
+returns-clause-few_filters c = result_has HasFewFilters c.args.text.now c.args.options.now c.args.emulation (few_filters_read c.args.text.now c.args.options.now c.args.emulation) c.read_lines.result (search rules)
 
 pub returns-clause-few_policies : goal.returns-clause-few_policies
-returns-clause-few_policies c = result_has HasFewPolicies c.args.text.now c.args.options.now (few_policies c.args.text.now c.args.options.now c.requires) c.read_lines.result (search rules)
+returns-clause-few_policies c = result_has HasFewPolicies c.args.text.now c.args.options.now c.args.emulation (few_policies c.args.text.now c.args.options.now c.args.emulation c.requires) c.read_lines.result (search rules)
 
 pub returns-clause-can_start : goal.returns-clause-can_start
-returns-clause-can_start c = result_has IsRunnableScript c.args.text.now c.args.options.now (script_can_start c.args.text.now c.args.options.now) c.read_lines.result (search rules)
+returns-clause-can_start c = result_has IsRunnableScript c.args.text.now c.args.options.now c.args.emulation (script_can_start c.args.text.now c.args.options.now c.args.emulation) c.read_lines.result (search rules)
 
 pub returns-clause-bounded : goal.returns-clause-bounded
-returns-clause-bounded c = result_has IsBoundedScript c.args.text.now c.args.options.now (script_is_bounded c.args.text.now c.args.options.now) c.read_lines.result (search rules)
+returns-clause-bounded c = result_has IsBoundedScript c.args.text.now c.args.options.now c.args.emulation (script_is_bounded c.args.text.now c.args.options.now c.args.emulation) c.read_lines.result (search rules)
