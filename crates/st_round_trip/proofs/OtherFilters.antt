@@ -1,6 +1,7 @@
 -- A filter that doesn't ask is read as the same filter whether filters are learnt or not.
 use Rattle.std.proofs.Common.{◌≡◌, ◌≢◌, ◌∙◌, ℕ, Bool, true, List, Option, Some, None, Ok, Err, refl, ap, sym, subst}
 use Rattle.std.proofs.lemmas.Option.{same_Some}
+use Rattle.st_emulation.specs.declared.emulation.Emulation.{Emulation}
 use Rattle.st_filter.specs.Formula.{Formula, FilterValue, Level}
 use Rattle.st_filter.specs.declared.filter.Action.{Action}
 use Rattle.st_filter.specs.declared.filter.Action.TheVariants.{Permit, Deny, Ask}
@@ -44,10 +45,10 @@ one_option (Some x) p there back = sym (there x refl)
 one_option None (Some x) there back = back x refl
 one_option None None there back = refl
 
-module _ (users groups : List NamedId) (dollars : Dollars) (elevate : Bool) where
+module _ (users groups : List NamedId) (dollars : Dollars) (elevate : Bool) (emulation : Emulation) where
   -- the environment of filters, whether they are learnt or not
   abbrev pub env_with : Bool → Env
-  env_with learn = record { users = users; groups = groups; dollars = dollars; elevate = elevate; learn = learn }
+  env_with learn = record { users = users; groups = groups; dollars = dollars; elevate = elevate; learn = learn; emulation = emulation }
 
   module _ (a b : Bool) where
     expression_so : {name : FilterName} {level : Level} {ts : List Symbol} {f : Formula} → Spells (env_with a) name level ts f → Spells (env_with b) name level ts f

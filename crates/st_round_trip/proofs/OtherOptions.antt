@@ -2,6 +2,7 @@
 -- policies, and the same environment for policies, whether filters are learnt or not.
 use Rattle.std.proofs.Common.{◌≡◌, ◌∙◌, ◌==◌, ◌⊎◌, inl, inr, ℕ, Bool, true, false, if◌then◌else◌, nat_le, List, [], ◌∷◌, Option, Some, None, find, is_some, map, Ok, Err, refl, ap, sym, subst}
 use Rattle.std.specs.List.{cons_option, filter_map}
+use Rattle.st_emulation.specs.declared.emulation.Emulation.{Emulation}
 use Rattle.st_filter.specs.Formula.{FilterValue}
 use Rattle.st_filter.specs.declared.set.BinaryPolicy.{BinaryPolicy}
 use Rattle.st_filter.specs.declared.set.Reply.{Reply}
@@ -37,10 +38,10 @@ use Rattle.st_round_trip.proofs.OtherFilters.{IsComplete, IsSound, env_with, lea
 
 -- ---- the environment that policies are read with
 
-pub env_is : (text : List ℕ) (options : Options) (script : ReadScript) → script_in text options ≡ Ok script → script.env ≡ environment_of options (lines_in text)
-env_is text options script is = read_has (λ (other : ReadScript). other.env ≡ environment_of options (lines_in text)) text options (λ uncut none. refl) script is
+pub env_is : (text : List ℕ) (options : Options) (emulation : Emulation) (script : ReadScript) → script_in text options emulation ≡ Ok script → script.env ≡ environment_of options (lines_in text) emulation
+env_is text options emulation script is = read_has (λ (other : ReadScript). other.env ≡ environment_of options (lines_in text) emulation) text options emulation (λ uncut none. refl) script is
 
-module _ (options other : Options) (ids : other.ids ≡ options.ids) (lines : List ScriptLine) where
+module _ (options other : Options) (ids : other.ids ≡ options.ids) (lines : List ScriptLine) (emulation : Emulation) where
   same_user : (process : ScriptProcess) → user_of other process ≡ user_of options process
   same_user process = ap (λ (o : Option (ℕ × ℕ)). elim o [ Some pair ↦ pair.0 | None ↦ process.uid ]) ids
 
@@ -50,31 +51,31 @@ module _ (options other : Options) (ids : other.ids ≡ options.ids) (lines : Li
 
   -- the environment that these lines give, whether filters are learnt or not
   abbrev env_for : Bool → Env
-  env_for learn = env_with (map user_id (users_below [] lines)) (map group_id (groups_below [] lines)) (dollars_of options (users_below [] lines) (first_traced [] lines)) (is_some options.ids) learn
+  env_for learn = env_with (map user_id (users_below [] lines)) (map group_id (groups_below [] lines)) (dollars_of options (users_below [] lines) (first_traced [] lines)) (is_some options.ids) emulation learn
 
-  same_env : (learn : Bool) → learns other.mode ≡ learn → environment_of other lines ≡ env_for learn
+  same_env : (learn : Bool) → learns other.mode ≡ learn → environment_of other lines emulation ≡ env_for learn
   same_env learn is =
       let users : List NamedId = map user_id (users_below [] lines) in
       let groups : List NamedId = map group_id (groups_below [] lines) in
       let dollars : Dollars = dollars_of options (users_below [] lines) (first_traced [] lines) in
-      ap (λ (d : Dollars). env_with users groups d (is_some other.ids) (learns other.mode)) (same_dollars (users_below [] lines) (first_traced [] lines))
-      ∙ (ap (λ (o : Option (ℕ × ℕ)). env_with users groups dollars (is_some o) (learns other.mode)) ids ∙ ap env_for is)
+      ap (λ (d : Dollars). env_with users groups d (is_some other.ids) emulation (learns other.mode)) (same_dollars (users_below [] lines) (first_traced [] lines))
+      ∙ (ap (λ (o : Option (ℕ × ℕ)). env_with users groups dollars (is_some o) emulation (learns other.mode)) ids ∙ ap env_for is)
 
   -- filters are learnt under the other options too, or they aren't
   pub env_by : options.mode ≡ Learn → (m : Mode) → other.mode ≡ m →
-      (environment_of other lines ≡ environment_of options lines) ⊎ (environment_of other lines ≡ enforcing (environment_of options lines))
+      (environment_of other lines emulation ≡ environment_of options lines emulation) ⊎ (environment_of other lines emulation ≡ enforcing (environment_of options lines emulation))
   env_by learning Learn is = inl (same_env true (ap learns is) ∙ sym (ap env_for (ap learns learning)))
   env_by learning Enforce is = inr (same_env false (ap learns is))
   env_by learning AskText is = inr (same_env false (ap learns is))
 
 -- ---- replies and faults
 
-module _ (sound : IsSound) (complete : IsComplete) (users groups : List NamedId) (dollars : Dollars) (elevate : Bool) (a b : Bool) where
+module _ (sound : IsSound) (complete : IsComplete) (users groups : List NamedId) (dollars : Dollars) (elevate : Bool) (emulation : Emulation) (a b : Bool) where
   abbrev env : Bool → Env
-  env learn = env_with users groups dollars elevate learn
+  env learn = env_with users groups dollars elevate emulation learn
 
   same_reply : (binary filter : List ℕ) → reply_in (env a) binary filter ≡ reply_in (env b) binary filter
-  same_reply binary filter = ap (reply_for (unquoted dollars binary)) (same_answer users groups dollars elevate sound complete a b filter)
+  same_reply binary filter = ap (reply_for (unquoted dollars binary)) (same_answer users groups dollars elevate emulation sound complete a b filter)
 
   same_said : (o : Option Statement) → reply_said (env a) o ≡ reply_said (env b) o
   same_said None = refl
@@ -89,9 +90,9 @@ module _ (sound : IsSound) (complete : IsComplete) (users groups : List NamedId)
 
 -- ---- what has no fault while filters are learnt
 
-module _ (sound : IsSound) (complete : IsComplete) (users groups : List NamedId) (dollars : Dollars) (elevate b : Bool) (is_cut : Bool) (threads started : List Name) where
+module _ (sound : IsSound) (complete : IsComplete) (users groups : List NamedId) (dollars : Dollars) (elevate : Bool) (emulation : Emulation) (b : Bool) (is_cut : Bool) (threads started : List Name) where
   abbrev env_of : Bool → Env
-  env_of learn = env_with users groups dollars elevate learn
+  env_of learn = env_with users groups dollars elevate emulation learn
 
   abbrev whole : Bool → WholeScript
   whole learn = record { is_cut = is_cut; threads = threads; started = started; env = env_of learn }
@@ -102,7 +103,7 @@ module _ (sound : IsSound) (complete : IsComplete) (users groups : List NamedId)
 
   -- a filter that has no fault is read as the same filter
   same_filter : (above : Names) (line : ℕ) (text : List ℕ) (x : FilterResult) → filter_in text (env_of true) ≡ x → filter_fault above line (filter_read x) ≡ None → filter_in text (env_of b) ≡ x
-  same_filter above line text (Ok f) is none = learnt_read users groups dollars elevate sound complete b text f is
+  same_filter above line text (Ok f) is none = learnt_read users groups dollars elevate emulation sound complete b text f is
   same_filter above line text (Err fault) is none = absurd (cc)
 
   read_alike : (above : Names) (line : ℕ) (text : List ℕ) → filter_fault above line (filter_read (filter_in text (env_of true))) ≡ None → filter_in text (env_of true) ≡ filter_in text (env_of b)
@@ -117,7 +118,7 @@ module _ (sound : IsSound) (complete : IsComplete) (users groups : List NamedId)
   row_so : (above : Names) (below : List ScriptLine) (line : ℕ) (statement : Statement) → row_fault (whole true) above below line statement ≡ None → row_fault (whole b) above below line statement ≡ None
   row_so above below line (says.Reply binary filter) none =
       ap (λ (o : Option Reply). if is_invalid (or_invalid value.Reply o) then Some (Expected line) else if is_long (unquoted dollars binary) then Some (TooMany line) else None)
-      (sym (same_reply sound complete users groups dollars elevate true b binary filter)) ∙ none
+      (sym (same_reply sound complete users groups dollars elevate emulation true b binary filter)) ∙ none
   row_so above below line (says.Filter text) none = ap (λ (x : FilterResult). filter_fault above line (filter_read x)) (sym (read_alike above line text none)) ∙ none
   row_so above below line (says.Reload name) none = absurd (reload_faulty (is_unknown (whole true) above (says.Reload name)) (is_too_many (whole true) above (says.Reload name)) line none)
   row_so above below line other none = none
@@ -173,7 +174,7 @@ unbroken : (broken : Option LexFault) → is_some broken ≡ false → script_le
 unbroken None whole = refl
 unbroken (Some fault) whole = absurd (cc)
 
-module _ (sound : IsSound) (complete : IsComplete) (options other : Options) (learning : options.mode ≡ Learn) (ids : other.ids ≡ options.ids) (lines : List ScriptLine) where
+module _ (sound : IsSound) (complete : IsComplete) (options other : Options) (learning : options.mode ≡ Learn) (ids : other.ids ≡ options.ids) (lines : List ScriptLine) (emulation : Emulation) where
   abbrev users : List NamedId
   users = map user_id (users_below [] lines)
 
@@ -185,53 +186,53 @@ module _ (sound : IsSound) (complete : IsComplete) (options other : Options) (le
 
   -- the environment of the lines, whether filters are learnt or not
   abbrev given : Bool → Env
-  given learn = env_with users groups dollars (is_some options.ids) learn
+  given learn = env_with users groups dollars (is_some options.ids) emulation learn
 
-  own_env : environment_of options lines ≡ given true
+  own_env : environment_of options lines emulation ≡ given true
   own_env = ap given (ap learns learning)
 
-  other_env : environment_of other lines ≡ given (learns other.mode)
-  other_env = same_env options other ids lines (learns other.mode) refl
+  other_env : environment_of other lines emulation ≡ given (learns other.mode)
+  other_env = same_env options other ids lines emulation (learns other.mode) refl
 
   -- what rows are read with
   abbrev whole_with : Bool → Env → WholeScript
   whole_with is_cut e = record { is_cut = is_cut; threads = threads_after [] lines; started = started_after [] lines; env = e }
 
-  other_replies : filter_map (λ line. reply_said (environment_of other lines) line.says) lines ≡ filter_map (λ line. reply_said (environment_of options lines) line.says) lines
+  other_replies : filter_map (λ line. reply_said (environment_of other lines emulation) line.says) lines ≡ filter_map (λ line. reply_said (environment_of options lines emulation) line.says) lines
   other_replies =
       ap (λ (e : Env). filter_map (λ line. reply_said e line.says) lines) other_env
-      ∙ same_replies sound complete users groups dollars (is_some options.ids) (learns other.mode) (learns options.mode) lines
+      ∙ same_replies sound complete users groups dollars (is_some options.ids) emulation (learns other.mode) (learns options.mode) lines
 
-  module _ (is_cut : Bool) (none : first_fault (whole_of is_cut options lines) no_names lines ≡ None) where
+  module _ (is_cut : Bool) (none : first_fault (whole_of is_cut options lines emulation) no_names lines ≡ None) where
     none_learnt : first_fault (whole_with is_cut (given true)) no_names lines ≡ None
     none_learnt = subst (λ (e : Env). first_fault (whole_with is_cut e) no_names lines ≡ None) own_env none
 
-    other_fault : first_fault (whole_of is_cut other lines) no_names lines ≡ None
+    other_fault : first_fault (whole_of is_cut other lines emulation) no_names lines ≡ None
     other_fault =
         subst (λ (e : Env). first_fault (whole_with is_cut e) no_names lines ≡ None) (sym other_env)
-        (first_so sound complete users groups dollars (is_some options.ids) (learns other.mode) is_cut (threads_after [] lines) (started_after [] lines) no_names lines none_learnt)
+        (first_so sound complete users groups dollars (is_some options.ids) emulation (learns other.mode) is_cut (threads_after [] lines) (started_after [] lines) no_names lines none_learnt)
 
-    other_blocks : blocks_in (environment_of other lines) lines ≡ blocks_in (environment_of options lines) lines
+    other_blocks : blocks_in (environment_of other lines emulation) lines ≡ blocks_in (environment_of options lines emulation) lines
     other_blocks =
         ap (λ (e : Env). blocks_in e lines) other_env
-        ∙ sym (same_blocks sound complete users groups dollars (is_some options.ids) (learns other.mode) is_cut (threads_after [] lines) (started_after [] lines) no_names lines none_learnt)
+        ∙ sym (same_blocks sound complete users groups dollars (is_some options.ids) emulation (learns other.mode) is_cut (threads_after [] lines) (started_after [] lines) no_names lines none_learnt)
         ∙ sym (ap (λ (e : Env). blocks_in e lines) own_env)
 
-  no_fault : (broken : Option LexFault) → is_some broken ≡ false → first_fault (whole_of (is_some broken) options lines) no_names lines ≡ None → script_fault other broken lines ≡ None
+  no_fault : (broken : Option LexFault) → is_some broken ≡ false → first_fault (whole_of (is_some broken) options lines emulation) no_names lines ≡ None → script_fault other broken lines emulation ≡ None
   no_fault broken uncut none = ap (λ (o : Option ScriptFault). first_of o (script_lexical_fault broken)) (other_fault (is_some broken) none) ∙ unbroken broken uncut
 
-  read_so : (broken : Option LexFault) → is_some broken ≡ false → first_fault (whole_of (is_some broken) options lines) no_names lines ≡ None →
-      read_lines other broken lines
-      ≡ Ok (record { start = start_of lines; env = environment_of other lines; replies = filter_map (λ line. reply_said (environment_of options lines) line.says) lines; blocks = blocks_in (environment_of options lines) lines })
+  read_so : (broken : Option LexFault) → is_some broken ≡ false → first_fault (whole_of (is_some broken) options lines emulation) no_names lines ≡ None →
+      read_lines other broken lines emulation
+      ≡ Ok (record { start = start_of lines; env = environment_of other lines emulation; replies = filter_map (λ line. reply_said (environment_of options lines emulation) line.says) lines; blocks = blocks_in (environment_of options lines emulation) lines })
   read_so broken uncut none =
-      ap (λ (o : Option ScriptFault). unless_fault o (script_with (environment_of other lines) lines)) (no_fault broken uncut none)
-      ∙ ap (λ (replies : List Reply). Ok (record { start = start_of lines; env = environment_of other lines; replies = replies; blocks = blocks_in (environment_of other lines) lines })) other_replies
-      ∙ ap (λ (blocks : List BinaryPolicy). Ok (record { start = start_of lines; env = environment_of other lines; replies = filter_map (λ line. reply_said (environment_of options lines) line.says) lines; blocks = blocks }))
+      ap (λ (o : Option ScriptFault). unless_fault o (script_with (environment_of other lines emulation) lines)) (no_fault broken uncut none)
+      ∙ ap (λ (replies : List Reply). Ok (record { start = start_of lines; env = environment_of other lines emulation; replies = replies; blocks = blocks_in (environment_of other lines emulation) lines })) other_replies
+      ∙ ap (λ (blocks : List BinaryPolicy). Ok (record { start = start_of lines; env = environment_of other lines emulation; replies = filter_map (λ line. reply_said (environment_of options lines emulation) line.says) lines; blocks = blocks }))
       (other_blocks (is_some broken) none)
 
 -- a script that is read from a text to be learnt from is read under other options with the same ids
-pub script_so : IsSound → IsComplete → (text : List ℕ) (options other : Options) → options.mode ≡ Learn → other.ids ≡ options.ids → (script : ReadScript) → script_in text options ≡ Ok script →
-    script_in text other ≡ Ok (record { start = script.start; env = environment_of other (lines_in text); replies = script.replies; blocks = script.blocks })
-script_so sound complete text options other learning ids script is =
-    read_has (λ (s : ReadScript). script_in text other ≡ Ok (record { start = s.start; env = environment_of other (lines_in text); replies = s.replies; blocks = s.blocks })) text options
-    (λ uncut none. read_so sound complete options other learning ids (lines_in text) (lexed_text text).fault uncut none) script is
+pub script_so : IsSound → IsComplete → (text : List ℕ) (options other : Options) (emulation : Emulation) → options.mode ≡ Learn → other.ids ≡ options.ids → (script : ReadScript) → script_in text options emulation ≡ Ok script →
+    script_in text other emulation ≡ Ok (record { start = script.start; env = environment_of other (lines_in text) emulation; replies = script.replies; blocks = script.blocks })
+script_so sound complete text options other emulation learning ids script is =
+    read_has (λ (s : ReadScript). script_in text other emulation ≡ Ok (record { start = s.start; env = environment_of other (lines_in text) emulation; replies = s.replies; blocks = s.blocks })) text options emulation
+    (λ uncut none. read_so sound complete options other learning ids (lines_in text) emulation (lexed_text text).fault uncut none) script is

@@ -17,6 +17,7 @@ use Rattle.st_reading.specs.Meaning.{Fetches, Contents, Means, MeansAfterScript,
 use Rattle.st_reading.specs.Runnable.{IsRunnable}
 use Rattle.st_reading.specs.declared.refusal.Which.{Which}
 use Rattle.st_reading.specs.declared.refusal.Which.TheVariants as which
+use Rattle.st_report.specs.ScheduleText.{schedule_text}
 use Rattle.st_schedule.specs.Schedule.{schedule_in}
 use Rattle.st_script.specs.Reading.{script_in}
 use Rattle.st_script.specs.Startable.{input_with}
@@ -76,22 +77,22 @@ module _ (contents : Contents) (step : StepWords) (i : Input) (before : ReadSche
       let One : Input → Type 0 = λ input. MeansSchedule contents step input (Runs i before) in
       let Other : Input → Type 0 = λ input. MeansSchedule contents again input (Runs i later) in
       file_again contents i before later (contents step.script) which.Script
-      (λ words. SaysScript (script_in words step.options) (λ script. MeansAfterScript contents (step_input step) One script (Runs i before)) (Runs i before))
-      (λ words. SaysScript (script_in words step.options) (λ script. MeansAfterScript contents (step_input again) Other script (Runs i later)) (Runs i later))
-      (λ words. script_again contents i before later (script_in words step.options) (λ script. MeansAfterScript contents (step_input step) One script (Runs i before)) (λ script. MeansAfterScript contents (step_input again) Other script (Runs i later))
+      (λ words. SaysScript (script_in words step.options step.emulation) (λ script. MeansAfterScript contents (step_input step) One script (Runs i before)) (Runs i before))
+      (λ words. SaysScript (script_in words step.options step.emulation) (λ script. MeansAfterScript contents (step_input again) Other script (Runs i later)) (Runs i later))
+      (λ words. script_again contents i before later (script_in words step.options step.emulation) (λ script. MeansAfterScript contents (step_input step) One script (Runs i before)) (λ script. MeansAfterScript contents (step_input again) Other script (Runs i later))
       (λ script. policies_again contents i before later script.env 1 step.policies [] (λ policies. One (input_with policies step.options script)) (λ policies. Other (input_with policies step.options script))
       (λ policies. schedule_again script policies)))
       meant
 
 -- the schedule that is printed of choices that were played is played as the same choices
 abbrev pub PlayAgain : Type 0
-PlayAgain = (input : Input) → IsStartable input → (schedule : ReadSchedule) (choices : List Choice) → played input schedule ≡ Choices choices → played input (schedule_in (printed print.Schedule input choices)) ≡ Choices choices
+PlayAgain = (input : Input) → IsStartable input → (schedule : ReadSchedule) (choices : List Choice) → played input schedule ≡ Choices choices → played input (schedule_in (schedule_text choices)) ≡ Choices choices
 
 pub plays_again : AreRunnable → PlayAgain → (contents : Contents) (step : StepWords) (i : Input) (schedule : ReadSchedule) → IsWithinLimits (Step step) → Means contents (Step step) (Runs i schedule) → (choices : List Choice) → played i schedule ≡ Choices choices →
-    (name : Word) → contents name ≡ FileBytes (printed print.Schedule i choices) → length (printed print.Schedule i choices) ≤ FILE_LIMIT → Plays contents (with_schedule step name) i choices
+    (name : Word) → contents name ≡ FileBytes (printed print.Schedule i choices step.emulation) → length (printed print.Schedule i choices step.emulation) ≤ FILE_LIMIT → Plays contents (with_schedule step name) i choices
 plays_again runnable again contents step i schedule limits meant choices e name there fits = record {
-  schedule = schedule_in (printed print.Schedule i choices);
-  meant = step_again contents step i schedule name (printed print.Schedule i choices) there fits meant;
+  schedule = schedule_in (printed print.Schedule i choices step.emulation);
+  meant = step_again contents step i schedule name (printed print.Schedule i choices step.emulation) there fits meant;
   played_to = again i (startable_by (runnable contents step i schedule meant)) schedule choices e;
 } where
   startable_by : IsRunnable step i → IsStartable i

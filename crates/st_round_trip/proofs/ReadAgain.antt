@@ -6,6 +6,7 @@ use Rattle.st_command.specs.Command.{StepWords}
 use Rattle.st_command.specs.Reading.{IsWithinLimits}
 use Rattle.st_command.specs.Words.{Word}
 use Rattle.st_command.specs.declared.command.Command.TheVariants.{Step}
+use Rattle.st_emulation.specs.declared.emulation.Emulation.{Emulation}
 use Rattle.st_filter.specs.Formula.{FilterValue}
 use Rattle.st_filter.specs.Policies.{PoliciesValue, filters_in}
 use Rattle.st_filter.specs.declared.filter.Action.{Action}
@@ -38,6 +39,7 @@ use Rattle.st_printing.specs.Canon.{canon}
 use Rattle.st_relearn.specs.Relearnt.{AreWritableInForce, HasWritableBlocks, HasWritableReplies, IsWritableKept, learnt_policy_text}
 use Rattle.st_relearn.specs.Scripts.{HasPlainScript}
 use Rattle.st_relearn.specs.Writable.{AreWritable, IsWritableAction, IsWritableBinary, IsWritableFilter, IsWritableGrant, IsWritablePolicy}
+use Rattle.st_script.proofs.ReadTexts.{emulation_is}
 use Rattle.st_script.specs.Reading.{script_in}
 use Rattle.st_script.specs.Startable.{input_with}
 use Rattle.st_script.specs.declared.reading.ReadScript.{ReadScript}
@@ -94,7 +96,7 @@ abbrev pub AreExactlyWritable : Type 0
 AreExactlyWritable = (env : Env) (set : List BinaryPolicy) → HasPlainDollars env → HasSmallIds env → WasRead env set ↔ AreWritable env set
 
 abbrev pub ScriptsArePlain : Type 0
-ScriptsArePlain = (text : List ℕ) (options : Options) (script : ReadScript) → AreTextBytes text → script_in text options ≡ Ok script → HasPlainScript script
+ScriptsArePlain = (text : List ℕ) (options : Options) (emulation : Emulation) (script : ReadScript) → AreTextBytes text → script_in text options emulation ≡ Ok script → HasPlainScript script
 
 abbrev pub AddsWritable : Type 0
 AddsWritable = (env : Env) (input : Input) → IsStartable input → HasPlainTexts input.start → HasWritableReplies env input → (h : History) → IsLawfulBack input h → All (IsWritableKept env) (session_at input h)
@@ -107,7 +109,7 @@ ChangesWritable = (env : Env) (input : Input) → IsStartable input → HasPlain
 
 abbrev pub TextsAreReadAgain : Type 0
 TextsAreReadAgain = (env : Env) (policies : PoliciesValue) (versions : List ℕ → ℕ) (changed : List (List ℕ)) (session : List SessionFilter) → AreWritable env policies.read → AreWritableInForce env policies versions → All IsWritableBinary changed →
-    All (IsWritableKept env) session → filters_in (learnt_policies policies versions changed session) ≤ MOST_FILTERS → Reads (canon (learnt_policies policies versions changed session)) env [] (learnt_policies policies versions changed session)
+    All (IsWritableKept env) session → filters_in (learnt_policies policies versions changed session) ≤ MOST_FILTERS → Reads (canon (learnt_policies policies versions changed session) env.emulation) env [] (learnt_policies policies versions changed session)
 
 abbrev pub ReadsOnce : Type 0
 ReadsOnce = (text : List ℕ) (env : Env) (old a b : List BinaryPolicy) → Reads text env old a → Reads text env old b → a ≡ b
@@ -127,7 +129,7 @@ module _ (contents : Contents) (step : StepWords) (bytes : HoldBytes contents (s
   pub one_script : (script other : ReadScript) → IsScriptOf contents step script → IsScriptOf contents step other → script ≡ other
   one_script script other a b =
       let same : a.text ≡ b.text = held_once (contents step.script) a.text b.text bytes.0 a.there b.there in
-      let read : script_in b.text step.options ≡ Ok script = subst (λ (text : List ℕ). script_in text step.options ≡ Ok script) same a.is in
+      let read : script_in b.text step.options step.emulation ≡ Ok script = subst (λ (text : List ℕ). script_in text step.options step.emulation ≡ Ok script) same a.is in
       let both : Ok script ≡ Ok other = sym read ∙ b.is in
       cc
 
@@ -140,31 +142,39 @@ no_replies env i learns asks = absurd (clash (sym learns ∙ asks)) where
 
 module _ (runnable : AreRunnable) (exactly : AreExactlyWritable) (plain : ScriptsArePlain) (adds : AddsWritable) (forced : ForcedWritable) (changes : ChangesWritable) (again : TextsAreReadAgain) (once : ReadsOnce) where
   module _ (env : Env) (i : Input) (startable : IsStartable i) (texts : HasPlainTexts i.start) (learns : i.options.mode ≡ Learn) (w : AreWritable env i.policies.read) (choices : List Choice) where
-    run_read_again : filters_in (policies_after i choices) ≤ MOST_FILTERS → IsReadAgain (learnt_policy_text i (looking_back i (reverse (run i choices)))) env (policies_after i choices)
+    run_read_again : filters_in (policies_after i choices) ≤ MOST_FILTERS → IsReadAgain (learnt_policy_text i (looking_back i (reverse (run i choices))) env.emulation) env (policies_after i choices)
     run_read_again few =
         let h : History = reverse (run i choices) in
         let lawful : IsLawfulBack i h = run_lawful i startable choices in
         let blocks : HasWritableBlocks env i = λ other. absurd (other learns) in
-        let reads : Reads (learnt_policy_text i (looking_back i h)) env [] (policies_after i choices) =
+        let reads : Reads (learnt_policy_text i (looking_back i h) env.emulation) env [] (policies_after i choices) =
         again env i.policies (looking_back i h).versions (looking_back i h).changed (session_at i h) w (forced env i startable w blocks h lawful) (changes env i startable texts blocks h lawful)
         (adds env i startable texts (no_replies env i learns) h lawful) few in
-        record { reads = reads; alone = λ other twice. once (learnt_policy_text i (looking_back i h)) env [] other (policies_after i choices) twice reads }
+        record { reads = reads; alone = λ other twice. once (learnt_policy_text i (looking_back i h) env.emulation) env [] other (policies_after i choices) twice reads }
 
   module _ (contents : Contents) (step : StepWords) (i : Input) (schedule : ReadSchedule) (bytes : HoldBytes contents (step.script ∷ step.policies)) (limits : IsWithinLimits (Step step)) (learns : step.options.mode ≡ Learn)
       (meant : Means contents (Step step) (Runs i schedule)) (script : ReadScript) (is_script : IsScriptOf contents step script) (choices : List Choice) (few : filters_in (policies_after i choices) ≤ MOST_FILTERS) where
-    pub read_again : IsReadAgain (learnt_policy_text i (looking_back i (reverse (run i choices)))) script.env (policies_after i choices)
-        × IsReadAgain (learnt_policy_text i (looking_back i (reverse (run i choices)))) (enforcing script.env) (policies_after i choices)
+    pub read_again : IsReadAgain (learnt_policy_text i (looking_back i (reverse (run i choices))) step.emulation) script.env (policies_after i choices)
+        × IsReadAgain (learnt_policy_text i (looking_back i (reverse (run i choices))) step.emulation) (enforcing script.env) (policies_after i choices)
     read_again =
         let x = was_read contents step bytes i schedule meant in
         let same : script ≡ x.script = one_script contents step bytes script x.script is_script (record { text = x.script_text; there = x.script_held; is = x.script_is }) in
         let input_is : i ≡ input_with x.policies step.options x.script = ap (input_or i) x.outcome_is in
-        let said : HasPlainScript x.script = plain x.script_text step.options x.script (held_bytes (contents step.script) x.script_text bytes.0 x.script_held) x.script_is in
+        let said : HasPlainScript x.script = plain x.script_text step.options step.emulation x.script (held_bytes (contents step.script) x.script_text bytes.0 x.script_held) x.script_is in
         let start : IsStartable i = startable_by (runnable contents step i schedule meant) in
         let texts : HasPlainTexts i.start = subst (λ (other : Input). HasPlainTexts other.start) (sym input_is) said.texts in
         let learning : i.options.mode ≡ Learn = subst (λ (other : Input). other.options.mode ≡ Learn) (sym input_is) learns in
         let w : AreWritable x.script.env x.policies = (exactly x.script.env x.policies said.dollars said.ids).0 x.kept in
         let here : AreWritable script.env i.policies.read = subst (λ (other : ReadScript). AreWritable other.env i.policies.read) (sym same) (subst (λ (other : Input). AreWritable x.script.env other.policies.read) (sym input_is) w) in
-        (run_read_again script.env i start texts learning here choices few, run_read_again (enforcing script.env) i start texts learning (enforced_writable script.env i.policies.read here) choices few)
+        let own : script.env.emulation ≡ step.emulation = emulation_is is_script.text step.options step.emulation script is_script.is in (
+          under script.env script.env.emulation own (run_read_again script.env i start texts learning here choices few),
+          under (enforcing script.env) script.env.emulation own (run_read_again (enforcing script.env) i start texts learning (enforced_writable script.env i.policies.read here) choices few),
+        )
       where
+        -- the text for one emulation is that for the same one
+        under : (env : Env) (emulation : Emulation) → emulation ≡ step.emulation → IsReadAgain (learnt_policy_text i (looking_back i (reverse (run i choices))) emulation) env (policies_after i choices) →
+            IsReadAgain (learnt_policy_text i (looking_back i (reverse (run i choices))) step.emulation) env (policies_after i choices)
+        under env emulation same again = subst (λ (e : Emulation). IsReadAgain (learnt_policy_text i (looking_back i (reverse (run i choices))) e) env (policies_after i choices)) same again
+
         startable_by : IsRunnable step i → IsStartable i
         startable_by r = (r.can_run limits.1 limits.2).startable

@@ -13,6 +13,7 @@ use Rattle.st_outside.specs.Files.{CanHold, FileBytes, FileView}
 use Rattle.st_outside.specs.declared.files.TheConstants.{FILE_LIMIT}
 use Rattle.st_reading.specs.Meaning.{Contents, Means, Runs}
 use Rattle.st_reading.specs.RunMeaning.{MeansRun, starts, with_schedule_of}
+use Rattle.st_report.specs.ScheduleText.{schedule_text}
 use Rattle.st_schedule.specs.Schedule.{schedule_in}
 use Rattle.st_top.specs.Outcome.{HasOutcome, Writes, outcome_of_play, printed}
 use Rattle.st_top.specs.RunEnds.{IsWholeRun}
@@ -30,20 +31,20 @@ StepsMeanRuns = (contents : Contents) (threaded : RunWords) (input : Input) → 
 
 -- the text of choices that were enabled is played as these choices
 abbrev pub PlaysEnabled : Type 0
-PlaysEnabled = (input : Input) → IsStartable input → (choices : List Choice) → length (run input choices) ≡ length choices → played input (schedule_in (printed print.Schedule input choices)) ≡ Choices choices
+PlaysEnabled = (input : Input) → IsStartable input → (choices : List Choice) → length (run input choices) ≡ length choices → played input (schedule_in (schedule_text choices)) ≡ Choices choices
 
 module _ (can_start : RunsCanStart) (steps : StepsMeanRuns) (enabled : PlaysEnabled) (contents : Contents) (threaded : RunWords) (input : Input) (limits : IsRunWithinLimits threaded) (meant : MeansRun contents threaded (starts input))
-    (choices : List Choice) (whole : IsWholeRun input choices) (name : Word) (there : contents name ≡ FileBytes (printed print.Schedule input choices)) (fits : length (printed print.Schedule input choices) ≤ FILE_LIMIT) where
+    (choices : List Choice) (whole : IsWholeRun input choices) (name : Word) (there : contents name ≡ FileBytes (printed print.Schedule input choices threaded.emulation)) (fits : length (printed print.Schedule input choices threaded.emulation) ≤ FILE_LIMIT) where
   pub threads_again : Plays contents (with_schedule_of threaded name) input choices
   threads_again = record {
-    schedule = schedule_in (printed print.Schedule input choices);
-    meant = steps contents threaded input meant name (printed print.Schedule input choices) (subst (λ (h : FileView). CanHold h (printed print.Schedule input choices)) (sym there) refl) fits;
+    schedule = schedule_in (printed print.Schedule input choices threaded.emulation);
+    meant = steps contents threaded input meant name (printed print.Schedule input choices threaded.emulation) (subst (λ (h : FileView). CanHold h (printed print.Schedule input choices threaded.emulation)) (sym there) refl) fits;
     played_to = enabled input (can_start contents threaded input limits meant) choices whole.enabled;
   }
 
-  pub step_writes : HasOutcome contents (Some (Step (with_schedule_of threaded name))) None (Writes (printed threaded.print input choices))
+  pub step_writes : HasOutcome contents (Some (Step (with_schedule_of threaded name))) None (Writes (printed threaded.print input choices threaded.emulation))
   step_writes = (
     Runs input threads_again.schedule,
     threads_again.meant,
-    ap (λ (o : ScheduleOutcome). outcome_of_play threaded.print input o) (sym threads_again.played_to),
+    ap (λ (o : ScheduleOutcome). outcome_of_play threaded.print input o threaded.emulation) (sym threads_again.played_to),
   )

@@ -31,11 +31,11 @@ HoldBytes contents (name ∷ names) = HoldsBytes (contents name) × HoldBytes co
 pub record IsScriptOf (contents : Contents) (step : StepWords) (script : ReadScript) : Type 0 where
   pub text : List ℕ
   pub there : CanHold (contents step.script) text
-  pub is : script_in text step.options ≡ Ok script
+  pub is : script_in text step.options step.emulation ≡ Ok script
 
 -- the environment that policies were read with, but for filters that aren't learnt
 abbrev pub enforcing : Env → Env
-enforcing env = record { users = env.users; groups = env.groups; dollars = env.dollars; elevate = env.elevate; learn = false }
+enforcing env = record { users = env.users; groups = env.groups; dollars = env.dollars; elevate = env.elevate; learn = false; emulation = env.emulation }
 
 -- a text, read alone, gives these policies and no others
 pub record IsReadAgain (text : List ℕ) (env : Env) (policies : List BinaryPolicy) : Type 0 where
@@ -44,7 +44,7 @@ pub record IsReadAgain (text : List ℕ) (env : Env) (policies : List BinaryPoli
 
 -- the same words, except for the schedule, which is in this file
 abbrev pub with_schedule : StepWords → Word → StepWords
-with_schedule step name = record { policies = step.policies; script = step.script; schedule = name; options = step.options; print = step.print }
+with_schedule step name = record { policies = step.policies; script = step.script; schedule = name; options = step.options; print = step.print; emulation = step.emulation }
 
 -- `step` means to run this input, by a schedule that is played as these choices
 pub record Plays (contents : Contents) (step : StepWords) (input : Input) (choices : List Choice) : Type 0 where

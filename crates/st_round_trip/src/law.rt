@@ -40,7 +40,7 @@ use st_top::law::what_was_made_is_permitted_by_what_is_written;
 pub fn what_is_written_is_read_again()
     ensures { (contents : Contents) (step : StepWords) (input : Input) (schedule : ReadSchedule) → HoldBytes contents (step.script ∷ step.policies) → IsWithinLimits (Step step) → step.options.mode ≡ Learn → Means contents (Step step) (Runs input schedule) →
         (script : ReadScript) → IsScriptOf contents step script → (choices : List Choice) → filters_in (policies_after input choices) ≤ MOST_FILTERS →
-        IsReadAgain (printed print.Policy input choices) script.env (policies_after input choices) × IsReadAgain (printed print.Policy input choices) (enforcing script.env) (policies_after input choices) }
+        IsReadAgain (printed print.Policy input choices step.emulation) script.env (policies_after input choices) × IsReadAgain (printed print.Policy input choices step.emulation) (enforcing script.env) (policies_after input choices) }
 {
     what_is_meant_to_run_can_run();
     what_was_read_is_what_can_be_written();
@@ -50,12 +50,12 @@ pub fn what_is_written_is_read_again()
     reading_is_one();
 }
 
-/// Learnt, then enforced: if a name holds what `step` has written of a run that learnt, `step` with that policy alone, the same script and
-/// the same ids runs under policies that permit each held call that was made, under the ids that it was made under.
+/// Learnt, then enforced: if a name holds what `step` has written of a run that learnt, `step` with that policy alone, the same script, the
+/// same ids and the same emulation runs under policies that permit each held call that was made, under the ids that it was made under.
 pub fn what_was_learnt_is_enforced()
     ensures { (contents : Contents) (step : StepWords) (input : Input) (schedule : ReadSchedule) → HoldBytes contents (step.script ∷ step.policies) → IsWithinLimits (Step step) → step.options.mode ≡ Learn → Means contents (Step step) (Runs input schedule) →
-        (choices : List Choice) → filters_in (policies_after input choices) ≤ MOST_FILTERS → (name : Word) → contents name ≡ FileBytes (printed print.Policy input choices) →
-        (again : StepWords) → again.script ≡ step.script → again.policies ≡ name ∷ [] → again.options.ids ≡ step.options.ids → (other : Input) (later : ReadSchedule) → Means contents (Step again) (Runs other later) →
+        (choices : List Choice) → filters_in (policies_after input choices) ≤ MOST_FILTERS → (name : Word) → contents name ≡ FileBytes (printed print.Policy input choices step.emulation) →
+        (again : StepWords) → again.script ≡ step.script → again.policies ≡ name ∷ [] → again.options.ids ≡ step.options.ids → again.emulation ≡ step.emulation → (other : Input) (later : ReadSchedule) → Means contents (Step again) (Runs other later) →
         PermitsWhatWasMade input other.policies.read (reverse (run input choices)) }
 {
     what_is_written_is_read_again();
@@ -67,7 +67,7 @@ pub fn what_was_learnt_is_enforced()
 /// played as the same choices.
 pub fn what_is_written_is_played_again()
     ensures { (contents : Contents) (step : StepWords) (input : Input) (schedule : ReadSchedule) → IsWithinLimits (Step step) → Means contents (Step step) (Runs input schedule) → (choices : List Choice) → played input schedule ≡ Choices choices →
-        (name : Word) → contents name ≡ FileBytes (printed print.Schedule input choices) → length (printed print.Schedule input choices) ≤ FILE_LIMIT → Plays contents (with_schedule step name) input choices }
+        (name : Word) → contents name ≡ FileBytes (printed print.Schedule input choices step.emulation) → length (printed print.Schedule input choices step.emulation) ≤ FILE_LIMIT → Plays contents (with_schedule step name) input choices }
 {
     what_is_meant_to_run_can_run();
     a_printed_schedule_is_read_again();
@@ -78,10 +78,10 @@ pub fn what_is_written_is_played_again()
 /// the same choices, and the outcome is the text that `run` writes.
 pub fn what_threads_made_is_played_again()
     ensures plays { (contents : Contents) (threaded : RunWords) (input : Input) → IsRunWithinLimits threaded → MeansRun contents threaded (starts input) → (choices : List Choice) → IsWholeRun input choices →
-        (name : Word) → contents name ≡ FileBytes (printed print.Schedule input choices) → length (printed print.Schedule input choices) ≤ FILE_LIMIT → Plays contents (with_schedule_of threaded name) input choices }
+        (name : Word) → contents name ≡ FileBytes (printed print.Schedule input choices threaded.emulation) → length (printed print.Schedule input choices threaded.emulation) ≤ FILE_LIMIT → Plays contents (with_schedule_of threaded name) input choices }
     ensures writes { (contents : Contents) (threaded : RunWords) (input : Input) → IsRunWithinLimits threaded → MeansRun contents threaded (starts input) → (choices : List Choice) → IsWholeRun input choices →
-        (name : Word) → contents name ≡ FileBytes (printed print.Schedule input choices) → length (printed print.Schedule input choices) ≤ FILE_LIMIT →
-        HasOutcome contents (Some (Step (with_schedule_of threaded name))) None (Writes (printed threaded.print input choices)) }
+        (name : Word) → contents name ≡ FileBytes (printed print.Schedule input choices threaded.emulation) → length (printed print.Schedule input choices threaded.emulation) ≤ FILE_LIMIT →
+        HasOutcome contents (Some (Step (with_schedule_of threaded name))) None (Writes (printed threaded.print input choices threaded.emulation)) }
 {
     what_run_means_can_run();
     what_run_means_step_means();
@@ -89,12 +89,12 @@ pub fn what_threads_made_is_played_again()
 }
 
 /// What was learnt is not refused: if a name holds what `step` has written of a run that learnt, and the text fits into a file, `step` with
-/// that policy alone, the same script and the same ids means a run of the same script under exactly the policies after that run, by any
-/// schedule that can be fetched and with any other options.
+/// that policy alone, the same script, the same ids and the same emulation means a run of the same script under exactly the policies after
+/// that run, by any schedule that can be fetched and with any other options.
 pub fn what_was_learnt_can_be_enforced()
     ensures { (contents : Contents) (step : StepWords) (input : Input) (schedule : ReadSchedule) → HoldBytes contents (step.script ∷ step.policies) → IsWithinLimits (Step step) → step.options.mode ≡ Learn → Means contents (Step step) (Runs input schedule) →
-        (choices : List Choice) → filters_in (policies_after input choices) ≤ MOST_FILTERS → (name : Word) → contents name ≡ FileBytes (printed print.Policy input choices) → length (printed print.Policy input choices) ≤ FILE_LIMIT →
-        (again : StepWords) → again.script ≡ step.script → again.policies ≡ name ∷ [] → again.options.ids ≡ step.options.ids → (text : List ℕ) → CanHold (contents again.schedule) text → length text ≤ FILE_LIMIT →
+        (choices : List Choice) → filters_in (policies_after input choices) ≤ MOST_FILTERS → (name : Word) → contents name ≡ FileBytes (printed print.Policy input choices step.emulation) → length (printed print.Policy input choices step.emulation) ≤ FILE_LIMIT →
+        (again : StepWords) → again.script ≡ step.script → again.policies ≡ name ∷ [] → again.options.ids ≡ step.options.ids → again.emulation ≡ step.emulation → (text : List ℕ) → CanHold (contents again.schedule) text → length text ≤ FILE_LIMIT →
         Means contents (Step again) (Runs (record input { policies = record { read = policies_after input choices; blocks = input.policies.blocks }; options = again.options }) (schedule_in text)) }
 {
     what_is_written_is_read_again();

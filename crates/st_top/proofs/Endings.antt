@@ -17,8 +17,10 @@ use Rattle.st_command.specs.Words.{Word}
 use Rattle.st_command.specs.Command.{StepWords, ReplayWords, CheckWords}
 use Rattle.st_command.specs.declared.command.Command.{Command}
 use Rattle.st_command.specs.declared.command.Command.TheVariants.{Step, Replay, Check}
-use Rattle.st_reading.specs.Meaning.{Contents, Means, Stops, Refuses, Runs, Replays, Prints}
+use Rattle.st_reading.specs.Meaning.{Contents, Means, Stops, Refuses, Runs, Replays, Prints, replay_input, step_input}
+use Rattle.st_reading.specs.Runnable.{StartsNatively}
 use Rattle.st_reading.specs.declared.refusal.Refusal.TheVariants as refusal
+use Rattle.st_reading.proofs.Runnable.{replay_starts, step_starts}
 use Rattle.st_reading.specs.declared.refusal.Which.{Which}
 use Rattle.st_reading.specs.declared.refusal.Which.TheVariants as which
 use Rattle.st_trace_replay.specs.Replayed.{BreaksAt, IsLawfulText}
@@ -38,18 +40,18 @@ module _ (words : List Word) (contents : Contents) (c : Command) (faults faults_
   same d is = same_Some c d (sym spelled ∙ is)
 
   pub run_written : end ≡ status.Done → (step : StepWords) → command_in words ≡ Some (Step step) →
-      (input : Input) × (schedule : ReadSchedule) × (choices : List Choice) × Means contents (Step step) (Runs input schedule) × (played input schedule ≡ Choices choices) × Lawful input (run input choices) × IsLawfulByNumber input (numbered input (run input choices)) × Appends old new (printed step.print input choices)
+      (input : Input) × (schedule : ReadSchedule) × (choices : List Choice) × Means contents (Step step) (Runs input schedule) × StartsNatively contents (step_input step) input × (played input schedule ≡ Choices choices) × Lawful input (run input choices) × IsLawfulByNumber input (numbered input (run input choices)) × Appends old new (printed step.print input choices step.emulation)
   run_written is step spells =
       let x = (of status.Done is).0 in
       let m = subst (λ (d : Command). IsMeant contents d x.0) (same (Step step) spells) x.1 in
-      (m.input, m.schedule, m.choices, m.meant, m.played_to, m.lawful, m.by_number, subst (Appends old new) m.text_is x.2)
+      (m.input, m.schedule, m.choices, m.meant, step_starts contents step m.input m.schedule m.meant, m.played_to, m.lawful, m.by_number, subst (Appends old new) m.text_is x.2)
 
   pub replay_written : end ≡ status.Done → (replay : ReplayWords) → command_in words ≡ Some (Replay replay) →
-      (input : Input) × (trace : List ℕ) × Means contents (Replay replay) (Replays input trace) × IsLawfulText input trace × Appends old new lawful_text
+      (input : Input) × (trace : List ℕ) × Means contents (Replay replay) (Replays input trace) × StartsNatively contents (replay_input replay) input × IsLawfulText input trace × Appends old new lawful_text
   replay_written is replay spells =
       let x = (of status.Done is).0 in
       let m = subst (λ (d : Command). IsMeant contents d x.0) (same (Replay replay) spells) x.1 in
-      (m.input, m.trace, m.meant, m.lawful, subst (Appends old new) m.text_is x.2)
+      (m.input, m.trace, m.meant, replay_starts contents replay m.input m.trace m.meant, m.lawful, subst (Appends old new) m.text_is x.2)
 
   pub canon_written : end ≡ status.Done → (check : CheckWords) → command_in words ≡ Some (Check check) → (text : List ℕ) × Means contents (Check check) (Prints text) × Appends old new text
   canon_written is check spells =

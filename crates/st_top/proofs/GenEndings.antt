@@ -1,12 +1,12 @@
 -- The end of `gen` is the outcome of its words.
-use Rattle.std.proofs.Common.{◌≡◌, ◌⊎◌, ℕ, inl, inr, false, List, Option, Some, None, refl, sym, ap, ◌∙◌, subst}
+use Rattle.std.proofs.Common.{◌≡◌, ◌⊎◌, ℕ, inl, inr, false, List, Option, Some, None, refl, subst}
+use Rattle.st_emulation.specs.declared.emulation.Emulation.TheVariants.{Native}
 use Rattle.st_outside.specs.Count.{HasRisen}
 use Rattle.st_command.specs.Reading.{command_in, gen_of_words}
 use Rattle.st_command.specs.Words.{Word}
 use Rattle.st_command.specs.declared.command.Command.{Command}
 use Rattle.st_command.specs.declared.given.Print.TheVariants.{Audit}
 use Rattle.st_command.proofs.Commands.{gen_alone, gen_spelled_exactly}
-use Rattle.st_reading.specs.Meaning as meaning
 use Rattle.st_reading.specs.Meaning.{Contents, Meaning, Prints, Refuses}
 use Rattle.st_reading.specs.declared.refusal.Refusal.TheVariants as refusal
 use Rattle.st_top.specs.Ends.{EndsAs}
@@ -25,7 +25,7 @@ module _ (words : List Word) (rounds : ℕ) (spelled : gen_of_words words ≡ So
 
   -- memory ran out, or the status is that of what `gen` means
   abbrev Settled : Status → Type 0
-  Settled end = (end ≡ status.NoMemory) ⊎ ((m : Meaning) × MeansGenerated rounds m × (o : CommandOutcome) × IsOutcomeOf Audit m o × (is_stop o ≡ false) × EndsAs o old new end)
+  Settled end = (end ≡ status.NoMemory) ⊎ ((m : Meaning) × MeansGenerated rounds m × (o : CommandOutcome) × IsOutcomeOf Audit Native m o × (is_stop o ≡ false) × EndsAs o old new end)
 
   settled : (HasRisen sink sink_after → ⊥) → (end : Status) → EndsGenerated rounds sink sink_after old new end → Settled end
   settled quiet status.Done x = inr (Prints x.0, line_meant rounds x.0 x.1, Writes x.0, refl, refl, (refl, x.2))
@@ -52,6 +52,6 @@ module _ (words : List Word) (rounds : ℕ) (spelled : gen_of_words words ≡ So
       by : Settled end → (end ≡ status.NoMemory) ⊎ EndsAs ends_so old new end
       by (inl none) = inl none
       by (inr p) =
-          let one : p.0 ≡ of_gen.0 = one_generated rounds p.0 of_gen.0 (goes_on Audit p.0 p.2 p.4 p.3) (goes_on Audit of_gen.0 ends_so go of_gen.2) p.1 of_gen.1 in
-          let same : p.2 ≡ ends_so = one_through Audit p.0 of_gen.0 one p.2 ends_so p.3 of_gen.2 in
+          let one : p.0 ≡ of_gen.0 = one_generated rounds p.0 of_gen.0 (goes_on Audit Native p.0 p.2 p.4 p.3) (goes_on Audit Native of_gen.0 ends_so go of_gen.2) p.1 of_gen.1 in
+          let same : p.2 ≡ ends_so = one_through Audit Native p.0 of_gen.0 one p.2 ends_so p.3 of_gen.2 in
           inr (subst (λ (o : CommandOutcome). EndsAs o old new end) same p.5)

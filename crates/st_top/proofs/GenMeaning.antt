@@ -1,5 +1,6 @@
 -- What `gen` means, and the end of it.
 use Rattle.std.proofs.Common.{◌≡◌, ℕ, inl, inr, Bool, true, false, List, [], Option, Result, Ok, Err, refl, sym, ap, ◌∙◌, subst, arith}
+use Rattle.st_emulation.specs.declared.emulation.Emulation.TheVariants.{Native}
 use Rattle.st_grammar.specs.declared.fault.PolicyRefusal.{PolicyRefusal}
 use Rattle.st_law.specs.declared.input.Input.{Input}
 use Rattle.st_audit.specs.Summary.{summary_text}
@@ -27,7 +28,7 @@ is_replay _ = false
 
 module _ (rounds : ℕ) where
   abbrev read : Result ReadScript ScriptFault
-  read = script_in (generated_script rounds) generated_options
+  read = script_in (generated_script rounds) generated_options Native
 
   -- what is meant, by what the script is read as
   as_said : (m : Meaning) (said : Result ReadScript ScriptFault) → read ≡ said → SaysScript said (λ script. SaysRun script m) m → MeansGenerated rounds m

@@ -13,6 +13,8 @@ use Rattle.st_command.specs.declared.command.Command.{Command}
 use Rattle.st_command.specs.declared.command.Command.TheVariants.{Step, Replay, Check}
 use Rattle.st_command.specs.declared.given.Print.{Print}
 use Rattle.st_command.specs.declared.given.Print.TheVariants.{Audit}
+use Rattle.st_emulation.specs.declared.emulation.Emulation.{Emulation}
+use Rattle.st_emulation.specs.declared.emulation.Emulation.TheVariants.{Native}
 use Rattle.st_reading.specs.Meaning as meaning
 use Rattle.st_reading.specs.Meaning.{AreFilesKnown, Contents, Meaning, Means}
 use Rattle.st_reading.specs.declared.refusal.Refusal.{Refusal}
@@ -26,44 +28,44 @@ use Rattle.st_top.proofs.GenMeaning.{generates_no_replay, one_generated, some_ge
 use Rattle.st_outside.specs.Files.{Absent, CanHold, FileBytes, FileView, Unknown}
 use Rattle.st_top.specs.Ends.{EndsCommand, EndsAs, IsMeant, IsOfBytes, IsTraceOfBytes, names_asked}
 use Rattle.st_top.specs.Generated.{MeansGenerated}
-use Rattle.st_top.specs.Outcome.{CommandOutcome, HasOutcome, IsOutcomeOf, Refuses, Stops, WordsHaveOutcome, Writes, is_stop, lawful_text, outcome_of_play, outcome_of_replay, print_of, printed, status_of}
+use Rattle.st_top.specs.Outcome.{CommandOutcome, HasOutcome, IsOutcomeOf, Refuses, Stops, WordsHaveOutcome, Writes, emulation_asked, is_stop, lawful_text, outcome_of_play, outcome_of_replay, print_of, printed, status_of}
 use Rattle.st_top.specs.declared.status.Status.{Status}
 use Rattle.st_top.specs.declared.status.Status.TheVariants as status
 
 -- ---- stops
 
-play_goes_on : (print : Print) (i : Input) (o : ScheduleOutcome) → is_stop (outcome_of_play print i o) ≡ false
-play_goes_on print i (Choices choices) = refl
-play_goes_on print i (BadLine line) = refl
+play_goes_on : (print : Print) (emulation : Emulation) (i : Input) (o : ScheduleOutcome) → is_stop (outcome_of_play print i o emulation) ≡ false
+play_goes_on print emulation i (Choices choices) = refl
+play_goes_on print emulation i (BadLine line) = refl
 
 replay_goes_on : (broken : Option ℕ) → is_stop (outcome_of_replay broken) ≡ false
 replay_goes_on None = refl
 replay_goes_on (Some line) = refl
 
 -- the outcome of a command is a stop exactly when its meaning is one
-stops : (print : Print) (m : Meaning) (o : CommandOutcome) → IsOutcomeOf print m o → is_stop o ≡ meaning.is_stop m
-stops print (meaning.Stops w) o is = ap is_stop is
-stops print (meaning.Refuses r) o is = ap is_stop is
-stops print (meaning.Runs i schedule) o is = ap is_stop is ∙ play_goes_on print i (played i schedule)
-stops print (meaning.Replays i trace) o is = ap is_stop is.2 ∙ replay_goes_on is.0
-stops print (meaning.Prints text) o is = ap is_stop is
+stops : (print : Print) (emulation : Emulation) (m : Meaning) (o : CommandOutcome) → IsOutcomeOf print emulation m o → is_stop o ≡ meaning.is_stop m
+stops print emulation (meaning.Stops w) o is = ap is_stop is
+stops print emulation (meaning.Refuses r) o is = ap is_stop is
+stops print emulation (meaning.Runs i schedule) o is = ap is_stop is ∙ play_goes_on print emulation i (played i schedule)
+stops print emulation (meaning.Replays i trace) o is = ap is_stop is.2 ∙ replay_goes_on is.0
+stops print emulation (meaning.Prints text) o is = ap is_stop is
 
-pub goes_on : (print : Print) (m : Meaning) (o : CommandOutcome) → is_stop o ≡ false → IsOutcomeOf print m o → meaning.is_stop m ≡ false
-goes_on print m o go is = sym (stops print m o is) ∙ go
+pub goes_on : (print : Print) (emulation : Emulation) (m : Meaning) (o : CommandOutcome) → is_stop o ≡ false → IsOutcomeOf print emulation m o → meaning.is_stop m ≡ false
+goes_on print emulation m o go is = sym (stops print emulation m o is) ∙ go
 
 -- ---- one outcome
 
 -- a meaning has at most one outcome
-pub one_from : (print : Print) (m : Meaning) (a b : CommandOutcome) → IsOutcomeOf print m a → IsOutcomeOf print m b → a ≡ b
-one_from print (meaning.Stops w) a b p q = p ∙ sym q
-one_from print (meaning.Refuses r) a b p q = p ∙ sym q
-one_from print (meaning.Runs i schedule) a b p q = p ∙ sym q
-one_from print (meaning.Replays i trace) a b p q = p.2 ∙ ap outcome_of_replay (one_replayed i trace p.0 q.0 p.1 q.1) ∙ sym q.2
-one_from print (meaning.Prints text) a b p q = p ∙ sym q
+pub one_from : (print : Print) (emulation : Emulation) (m : Meaning) (a b : CommandOutcome) → IsOutcomeOf print emulation m a → IsOutcomeOf print emulation m b → a ≡ b
+one_from print emulation (meaning.Stops w) a b p q = p ∙ sym q
+one_from print emulation (meaning.Refuses r) a b p q = p ∙ sym q
+one_from print emulation (meaning.Runs i schedule) a b p q = p ∙ sym q
+one_from print emulation (meaning.Replays i trace) a b p q = p.2 ∙ ap outcome_of_replay (one_replayed i trace p.0 q.0 p.1 q.1) ∙ sym q.2
+one_from print emulation (meaning.Prints text) a b p q = p ∙ sym q
 
 -- and outcomes of the same meaning are the same
-pub one_through : (print : Print) (m n : Meaning) → m ≡ n → (a b : CommandOutcome) → IsOutcomeOf print m a → IsOutcomeOf print n b → a ≡ b
-one_through print m n is a b p q = one_from print m a b p (subst (λ (o : Meaning). IsOutcomeOf print o b) (sym is) q)
+pub one_through : (print : Print) (emulation : Emulation) (m n : Meaning) → m ≡ n → (a b : CommandOutcome) → IsOutcomeOf print emulation m a → IsOutcomeOf print emulation n b → a ≡ b
+one_through print emulation m n is a b p q = one_from print emulation m a b p (subst (λ (o : Meaning). IsOutcomeOf print emulation o b) (sym is) q)
 
 -- the input of a replay can start, and its trace is of bytes
 abbrev CanBeReplayed : Meaning → Type 0
@@ -71,12 +73,12 @@ CanBeReplayed (meaning.Replays i trace) = IsStartable i × IsText trace
 CanBeReplayed _ = Unit {0}
 
 -- a meaning that is no stop has an outcome
-some_from : (print : Print) (m : Meaning) → CanBeReplayed m → (o : CommandOutcome) × IsOutcomeOf print m o
-some_from print (meaning.Stops w) can = (Stops w, refl)
-some_from print (meaning.Refuses r) can = (Refuses (status_of r), refl)
-some_from print (meaning.Runs i schedule) can = (outcome_of_play print i (played i schedule), refl)
-some_from print (meaning.Replays i trace) can = let x = some_replayed i can.0 trace can.1 in (outcome_of_replay x.0, (x.0, x.1, refl))
-some_from print (meaning.Prints text) can = (Writes text, refl)
+some_from : (print : Print) (emulation : Emulation) (m : Meaning) → CanBeReplayed m → (o : CommandOutcome) × IsOutcomeOf print emulation m o
+some_from print emulation (meaning.Stops w) can = (Stops w, refl)
+some_from print emulation (meaning.Refuses r) can = (Refuses (status_of r), refl)
+some_from print emulation (meaning.Runs i schedule) can = (outcome_of_play print i (played i schedule) emulation, refl)
+some_from print emulation (meaning.Replays i trace) can = let x = some_replayed i can.0 trace can.1 in (outcome_of_replay x.0, (x.0, x.1, refl))
+some_from print emulation (meaning.Prints text) can = (Writes text, refl)
 
 -- what a file of bytes holds is of bytes
 held_bytes : (file : FileView) (text : List ℕ) → CanHold file text → IsOfBytes file → IsText text
@@ -108,20 +110,20 @@ module _ (contents : Contents) where
   one_of : (spelled : Option Command) (rounds : Option ℕ) (a b : CommandOutcome) → AreFilesKnown contents (names_asked spelled) → is_stop a ≡ false → is_stop b ≡ false → HasOutcome contents spelled rounds a → HasOutcome contents spelled rounds b → a ≡ b
   one_of None None a b known u v p q = p ∙ sym q
   one_of None (Some rounds) a b known u v p q =
-      one_through Audit p.0 q.0 (one_generated rounds p.0 q.0 (goes_on Audit p.0 a u p.2) (goes_on Audit q.0 b v q.2) p.1 q.1) a b p.2 q.2
+      one_through Audit Native p.0 q.0 (one_generated rounds p.0 q.0 (goes_on Audit Native p.0 a u p.2) (goes_on Audit Native q.0 b v q.2) p.1 q.1) a b p.2 q.2
   one_of (Some c) rounds a b known u v p q =
-      one_through (print_of c) p.0 q.0 (one_meaning contents c known p.0 q.0 (goes_on (print_of c) p.0 a u p.2) (goes_on (print_of c) q.0 b v q.2) p.1 q.1) a b p.2 q.2
+      one_through (print_of c) (emulation_asked c) p.0 q.0 (one_meaning contents c known p.0 q.0 (goes_on (print_of c) (emulation_asked c) p.0 a u p.2) (goes_on (print_of c) (emulation_asked c) q.0 b v q.2) p.1 q.1) a b p.2 q.2
 
   some_of : AllReplayable → (spelled : Option Command) → IfSome spelled IsWithinLimits → IsTraceOfBytes contents spelled → (rounds : Option ℕ) → AreFilesKnown contents (names_asked spelled) → (o : CommandOutcome) × (is_stop o ≡ false) × HasOutcome contents spelled rounds o
   some_of replayable None limits bytes None known = (Refuses status.Usage, refl, refl)
   some_of replayable None limits bytes (Some rounds) known =
       let x = some_generated rounds in
-      let o = some_from Audit x.0 (generated_starts rounds x.0 x.2) in
-      (o.0, stops Audit x.0 o.0 o.1 ∙ x.1, (x.0, x.2, o.1))
+      let o = some_from Audit Native x.0 (generated_starts rounds x.0 x.2) in
+      (o.0, stops Audit Native x.0 o.0 o.1 ∙ x.1, (x.0, x.2, o.1))
   some_of replayable (Some c) limits bytes rounds known =
       let x = some_meaning contents c known in
-      let o = some_from (print_of c) x.0 (replay_starts replayable contents c limits bytes x.0 x.2) in
-      (o.0, stops (print_of c) x.0 o.0 o.1 ∙ x.1, (x.0, x.2, o.1))
+      let o = some_from (print_of c) (emulation_asked c) x.0 (replay_starts replayable contents c limits bytes x.0 x.2) in
+      (o.0, stops (print_of c) (emulation_asked c) x.0 o.0 o.1 ∙ x.1, (x.0, x.2, o.1))
 
 pub one_outcome : (words : List Word) (contents : Contents) (a b : CommandOutcome) → AreFilesKnown contents (names_asked (command_in words)) → is_stop a ≡ false → is_stop b ≡ false → WordsHaveOutcome words contents a → WordsHaveOutcome words contents b → a ≡ b
 one_outcome words contents a b known u v p q = one_of contents (command_in words) (gen_of_words words) a b known u v p q
@@ -138,7 +140,7 @@ module _ (contents : Contents) (faults faults_after : ℕ) (asked asked_after : 
     goes : meaning.is_stop m ≡ false
     meant : Means contents c m
     outcome : CommandOutcome
-    outcome_is : IsOutcomeOf (print_of c) m outcome
+    outcome_is : IsOutcomeOf (print_of c) (emulation_asked c) m outcome
     ends : EndsAs outcome old new end
 
   written : (c : Command) (text : List ℕ) → IsMeant contents c text → Appends old new text → Ends c status.Done
@@ -146,8 +148,8 @@ module _ (contents : Contents) (faults faults_after : ℕ) (asked asked_after : 
     m = meaning.Runs meant.input meant.schedule;
     goes = refl;
     meant = meant.meant;
-    outcome = Writes (printed step.print meant.input meant.choices);
-    outcome_is = ap (outcome_of_play step.print meant.input) (sym meant.played_to);
+    outcome = Writes (printed step.print meant.input meant.choices step.emulation);
+    outcome_is = ap (λ (o : ScheduleOutcome). outcome_of_play step.print meant.input o step.emulation) (sym meant.played_to);
     ends = (refl, subst (Appends old new) meant.text_is appends);
   }
   written (Replay replay) text meant appends = record {
@@ -179,7 +181,7 @@ module _ (contents : Contents) (faults faults_after : ℕ) (asked asked_after : 
     goes = refl;
     meant = x.0.0.meant;
     outcome = Refuses (status.Schedule line);
-    outcome_is = ap (outcome_of_play (print_of c) x.0.0.input) (sym x.0.0.bad);
+    outcome_is = ap (λ (o : ScheduleOutcome). outcome_of_play (print_of c) x.0.0.input o (emulation_asked c)) (sym x.0.0.bad);
     ends = refl;
   })
   settled c (status.Illegal line) x quiet sink_quiet = inr (record {
@@ -201,7 +203,7 @@ module _ (contents : Contents) (faults faults_after : ℕ) (asked asked_after : 
       by : (end ≡ status.NoMemory) ⊎ Ends c end → (end ≡ status.NoMemory) ⊎ EndsAs outcome old new end
       by (inl none) = inl none
       by (inr p) =
-          let one : p.outcome ≡ outcome = one_of contents (Some c) (gen_of_words words) p.outcome outcome (subst (λ (o : Option Command). AreFilesKnown contents (names_asked o)) spelled known) (stops (print_of c) p.m p.outcome p.outcome_is ∙ p.goes) go
+          let one : p.outcome ≡ outcome = one_of contents (Some c) (gen_of_words words) p.outcome outcome (subst (λ (o : Option Command). AreFilesKnown contents (names_asked o)) spelled known) (stops (print_of c) (emulation_asked c) p.m p.outcome p.outcome_is ∙ p.goes) go
           (p.m, p.meant, p.outcome_is) (subst (λ (o : Option Command). HasOutcome contents o (gen_of_words words) outcome) spelled comes) in
           inr (subst (λ (o : CommandOutcome). EndsAs o old new end) one p.ends)
 

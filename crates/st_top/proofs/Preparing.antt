@@ -16,7 +16,7 @@ use Rattle.st_reading.specs.declared.refusal.Refusal.{Refusal}
 use Rattle.st_reading.specs.declared.refusal.Refusal.TheVariants as refusal
 use Rattle.st_reading.proofs.Runnable.{check_prints, replay_replays, step_runs}
 use Rattle.st_top.specs.Ends.{Prepares, RefusesCommand, ReplayShown, RunShown}
-use Rattle.st_top.specs.Outcome.{print_of, status_of}
+use Rattle.st_top.specs.Outcome.{emulation_asked, print_of, status_of}
 use Rattle.st_top.specs.declared.status.Status.{Status}
 use Rattle.st_top.specs.declared.status.Status.TheVariants as status
 
@@ -36,7 +36,7 @@ refused_as contents c faults faults_after old new refusal.NoMemory x = inl x
 module _ (contents : Contents) (faults faults_after : ℕ) (old new : List Word) where
   -- the text that is printed of the run that is meant
   shown_of_step : (step : StepWords) (i : Input) (schedule : ReadSchedule) → IsStartable i → Means contents (Step step) (Runs i schedule) → AskedTo (Step step) (last_file (Step step)) old new →
-      (result : Result (List ℕ) Status) → RunShown step.print i schedule result → Prepares contents (Step step) faults faults_after old new result
+      (result : Result (List ℕ) Status) → RunShown step.print i schedule step.emulation result → Prepares contents (Step step) faults faults_after old new result
   shown_of_step step i schedule startable meant asked (Ok text) x =
       (record { input = i; schedule = schedule; choices = x.0; meant = meant; played_to = x.1; lawful = run_lawful i startable x.0; by_number = run_by_number i startable x.0; text_is = x.2 }, asked)
   shown_of_step step i schedule startable meant asked (Err (status.Schedule line)) x = (record { input = i; schedule = schedule; meant = meant; bad = x }, asked)
@@ -52,7 +52,7 @@ module _ (contents : Contents) (faults faults_after : ℕ) (old new : List Word)
   shown_of_step step i schedule startable meant asked (Err (status.Illegal line)) x = absurd x
 
   pub shown_ready : (c : Command) (i : Input) (schedule : ReadSchedule) → IsStartable i → Means contents c (Runs i schedule) → AskedTo c (last_file c) old new →
-      (result : Result (List ℕ) Status) → RunShown (print_of c) i schedule result → Prepares contents c faults faults_after old new result
+      (result : Result (List ℕ) Status) → RunShown (print_of c) i schedule (emulation_asked c) result → Prepares contents c faults faults_after old new result
   shown_ready (Step step) i schedule startable meant asked result x = shown_of_step step i schedule startable meant asked result x
   shown_ready (Replay replay) i schedule startable meant asked result x = absurd (replay_replays contents replay (Runs i schedule) meant)
   shown_ready (Check check) i schedule startable meant asked result x = absurd (check_prints contents check (Runs i schedule) meant)

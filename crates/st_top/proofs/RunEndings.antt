@@ -15,11 +15,12 @@ use Rattle.st_command.specs.Reading.{run_of_words}
 use Rattle.st_command.specs.Words.{Word}
 use Rattle.st_reading.specs.Meaning as meaning
 use Rattle.st_reading.specs.Meaning.{AreFilesKnown, Contents, Meaning, Refuses, Stops}
-use Rattle.st_reading.specs.RunMeaning.{MeansRun, starts}
+use Rattle.st_reading.specs.RunMeaning.{MeansRun, run_input, starts}
 use Rattle.st_reading.specs.declared.refusal.Refusal.TheVariants as refusal
 use Rattle.st_reading.specs.declared.refusal.Which.{Which}
 use Rattle.st_reading.specs.declared.refusal.Which.TheVariants as which
-use Rattle.st_reading.proofs.RunMeanings.{run_one}
+use Rattle.st_reading.specs.Runnable.{StartsNatively}
+use Rattle.st_reading.proofs.RunMeanings.{run_one, run_starts}
 use Rattle.st_top.specs.Ends.{EndsAs}
 use Rattle.st_top.specs.Outcome.{CommandOutcome, is_stop, printed}
 use Rattle.st_top.specs.RunEnds.{EndsRun, IsMeantOfThreads, IsOfThreads, IsWholeRun, PreparesRun, RefusesRun, RunHasOutcome, RunMeansUpTo, RunWantsMemory, WritesMade, run_names_asked, run_outcome}
@@ -72,11 +73,11 @@ module _ (words : List Word) (contents : Contents) (threaded : RunWords) (faults
   same other is = same_Some threaded other (sym spelled ∙ is)
 
   pub threads_written : ended.status ≡ status.Done → (other : RunWords) → run_of_words words ≡ Some other →
-      (input : Input) × MeansRun contents other (starts input) × IsWholeRun input ended.schedule × Lawful input (run input ended.schedule) × IsLawfulByNumber input (numbered input (run input ended.schedule)) × Appends old new (printed other.print input ended.schedule)
+      (input : Input) × MeansRun contents other (starts input) × StartsNatively contents (run_input other) input × IsWholeRun input ended.schedule × Lawful input (run input ended.schedule) × IsLawfulByNumber input (numbered input (run input ended.schedule)) × Appends old new (printed other.print input ended.schedule other.emulation)
   threads_written is other spells =
       let x = (of status.Done is).0 in
       let m = subst (λ (r : RunWords). IsOfThreads contents r ended.schedule x.0) (same other spells) x.1 in
-      (m.input, m.meant, m.whole, m.whole.lawful, m.whole.by_number, subst (Appends old new) m.text_is x.2)
+      (m.input, m.meant, run_starts contents other m.input m.meant, m.whole, m.whole.lawful, m.whole.by_number, subst (Appends old new) m.text_is x.2)
 
   pub some_run : run_of_words words ≢ None
   some_run none = by (sym spelled ∙ none)
@@ -157,7 +158,7 @@ module _ (words : List Word) (contents : Contents) (threaded : RunWords) (faults
 
   -- what `run` means, unless memory runs out or a count rose
   meant_so : (other : Status) → EndsRun contents threaded faults faults_after asked asked_after sink sink_after old new ended.schedule other → (HasRisen faults faults_after → ⊥) → (HasRisen sink sink_after → ⊥) →
-      (other ≡ status.NoMemory) ⊎ ((m : Meaning) × (meaning.is_stop m ≡ false) × MeansRun contents threaded m × EndsAs (run_outcome threaded.print ended.schedule m) old new other)
+      (other ≡ status.NoMemory) ⊎ ((m : Meaning) × (meaning.is_stop m ≡ false) × MeansRun contents threaded m × EndsAs (run_outcome threaded.print ended.schedule m threaded.emulation) old new other)
   meant_so status.Done x quiet sink_quiet = inr (starts x.0.1.input, refl, x.0.1.meant, (refl, subst (Appends old new) x.0.1.text_is x.0.2))
   meant_so (status.Missing w) x quiet sink_quiet = inr (Refuses (refusal.Missing w), refl, x.0.0.0, refl)
   meant_so status.Usage x quiet sink_quiet = absurd x.0.0
@@ -170,7 +171,7 @@ module _ (words : List Word) (contents : Contents) (threaded : RunWords) (faults
   meant_so (status.TooLong w) x quiet sink_quiet = inr (Refuses (refusal.TooLong w), refl, x.0.0.0, refl)
   meant_so (status.Illegal line) x quiet sink_quiet = absurd x.0.0
 
-  goes_on : (m : Meaning) (o : CommandOutcome) → is_stop o ≡ false → o ≡ run_outcome threaded.print ended.schedule m → meaning.is_stop m ≡ false
+  goes_on : (m : Meaning) (o : CommandOutcome) → is_stop o ≡ false → o ≡ run_outcome threaded.print ended.schedule m threaded.emulation → meaning.is_stop m ≡ false
   goes_on (Stops w) o go is = let e = sym go ∙ ap is_stop is in absurd (cc)
   goes_on (Refuses r) o go is = refl
   goes_on (meaning.Runs i schedule) o go is = refl
@@ -182,13 +183,13 @@ module _ (words : List Word) (contents : Contents) (threaded : RunWords) (faults
       RunHasOutcome contents (run_of_words words) ended.schedule outcome → (ended.status ≡ status.NoMemory) ⊎ EndsAs outcome old new ended.status
   run_ended_as quiet sink_quiet known outcome go comes = by (meant_so ended.status ends quiet sink_quiet)
     where
-      by : (ended.status ≡ status.NoMemory) ⊎ ((m : Meaning) × (meaning.is_stop m ≡ false) × MeansRun contents threaded m × EndsAs (run_outcome threaded.print ended.schedule m) old new ended.status) → (ended.status ≡ status.NoMemory) ⊎ EndsAs outcome old new ended.status
+      by : (ended.status ≡ status.NoMemory) ⊎ ((m : Meaning) × (meaning.is_stop m ≡ false) × MeansRun contents threaded m × EndsAs (run_outcome threaded.print ended.schedule m threaded.emulation) old new ended.status) → (ended.status ≡ status.NoMemory) ⊎ EndsAs outcome old new ended.status
       by (inl none) = inl none
       by (inr p) =
           let q = subst (λ (o : Option RunWords). RunHasOutcome contents o ended.schedule outcome) spelled comes in
           let known_here = subst (λ (o : Option RunWords). AreFilesKnown contents (run_names_asked o)) spelled known in
           let one : p.0 ≡ q.0 = run_one contents threaded known_here p.0 q.0 p.1 (goes_on q.0 outcome go q.2) p.2 q.1 in
-          let is : run_outcome threaded.print ended.schedule p.0 ≡ outcome = ap (run_outcome threaded.print ended.schedule) one ∙ sym q.2 in
+          let is : run_outcome threaded.print ended.schedule p.0 threaded.emulation ≡ outcome = ap (λ (m : Meaning). run_outcome threaded.print ended.schedule m threaded.emulation) one ∙ sym q.2 in
           inr (subst (λ (o : CommandOutcome). EndsAs o old new ended.status) is p.3)
 
 -- the outcome of words that spell no `run` is wrong usage, and the call ends with it

@@ -12,6 +12,7 @@ use Rattle.st_reached.proofs.NumbersBack.{run_by_number}
 use Rattle.st_command.specs.Command.{RunWords}
 use Rattle.st_command.specs.Words.{Word}
 use Rattle.st_command.specs.declared.given.Print.{Print}
+use Rattle.st_emulation.specs.declared.emulation.Emulation.{Emulation}
 use Rattle.st_kernel.specs.Kernel.{IsPlayed, RunSoFar, state_in}
 use Rattle.st_reading.specs.Ends.{AreAskedTo, RefusesFiles}
 use Rattle.st_reading.specs.Meaning.{Contents}
@@ -53,15 +54,15 @@ module _ (law : SomeChoiceIsEnabled) (new : RunSoFar) (played : IsPlayed new) (s
   }
 
 -- the text that is asked for is printed, and the choices are returned
-pub threads_show : (print : Print) (i : Input) (new : RunSoFar) (text : List ℕ) (choices : List Choice) → IsWholeRun new.input new.choices → new.input ≡ i → choices ≡ new.choices → text ≡ printed print new.input new.choices →
-    ThreadsShow print i (Ok (text, choices))
-threads_show print i new text choices whole_run same made is =
-    subst (λ (cs : List Choice). ThreadsShow print i (Ok (text, cs))) (sym made) (subst (λ (j : Input). ThreadsShow print j (Ok (text, new.choices))) same (whole_run, is))
+pub threads_show : (print : Print) (emulation : Emulation) (i : Input) (new : RunSoFar) (text : List ℕ) (choices : List Choice) → IsWholeRun new.input new.choices → new.input ≡ i → choices ≡ new.choices → text ≡ printed print new.input new.choices emulation →
+    ThreadsShow print i emulation (Ok (text, choices))
+threads_show print emulation i new text choices whole_run same made is =
+    subst (λ (cs : List Choice). ThreadsShow print i emulation (Ok (text, cs))) (sym made) (subst (λ (j : Input). ThreadsShow print j emulation (Ok (text, new.choices))) same (whole_run, is))
 
 -- if memory runs out, nothing more is required
-pub threads_out_of_memory : (print : Print) (i : Input) (result : Result (List ℕ × List Choice) Status) → IsErr result → IsErrAnd result (λ s. s ≡ status.NoMemory) → ThreadsShow print i result
-threads_out_of_memory print i (Ok made) failed same = cc
-threads_out_of_memory print i (Err s) failed same = same
+pub threads_out_of_memory : (print : Print) (i : Input) (emulation : Emulation) (result : Result (List ℕ × List Choice) Status) → IsErr result → IsErrAnd result (λ s. s ≡ status.NoMemory) → ThreadsShow print i emulation result
+threads_out_of_memory print i emulation (Ok made) failed same = cc
+threads_out_of_memory print i emulation (Err s) failed same = same
 
 -- what holds of a text of every record of a run, holds of the text of a record that there is
 pub merely_same : {P : Type 0} (text other : List ℕ) → ∥ P ∥₁ → (P → text ≡ other) → text ≡ other
@@ -86,7 +87,7 @@ refused_run contents threaded faults faults_after old new refusal.NoMemory x = i
 
 -- an input was read, and its run by threads was printed, or memory ran out
 pub threads_ready : (contents : Contents) (threaded : RunWords) (faults faults_after : ℕ) (old new : List Word) (input : Input) → MeansRun contents threaded (starts input) → AreAskedTo (run_names_to threaded) which.Schedule old new →
-    (result : Result (List ℕ × List Choice) Status) → ThreadsShow threaded.print input result → PreparesRun contents threaded faults faults_after old new result
+    (result : Result (List ℕ × List Choice) Status) → ThreadsShow threaded.print input threaded.emulation result → PreparesRun contents threaded faults faults_after old new result
 threads_ready contents threaded faults faults_after old new input meant asked (Ok made) x = (record { input = input; meant = meant; whole = x.0; text_is = x.1 }, asked)
 threads_ready contents threaded faults faults_after old new input meant asked (Err s) x =
     subst (RefusesRun contents threaded faults faults_after old new) (sym x) (inr (record { input = input; meant = meant }, asked))

@@ -16,6 +16,7 @@ use Rattle.st_command.specs.Command.{StepWords, ReplayWords}
 use Rattle.st_command.specs.declared.command.Command.{Command}
 use Rattle.st_command.specs.declared.command.Command.TheVariants as command
 use Rattle.st_command.specs.declared.given.Print.{Print}
+use Rattle.st_emulation.specs.declared.emulation.Emulation.{Emulation}
 use Rattle.st_reading.specs.Ends.{AskedTo}
 use Rattle.st_reading.specs.Ends as reading
 use Rattle.st_reading.specs.Meaning.{Contents, Meaning, Refuses, Runs, Replays, Prints, Means, names_of, last_file}
@@ -40,7 +41,7 @@ pub record IsOfRun (contents : Contents) (step : StepWords) (text : List ℕ) : 
   pub played_to : played input schedule ≡ Choices choices
   pub lawful : Lawful input (run input choices)
   pub by_number : IsLawfulByNumber input (numbered input (run input choices))
-  pub text_is : text ≡ printed step.print input choices
+  pub text_is : text ≡ printed step.print input choices step.emulation
 
 -- a text is what `replay` and its files ask to be written: the trace that they mean is lawful, and the text says so
 pub record IsOfReplay (contents : Contents) (replay : ReplayWords) (text : List ℕ) : Type 0 where
@@ -120,12 +121,12 @@ EndsCommand contents c faults faults_after asked asked_after sink sink_after old
 
 -- ---- runs
 
--- what is printed of the run by a schedule, or why there is no run
-abbrev pub RunShown : Print → Input → ReadSchedule → Result (List ℕ) Status → Type 0
-RunShown print i schedule (Ok text) = (choices : List Choice) × (played i schedule ≡ Choices choices) × (text ≡ printed print i choices)
-RunShown print i schedule (Err (Schedule line)) = played i schedule ≡ BadLine line
-RunShown print i schedule (Err NoMemory) = Unit {0}
-RunShown print i schedule (Err _) = ⊥
+-- what is printed under an emulation of the run by a schedule, or why there is no run
+abbrev pub RunShown : Print → Input → ReadSchedule → Emulation → Result (List ℕ) Status → Type 0
+RunShown print i schedule emulation (Ok text) = (choices : List Choice) × (played i schedule ≡ Choices choices) × (text ≡ printed print i choices emulation)
+RunShown print i schedule emulation (Err (Schedule line)) = played i schedule ≡ BadLine line
+RunShown print i schedule emulation (Err NoMemory) = Unit {0}
+RunShown print i schedule emulation (Err _) = ⊥
 
 -- what is written of a trace, or the first line that isn't lawful
 abbrev pub ReplayShown : Input → List ℕ → Result (List ℕ) Status → Type 0

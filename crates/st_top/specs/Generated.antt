@@ -2,6 +2,7 @@
 use Rattle.std.specs.Prelude.{◌≡◌, ℕ, List, [], Option, Some}
 use Rattle.st_outside.specs.Count.{HasRisen}
 use Rattle.st_outside.specs.Sink.{Appends, AppendsPrefix}
+use Rattle.st_emulation.specs.declared.emulation.Emulation.TheVariants.{Native}
 use Rattle.st_filter.specs.declared.set.BinaryPolicy.{BinaryPolicy}
 use Rattle.st_audit.specs.Summary.{summary_text}
 use Rattle.st_command.specs.Reading.{gen_of_words}
@@ -25,7 +26,7 @@ line_of_run script policies = summary_text (rested_run (input_with policies gene
 -- printed
 abbrev pub MeansGenerated : ℕ → Meaning → Type 0
 MeansGenerated rounds outcome =
-    SaysScript (script_in (generated_script rounds) generated_options)
+    SaysScript (script_in (generated_script rounds) generated_options Native)
     (λ script. SaysPolicy generated_policy script.env [] 1 (λ policies. outcome ≡ Prints (line_of_run script policies)) outcome) outcome
 
 -- the line was written, all of it or, if writing failed, a front of it; or a generated text is refused or memory ran out, and nothing was

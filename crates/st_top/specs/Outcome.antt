@@ -15,6 +15,8 @@ use Rattle.st_command.specs.declared.command.Command.{Command}
 use Rattle.st_command.specs.declared.command.Command.TheVariants as command
 use Rattle.st_command.specs.declared.given.Print.{Print}
 use Rattle.st_command.specs.declared.given.Print.TheVariants as print
+use Rattle.st_emulation.specs.declared.emulation.Emulation.{Emulation}
+use Rattle.st_emulation.specs.declared.emulation.Emulation.TheVariants.{Native}
 use Rattle.st_kernel.specs.declared.play.PlayFault.{PlayFault}
 use Rattle.st_kernel.specs.declared.play.PlayFault.TheVariants as play
 use Rattle.st_reading.specs.Meaning as meaning
@@ -45,18 +47,25 @@ status_of_play play.NoMemory = NoMemory
 
 -- ---- what is printed of a run
 
--- the text that is asked for of the run by these choices; its trace is printed with the numbers of messages
-abbrev pub printed : Print → Input → List Choice → List ℕ
-printed print.Audit i choices = audit i (run i choices)
-printed print.Trace i choices = trace_text (numbered i (run i choices))
-printed print.Schedule i choices = schedule_text choices
-printed print.Policy i choices = policy_text i (run i choices)
+-- the text that is asked for of the run by these choices, under an emulation; its trace is printed with the numbers of messages, and its
+-- trace and its schedule as they are without an emulation
+abbrev pub printed : Print → Input → List Choice → Emulation → List ℕ
+printed print.Audit i choices emulation = audit i (run i choices) emulation
+printed print.Trace i choices emulation = trace_text (numbered i (run i choices))
+printed print.Schedule i choices emulation = schedule_text choices
+printed print.Policy i choices emulation = policy_text i (run i choices) emulation
 
 -- what a command asks to be printed of its run
 abbrev pub print_of : Command → Print
 print_of (command.Step step) = step.print
 print_of (command.Replay replay) = print.Audit
 print_of (command.Check check) = print.Audit
+
+-- the emulation that a command asks for
+abbrev pub emulation_asked : Command → Emulation
+emulation_asked (command.Step step) = step.emulation
+emulation_asked (command.Replay replay) = replay.emulation
+emulation_asked (command.Check check) = check.emulation
 
 -- what is written of a lawful trace
 abbrev pub lawful_text : List ℕ
@@ -77,9 +86,9 @@ is_stop (Refuses status) = false
 is_stop (Writes text) = false
 
 -- the text of the run of a schedule that can be played, or the refusal of a schedule with a bad line
-abbrev pub outcome_of_play : Print → Input → ScheduleOutcome → CommandOutcome
-outcome_of_play print i (Choices choices) = Writes (printed print i choices)
-outcome_of_play print i (BadLine line) = Refuses (Schedule line)
+abbrev pub outcome_of_play : Print → Input → ScheduleOutcome → Emulation → CommandOutcome
+outcome_of_play print i (Choices choices) emulation = Writes (printed print i choices emulation)
+outcome_of_play print i (BadLine line) emulation = Refuses (Schedule line)
 
 -- the outcome of a replay, by the first line of the trace that isn't lawful
 abbrev pub outcome_of_replay : Option ℕ → CommandOutcome
@@ -87,22 +96,22 @@ outcome_of_replay None = Writes lawful_text
 outcome_of_replay (Some line) = Refuses (Illegal line)
 
 -- the outcome of a command, by what it and its files mean
-abbrev pub IsOutcomeOf : Print → Meaning → CommandOutcome → Type 0
-IsOutcomeOf print (meaning.Stops which) outcome = outcome ≡ Stops which
-IsOutcomeOf print (meaning.Refuses refusal) outcome = outcome ≡ Refuses (status_of refusal)
-IsOutcomeOf print (meaning.Runs i schedule) outcome = outcome ≡ outcome_of_play print i (played i schedule)
-IsOutcomeOf print (meaning.Replays i trace) outcome = (broken : Option ℕ) × IsReplayed i trace broken × (outcome ≡ outcome_of_replay broken)
-IsOutcomeOf print (meaning.Prints text) outcome = outcome ≡ Writes text
+abbrev pub IsOutcomeOf : Print → Emulation → Meaning → CommandOutcome → Type 0
+IsOutcomeOf print emulation (meaning.Stops which) outcome = outcome ≡ Stops which
+IsOutcomeOf print emulation (meaning.Refuses refusal) outcome = outcome ≡ Refuses (status_of refusal)
+IsOutcomeOf print emulation (meaning.Runs i schedule) outcome = outcome ≡ outcome_of_play print i (played i schedule) emulation
+IsOutcomeOf print emulation (meaning.Replays i trace) outcome = (broken : Option ℕ) × IsReplayed i trace broken × (outcome ≡ outcome_of_replay broken)
+IsOutcomeOf print emulation (meaning.Prints text) outcome = outcome ≡ Writes text
 
 -- the outcome of words that spell no other command: that of `gen`, or wrong usage
 abbrev pub HasOtherOutcome : Option ℕ → CommandOutcome → Type 0
 HasOtherOutcome None outcome = outcome ≡ Refuses Usage
-HasOtherOutcome (Some rounds) outcome = (m : Meaning) × MeansGenerated rounds m × IsOutcomeOf print.Audit m outcome
+HasOtherOutcome (Some rounds) outcome = (m : Meaning) × MeansGenerated rounds m × IsOutcomeOf print.Audit Native m outcome
 
 -- the outcome of words, by the command or the rounds of `gen` that they spell
 abbrev pub HasOutcome : Contents → Option Command → Option ℕ → CommandOutcome → Type 0
 HasOutcome contents None rounds outcome = HasOtherOutcome rounds outcome
-HasOutcome contents (Some c) rounds outcome = (m : Meaning) × Means contents c m × IsOutcomeOf (print_of c) m outcome
+HasOutcome contents (Some c) rounds outcome = (m : Meaning) × Means contents c m × IsOutcomeOf (print_of c) (emulation_asked c) m outcome
 
 -- the outcome of words over files of which this much is known
 abbrev pub WordsHaveOutcome : List Word → Contents → CommandOutcome → Type 0

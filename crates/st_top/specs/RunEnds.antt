@@ -12,6 +12,7 @@ use Rattle.st_command.specs.Command.{RunWords}
 use Rattle.st_command.specs.Reading.{run_of_words}
 use Rattle.st_command.specs.Words.{Word}
 use Rattle.st_command.specs.declared.given.Print.{Print}
+use Rattle.st_emulation.specs.declared.emulation.Emulation.{Emulation}
 use Rattle.st_reading.specs.Ends.{AreAskedTo, CanStopAt, HasNoMemory}
 use Rattle.st_reading.specs.Meaning as meaning
 use Rattle.st_reading.specs.Meaning.{Contents, Meaning}
@@ -39,10 +40,10 @@ pub record IsWholeRun (i : Input) (choices : List Choice) : Type 0 where
   pub settled : IsSettled i (state_of_run i choices)
   pub ended : HaveAllEnded i choices
 
--- what is printed of a run by threads, with the choices that they made; without them, memory ran out
-abbrev pub ThreadsShow : Print → Input → Result (List ℕ × List Choice) Status → Type 0
-ThreadsShow print i (Ok made) = IsWholeRun i made.1 × (made.0 ≡ printed print i made.1)
-ThreadsShow print i (Err status) = status ≡ NoMemory
+-- what is printed under an emulation of a run by threads, with the choices that they made; without them, memory ran out
+abbrev pub ThreadsShow : Print → Input → Emulation → Result (List ℕ × List Choice) Status → Type 0
+ThreadsShow print i emulation (Ok made) = IsWholeRun i made.1 × (made.0 ≡ printed print i made.1 emulation)
+ThreadsShow print i emulation (Err status) = status ≡ NoMemory
 
 -- ---- what is written
 
@@ -51,7 +52,7 @@ pub record IsOfThreads (contents : Contents) (threaded : RunWords) (choices : Li
   pub input : Input
   pub meant : MeansRun contents threaded (starts input)
   pub whole : IsWholeRun input choices
-  pub text_is : text ≡ printed threaded.print input choices
+  pub text_is : text ≡ printed threaded.print input choices threaded.emulation
 
 -- ---- what is refused
 
@@ -133,14 +134,14 @@ run_names_asked None = []
 run_names_asked (Some threaded) = run_names threaded
 
 -- the outcome of `run` by these choices, by what it and its files mean
-abbrev pub run_outcome : Print → List Choice → Meaning → CommandOutcome
-run_outcome print choices (meaning.Stops w) = Stops w
-run_outcome print choices (meaning.Refuses refusal) = Refuses (status_of refusal)
-run_outcome print choices (meaning.Runs i schedule) = Writes (printed print i choices)
-run_outcome print choices (meaning.Replays i trace) = Writes (printed print i choices)
-run_outcome print choices (meaning.Prints text) = Writes text
+abbrev pub run_outcome : Print → List Choice → Meaning → Emulation → CommandOutcome
+run_outcome print choices (meaning.Stops w) emulation = Stops w
+run_outcome print choices (meaning.Refuses refusal) emulation = Refuses (status_of refusal)
+run_outcome print choices (meaning.Runs i schedule) emulation = Writes (printed print i choices emulation)
+run_outcome print choices (meaning.Replays i trace) emulation = Writes (printed print i choices emulation)
+run_outcome print choices (meaning.Prints text) emulation = Writes text
 
 -- the outcome of words of `run` whose threads made these choices: wrong usage if they spell no `run`
 abbrev pub RunHasOutcome : Contents → Option RunWords → List Choice → CommandOutcome → Type 0
 RunHasOutcome contents None choices outcome = outcome ≡ Refuses Usage
-RunHasOutcome contents (Some threaded) choices outcome = (m : Meaning) × MeansRun contents threaded m × (outcome ≡ run_outcome threaded.print choices m)
+RunHasOutcome contents (Some threaded) choices outcome = (m : Meaning) × MeansRun contents threaded m × (outcome ≡ run_outcome threaded.print choices m threaded.emulation)

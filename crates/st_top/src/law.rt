@@ -4,6 +4,7 @@ ghost use Rattle.st_command.specs.Reading.{command_in, IsWithinLimits};
 ghost use Rattle.st_command.specs.Words.{Word};
 ghost use Rattle.st_command.specs.declared.command.Command.TheVariants.{Step};
 ghost use Rattle.st_command.specs.declared.given.Print.TheVariants as print;
+ghost use Rattle.st_emulation.specs.declared.emulation.Emulation.{Emulation};
 ghost use Rattle.st_law.specs.Machine.{run};
 ghost use Rattle.st_law.specs.declared.input.Input.{Input};
 ghost use Rattle.st_law.specs.declared.input.Mode.TheVariants.{Learn};
@@ -31,7 +32,7 @@ pub fn words_have_one_outcome()
 /// Each held call that a run which learns has made is permitted, under the ids that it was made under, by the policies that `step` writes
 /// of the run if it is asked for them. These policies alone suffice.
 pub fn what_was_made_is_permitted_by_what_is_written()
-    ensures written { (input : Input) (choices : List Choice) → printed print.Policy input choices ≡ canon (policies_after input choices) }
+    ensures written { (input : Input) (choices : List Choice) (emulation : Emulation) → printed print.Policy input choices emulation ≡ canon (policies_after input choices) emulation }
     ensures permitted { (contents : Contents) (step : StepWords) (input : Input) (schedule : ReadSchedule) → IsWithinLimits (Step step) → step.options.mode ≡ Learn → Means contents (Step step) (Runs input schedule) →
         (choices : List Choice) → PermitsWhatWasMade input (policies_after input choices) (reverse (run input choices)) }
 {

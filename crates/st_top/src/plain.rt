@@ -13,11 +13,12 @@ ghost use Rattle.st_command.specs.Reading.{command_in, gen_of_words, IsWithinLim
 ghost use Rattle.st_command.specs.declared.command.Command.TheVariants.{Step, Replay, Check};
 ghost use Rattle.st_grammar.specs.declared.fault.PolicyRefusal.{PolicyRefusal};
 ghost use Rattle.st_script_faults.specs.declared.fault.ScriptFault.{ScriptFault};
-ghost use Rattle.st_reading.specs.Meaning.{Means, Stops, Refuses, Runs, Replays, Prints, AreFilesKnown};
+ghost use Rattle.st_reading.specs.Meaning.{Means, Stops, Refuses, Runs, Replays, Prints, AreFilesKnown, replay_input, step_input};
+ghost use Rattle.st_reading.specs.Runnable.{StartsNatively};
 ghost use Rattle.st_reading.specs.declared.refusal.Refusal.TheVariants as refusal;
 ghost use Rattle.st_reading.specs.declared.refusal.Which.{Which};
 ghost use Rattle.st_reading.specs.declared.refusal.Which.TheVariants as which;
-ghost use Rattle.st_top.specs.Outcome.{CommandOutcome, WordsHaveOutcome, is_stop, lawful_text, print_of, printed};
+ghost use Rattle.st_top.specs.Outcome.{CommandOutcome, WordsHaveOutcome, emulation_asked, is_stop, lawful_text, print_of, printed};
 ghost use Rattle.st_trace_replay.specs.Replayed.{BreaksAt, IsLawfulText};
 ghost use Rattle.st_generated_run.specs.Generated.{IsGeneratedLine};
 ghost use Rattle.st_top.specs.Generated.{IsGeneratedBy, WordsMeanGenerated};
@@ -29,6 +30,7 @@ use crate::run::text_of_run;
 use crate::status::Status;
 use st_base::Text;
 use st_command::{Command, Print, read_gen_words, read_words};
+use st_emulation::Emulation;
 use st_outside::{Files, Sink, write_all};
 use st_reading::law::{what_is_meant_to_be_replayed_can_run, what_is_meant_to_run_can_run};
 use st_reading::{Reading, read_command};
@@ -44,6 +46,17 @@ fn print_of(command: &Command<'_>) -> Print
     }
 }
 
+// The emulation that a command asks for.
+fn emulation_asked(command: &Command<'_>) -> Emulation
+    ensures { result ≡ emulation_asked command.now }
+{
+    match command {
+        Command::Step(step) => step.emulation,
+        Command::Replay(replay) => replay.emulation,
+        Command::Check(check) => check.emulation,
+    }
+}
+
 // The text that a command writes, or why the command is refused.
 fn prepare<F: Files>(alloc: Global, command: &Command<'_>, files: &mut F) -> Result<Text, Status>
     requires limits { IsWithinLimits command.now }
@@ -54,7 +67,13 @@ fn prepare<F: Files>(alloc: Global, command: &Command<'_>, files: &mut F) -> Res
     what_is_meant_to_run_can_run();
     what_is_meant_to_be_replayed_can_run();
     match read_command(alloc, command, files)? {
-        Reading::Run(input, schedule) => text_of_run(alloc, print_of(command), &input, &schedule),
+        Reading::Run(input, schedule) => text_of_run(
+            alloc,
+            print_of(command),
+            &input,
+            &schedule,
+            emulation_asked(command),
+        ),
         Reading::Replay(input, trace) => text_of_replay(alloc, &input, trace.bytes()),
         Reading::Text(text) => Ok(text),
     }
@@ -93,18 +112,20 @@ pub fn systrace_plain<F: Files, S: Sink>(
     out: &mut S,
 ) -> Status
     // `step` writes what its words ask for of the run that the words and files mean, and that run is lawful. So is its trace with the numbers
-    // of messages, which is printed if the words ask for the trace: its numbers are those that the law gives to its messages.
+    // of messages, which is printed if the words ask for the trace: its numbers are those that the law gives to its messages. The start of the
+    // run is the script's, with native flags in place of Linux ones if the words ask for Linux.
     ensures step { result ≡ Status.Done → (step : StepWords) → command_in words.now ≡ Some (Step step) →
         (input : Input) × (schedule : ReadSchedule) × (choices : List Choice) ×
         Means (F.contents files.old) (Step step) (Runs input schedule) ×
+        StartsNatively (F.contents files.old) (step_input step) input ×
         (played input schedule ≡ Choices choices) ×
         Lawful input (run input choices) ×
         IsLawfulByNumber input (numbered input (run input choices)) ×
-        Appends (S.written out.old) (S.written out.new) (printed step.print input choices) }
+        Appends (S.written out.old) (S.written out.new) (printed step.print input choices step.emulation) }
     // `replay` writes `lawful` if the trace that its words and files mean is lawful: each line is that of one entry, and the entries are a
     // lawful trace, by the numbers of its messages.
     ensures replay { result ≡ Status.Done → (replay : ReplayWords) → command_in words.now ≡ Some (Replay replay) →
-        (input : Input) × (trace : List ℕ) × Means (F.contents files.old) (Replay replay) (Replays input trace) × IsLawfulText input trace × Appends (S.written out.old) (S.written out.new) lawful_text }
+        (input : Input) × (trace : List ℕ) × Means (F.contents files.old) (Replay replay) (Replays input trace) × StartsNatively (F.contents files.old) (replay_input replay) input × IsLawfulText input trace × Appends (S.written out.old) (S.written out.new) lawful_text }
     // `check` writes the canonical text of the policies that its words and files mean.
     ensures check { result ≡ Status.Done → (check : CheckWords) → command_in words.now ≡ Some (Check check) →
         (text : List ℕ) × Means (F.contents files.old) (Check check) (Prints text) × Appends (S.written out.old) (S.written out.new) text }

@@ -11,7 +11,8 @@ ghost use Rattle.st_command.specs.Reading.{run_of_words, IsRunWithinLimits};
 ghost use Rattle.st_grammar.specs.declared.fault.PolicyRefusal.{PolicyRefusal};
 ghost use Rattle.st_script_faults.specs.declared.fault.ScriptFault.{ScriptFault};
 ghost use Rattle.st_reading.specs.Meaning.{Stops, Refuses, AreFilesKnown};
-ghost use Rattle.st_reading.specs.RunMeaning.{MeansRun, starts};
+ghost use Rattle.st_reading.specs.RunMeaning.{MeansRun, run_input, starts};
+ghost use Rattle.st_reading.specs.Runnable.{StartsNatively};
 ghost use Rattle.st_reading.specs.declared.refusal.Refusal.TheVariants as refusal;
 ghost use Rattle.st_reading.specs.declared.refusal.Which.{Which};
 ghost use Rattle.st_reading.specs.declared.refusal.Which.TheVariants as which;
@@ -21,7 +22,7 @@ ghost use Rattle.st_top.specs.RunEnds.{IsWholeRun, PreparesRun, WritesMade, Ends
 
 use crate::ended::{Ended, Schedule};
 use crate::status::Status;
-use crate::threaded::text_of_threads;
+use crate::threaded::{Asked, text_of_threads};
 use st_base::Text;
 use st_command::{RunWords, read_run_words};
 use st_monitor::Gate;
@@ -47,7 +48,11 @@ fn prepare_run<F: Files, G: Gate + Sync, T: Threads + Wait + Sync>(
 {
     what_run_means_can_run();
     let input = read_run(alloc, threaded, files)?;
-    text_of_threads(rt, alloc, threaded.print, &input, gate)
+    let asked = Asked {
+        print: threaded.print,
+        emulation: threaded.emulation,
+    };
+    text_of_threads(rt, alloc, asked, &input, gate)
 }
 
 // Writes what was prepared, and ends the call.
@@ -86,13 +91,15 @@ pub fn systrace_run<F: Files, S: Sink, G: Gate + Sync, T: Threads + Wait + Sync>
 ) -> Ended
     // `run` writes what its words ask for of a run of the input that the words and files mean. Threads make that run, by the choices that are
     // returned. Each of them was enabled when it was made, the run is lawful, and each thread that has started has ended. The run's trace with
-    // the numbers of messages is lawful too.
+    // the numbers of messages is lawful too. The start of the run is the script's, with native flags in place of Linux ones if the words ask for
+    // Linux.
     ensures run { result.status ≡ Status.Done → (threaded : RunWords) → run_of_words words.now ≡ Some threaded →
         (input : Input) × MeansRun (F.contents files.old) threaded (starts input) ×
+        StartsNatively (F.contents files.old) (run_input threaded) input ×
         IsWholeRun input result.schedule ×
         Lawful input (run input result.schedule) ×
         IsLawfulByNumber input (numbered input (run input result.schedule)) ×
-        Appends (S.written out.old) (S.written out.new) (printed threaded.print input result.schedule) }
+        Appends (S.written out.old) (S.written out.new) (printed threaded.print input result.schedule threaded.emulation) }
     ensures served { result.status ≡ Status.Done → run_of_words words.now ≢ None }
     // If a text was written, whole or in part, all names of the words were asked for, in order.
     ensures asked { (result.status ≡ Status.Done) ⊎ (result.status ≡ Status.WriteFault) → F.asked files.new ≡ F.asked files.old ++ run_names_asked (run_of_words words.now) }

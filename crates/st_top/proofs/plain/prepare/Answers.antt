@@ -1,9 +1,11 @@
 use Rattle.std.proofs.Common.{◌≡◌, List, length, ℕ, ap, arith, subst}
 use Rattle.st_command.specs.declared.given.Print.{Print}
+use Rattle.st_emulation.specs.declared.emulation.Emulation.{Emulation}
 use Rattle.st_reading.specs.Ends.{as_meaning}
 use Rattle.st_reading.specs.Meaning.{Means}
 use Rattle.st_reading.specs.declared.reading.Reading.{Reading}
 use Rattle.st_top.specs.Ends.{ReplayShown, RunShown}
+use Rattle.st_top.specs.Outcome.{print_of}
 use Rattle.st_reading.proofs.Runnable.{can_replay, ready, replay_meant, run_meant}
 use Rattle.st_top.proofs.Preparing.{printed_ready, replay_ready, shown_ready}
 use Rattle.st_top.proofs.plain.prepare.Goals as goal
@@ -21,7 +23,8 @@ returns-in-Run-clause-prepares g c =
     c.what_is_meant_to_run_can_run.ensures c.requires.limits).startable
     (run_meant (g.F.Files.contents c.args.files.now) c.args.command.now (g.F.Files.asked c.args.files.now) (g.F.Files.asked c.read_command.new.files) c.in_ok-input.field-0 c.in_ok-input.ensures.ends c.in-Run.input c.in-Run.schedule c.in-Run.is)
     c.in_ok-input.ensures.ends.1 c.text_of_run.result
-    (subst (λ (print : Print). RunShown print c.in-Run.input c.in-Run.schedule c.text_of_run.result) c.print_of.ensures c.text_of_run.ensures)
+    (subst (λ (emulation : Emulation). RunShown (print_of c.args.command.now) c.in-Run.input c.in-Run.schedule emulation c.text_of_run.result) c.emulation_asked.ensures
+    (subst (λ (print : Print). RunShown print c.in-Run.input c.in-Run.schedule c.emulation_asked.result c.text_of_run.result) c.print_of.ensures c.text_of_run.ensures))
 
 pub returns-in-Text-clause-prepares : goal.returns-in-Text-clause-prepares
 returns-in-Text-clause-prepares g c =

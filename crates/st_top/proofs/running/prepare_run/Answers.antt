@@ -1,6 +1,5 @@
-use Rattle.std.proofs.Common.{ap, rules, subst}
+use Rattle.std.proofs.Common.{rules, subst}
 use Rattle.st_command.specs.Command.{RunWords}
-use Rattle.st_command.specs.declared.given.Print.{Print}
 use Rattle.st_top.specs.RunEnds.{PreparesRun, ThreadsShow}
 use Rattle.st_top.specs.Outcome.{status_of}
 use Rattle.st_top.proofs.ThreadedRuns.{passed_on, refused_run, threads_ready}
@@ -16,7 +15,7 @@ pub returns-clause-prepares : goal.returns-clause-prepares
 returns-clause-prepares g c =
     threads_ready (g.F.Files.contents c.args.files.now) c.args.threaded.now (g.F.Files.faults c.args.files.now) (g.F.Files.faults c.read_run.new.files) (g.F.Files.asked c.args.files.now) (g.F.Files.asked c.read_run.new.files)
     c.in_ok-input.input c.in_ok-input.ensures.ends.0 c.in_ok-input.ensures.ends.1 c.text_of_threads.result
-    (subst (λ (print : Print). ThreadsShow print c.in_ok-input.input c.text_of_threads.result) (ap (λ (threaded : RunWords). threaded.print) c.threaded.view_is) c.text_of_threads.ensures)
+    (subst (λ (threaded : RunWords). ThreadsShow threaded.print c.in_ok-input.input threaded.emulation c.text_of_threads.result) c.threaded.view_is c.text_of_threads.ensures)
 
 pub returns-in_err-input-clause-prepares : goal.returns-in_err-input-clause-prepares
 returns-in_err-input-clause-prepares g c =

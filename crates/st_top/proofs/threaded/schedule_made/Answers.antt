@@ -5,7 +5,7 @@ use Rattle.st_top.proofs.ThreadedRuns.{threads_show}
 use Rattle.st_top.proofs.threaded.schedule_made.Goals as goal
 
 pub returns : goal.returns
-returns c =
+returns c emulation =
     let made = c.args.kernel.now in
-    threads_show print.Schedule made.input made c.in_ok-repeats_text.field-0 c.in_ok-schedule.schedule (c.choices_of.ensures.whole c.requires.settled) refl c.in_ok-schedule.ensures.made
+    threads_show print.Schedule emulation made.input made c.in_ok-repeats_text.field-0 c.in_ok-schedule.schedule (c.choices_of.ensures.whole c.requires.settled) refl c.in_ok-schedule.ensures.made
     (c.in_ok-repeats_text.ensures ∙ ap repeats_text c.schedule.ensures.choices)
