@@ -4,6 +4,7 @@ ghost use Rattle.st_command.specs.Reading.{IsWithinLimits};
 use crate::message::message;
 use st_base::Text;
 use st_command::{Command, StepWords, read_run_words, read_words};
+use st_emulation::Emulation;
 use st_grammar::PolicyRefusal;
 use st_law::Options;
 use st_outside::Files;
@@ -11,7 +12,7 @@ use st_policy_diagnostics::policy_fault::policy_message;
 use st_schedule_diagnostics::names::file_in;
 use st_schedule_diagnostics::schedule_fault::schedule_message;
 use st_schedule_diagnostics::sources::{env_of, text_of};
-use st_script_diagnostics::script_fault::script_message;
+use st_script_diagnostics::script_fault::{ReadWith, script_message};
 use st_script_faults::ScriptFault;
 use st_top::{Status, Which};
 use st_trace_diagnostics::trace_message;
@@ -36,12 +37,12 @@ fn policy_line<F: Files>(
     Ok(None)
 }
 
-// The options that the script is read with.
-fn options_of(command: &Command<'_>) -> Options {
+// The options and the emulation that the script is read with.
+fn read_with(command: &Command<'_>) -> (Options, Emulation) {
     match command {
-        Command::Step(step) => step.options,
-        Command::Replay(replay) => replay.options,
-        Command::Check(check) => check.options(),
+        Command::Step(step) => (step.options, step.emulation),
+        Command::Replay(replay) => (replay.options, replay.emulation),
+        Command::Check(check) => (check.options(), check.emulation),
     }
 }
 
@@ -55,8 +56,12 @@ fn script_line<F: Files>(
     if let Some(name) = file_in(command, Which::Script)
         && let Some(text) = text_of(alloc, files, name)?
     {
-        let options = options_of(command);
-        let line = script_message(alloc, name.bytes(), text.bytes(), &options, fault)?;
+        let (options, emulation) = read_with(command);
+        let with = ReadWith {
+            options: &options,
+            emulation,
+        };
+        let line = script_message(alloc, name.bytes(), text.bytes(), with, fault)?;
         return Ok(Some(line));
     }
     Ok(None)
@@ -92,6 +97,7 @@ fn command_of(alloc: Global, words: &[Text]) -> Result<Option<Command<'_>>, Allo
             schedule: run.script,
             options: run.options,
             print: run.print,
+            emulation: run.emulation,
         }))),
         None => read_words(alloc, words),
     }

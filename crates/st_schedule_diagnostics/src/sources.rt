@@ -5,6 +5,7 @@ ghost use Rattle.st_outside.specs.declared.files.TheConstants.{FILE_LIMIT};
 
 use st_base::Text;
 use st_command::Command;
+use st_emulation::Emulation;
 use st_grammar::Env;
 use st_law::Options;
 use st_outside::{FetchFault, Files};
@@ -33,11 +34,12 @@ fn env_of_script<F: Files>(
     files: &mut F,
     name: &Text,
     options: &Options,
+    emulation: Emulation,
 ) -> Result<Option<Env>, AllocError> {
     let Some(text) = text_of(alloc, files, name)? else {
         return Ok(None);
     };
-    match read_script(alloc, text.bytes(), options) {
+    match read_script(alloc, text.bytes(), options, emulation) {
         Ok(script) => Ok(Some(script.env)),
         Err(_) => Ok(None),
     }
@@ -50,11 +52,19 @@ pub fn env_of<F: Files>(
     command: &Command<'_>,
 ) -> Result<Option<Env>, AllocError> {
     match command {
-        Command::Step(step) => env_of_script(alloc, files, step.script, &step.options),
-        Command::Replay(replay) => env_of_script(alloc, files, replay.script, &replay.options),
+        Command::Step(step) => {
+            env_of_script(alloc, files, step.script, &step.options, step.emulation)
+        }
+        Command::Replay(replay) => env_of_script(
+            alloc,
+            files,
+            replay.script,
+            &replay.options,
+            replay.emulation,
+        ),
         Command::Check(check) => match check.script {
-            Some(name) => env_of_script(alloc, files, name, &check.options()),
-            None => Ok(Some(bare_env(alloc, check.ids.is_some())?)),
+            Some(name) => env_of_script(alloc, files, name, &check.options(), check.emulation),
+            None => Ok(Some(bare_env(alloc, check.ids.is_some(), check.emulation)?)),
         },
     }
 }

@@ -13,4 +13,4 @@ mod replaced;
 pub mod script_fault;
 mod slot;
 
-pub use script_fault::script_message;
+pub use script_fault::{ReadWith, script_message};

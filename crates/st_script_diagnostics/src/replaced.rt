@@ -42,9 +42,14 @@ fn append_replaced(line: &mut Text, quoted: &[u8], binary: &[u8]) -> Result<(), 
 }
 
 // The name of a filter.
-fn begin<'a>(reader: &mut Reader<'a>, text: &'a [u8], first: &Token) -> Result<(), PolicyFault> {
+fn begin<'a>(
+    reader: &mut Reader<'a>,
+    env: &Env,
+    text: &'a [u8],
+    first: &Token,
+) -> Result<(), PolicyFault> {
     if first.kind.is_word() {
-        reader.begin_filter(first.at, first.text(text))
+        reader.begin_filter(env, first.at, first.text(text))
     } else {
         Err(PolicyFault::Expected(first.at))
     }
@@ -113,7 +118,7 @@ fn read<'a>(
         return Err(PolicyRefusal { fault, place });
     };
     let mut reader = Reader::new(alloc, 0);
-    match begin(&mut reader, row.text, first) {
+    match begin(&mut reader, filter.env, row.text, first) {
         Ok(()) => read_rest(&mut reader, alloc, filter, row, rest),
         Err(fault) => Err(PolicyRefusal { fault, place }),
     }

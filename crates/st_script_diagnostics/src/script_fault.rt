@@ -7,6 +7,7 @@ use crate::naming::{duplicate_name, unknown_name};
 use crate::refused_row::{Misfit, RefusedRow};
 use crate::replaced::{policy_filter_message, reply_message, wrong_policy_binary};
 use st_base::Text;
+use st_emulation::Emulation;
 use st_grammar::Env;
 use st_law::Options;
 use st_lex::{LexFault, tokens};
@@ -109,16 +110,23 @@ fn is_replaced(says: Option<&Statement>) -> bool {
     )
 }
 
+/// What a script is read with: options, and the emulation that its filters are for.
+#[derive(Clone, Copy)]
+pub struct ReadWith<'a> {
+    pub options: &'a Options,
+    pub emulation: Emulation,
+}
+
 // The message about a row, where the token at fault is found.
 fn message_of(
     alloc: Global,
     name: &[u8],
     row: &RefusedRow<'_>,
-    options: &Options,
+    with: ReadWith<'_>,
     fault: ScriptFault,
 ) -> Result<Option<Text>, AllocError> {
     if is_replaced(row.says) {
-        let env = environment_of(alloc, options, row.lines)?;
+        let env = environment_of(alloc, with.options, row.lines, with.emulation)?;
         let message = replaced_message(alloc, name, row, &env, fault)?;
         if message.is_some() {
             return Ok(message);
@@ -143,7 +151,7 @@ fn message_at_row(
     alloc: Global,
     name: &[u8],
     text: &[u8],
-    options: &Options,
+    with: ReadWith<'_>,
     fault: ScriptFault,
 ) -> Result<Text, AllocError>
     requires { length text.now ≤ FILE_LIMIT }
@@ -153,7 +161,7 @@ fn message_at_row(
     let looked = looked_at(&lexed);
     let lines = lines_of_tokens(alloc, text, looked)?;
     let row = RefusedRow::of(text, looked, lines.as_slice(), number);
-    match message_of(alloc, name, &row, options, fault)? {
+    match message_of(alloc, name, &row, with, fault)? {
         Some(message) => Ok(message),
         None => {
             let row = row_numbered(text, number);
@@ -168,13 +176,13 @@ fn message_at_row(
     }
 }
 
-/// The message why a script is refused that was read with these options: a line, the script's line at fault, and one with a `^` under the
+/// The message why a script is refused that was read with this: a line, the script's line at fault, and one with a `^` under the
 /// fault, without the last newline.
 pub fn script_message(
     alloc: Global,
     name: &[u8],
     text: &[u8],
-    options: &Options,
+    with: ReadWith<'_>,
     fault: ScriptFault,
 ) -> Result<Text, AllocError>
     requires { length text.now ≤ FILE_LIMIT }
@@ -182,6 +190,6 @@ pub fn script_message(
     match fault {
         ScriptFault::Lex(fault) => lexical_message(alloc, name, text, fault),
         ScriptFault::NoMemory => Text::of(alloc, OUT_OF_MEMORY.as_bytes()),
-        _ => message_at_row(alloc, name, text, options, fault),
+        _ => message_at_row(alloc, name, text, with, fault),
     }
 }
