@@ -25,6 +25,12 @@ impl Case {
         names.into_iter().find(|name| self.words.first().is_some_and(|word| word == name)).unwrap_or("others")
     }
 
+    /// Whether the command has native emulation and may have that of Linux.
+    pub fn may_be_linux(&self) -> bool {
+        matches!(self.command(), "step" | "run" | "replay" | "check")
+            && !self.words.iter().any(|word| word == "--linux")
+    }
+
     /// Whether both programs serve the words: the unverified one has no help and no version.
     pub fn is_served(&self) -> bool {
         self.words != ["--help"] && self.words != ["--version"]

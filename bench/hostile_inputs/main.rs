@@ -143,6 +143,9 @@ fn input(corpus: &Corpus, seed: u64, number: u64) -> Case {
         if case.command() == "step" && random.one_in(16) {
             words::run_instead(&mut case);
         }
+        if case.may_be_linux() && random.one_in(5) {
+            words::linux_instead(&mut case);
+        }
         if random.one_in(8) {
             words::change(&mut random, &mut case);
         }

@@ -7,7 +7,7 @@ use std::ops::Range;
 const TOKENS: &str = concat!(
     "Policy Emulation native linux permit deny ask then and or not true as log if user group root wheel www ",
     "match eq neq sub nsub inpath re filename string sockaddr argv uid pid native-fsread native-open native-mmap ",
-    "native- linux-read /bin/a enoent EPERM eacces thread process traced untraced in end call store put fork dir ",
+    "native- linux- linux-fsread linux-open /bin/a enoent EPERM eacces thread process traced untraced in end call store put fork dir ",
     "file link reply policy reload open rename execve exit kill setuid symlink socket bind connect worker operator rest ",
     r#": , ( ) [ ] = != ! < > " "/" "" "/etc/*" "$HOME/$USER$CWD" "\x41\\\"" "\x00" "\x4" "*a*a*a*a*" "#,
     r#""[!a-c\\]]?" "/a/../b" ".." # \ ;"#
@@ -16,7 +16,7 @@ const NUMBERS: &str = concat!(
     "0 1 2 3 7 8 9 16 63 64 65 255 256 777 778 0777 00777 1777 1023 1024 1025 4095 4096 4097 8191 8192 ",
     "65528 65535 65536 65537 1000000 1000001 4294967295 4294967296 4294967297 9223372036854775807 ",
     "9223372036854775808 18446744073709551615 18446744073709551616 99999999999999999999999 0x 0x0 0X1 0xg ",
-    "0xffffffffffffffff 0x10000000000000000 00 007 -1 +1 1.5 1e3"
+    "0xffffffffffffffff 0x10000000000000000 0x41 0xc1 0x241 0x441 00 007 -1 +1 1.5 1e3"
 );
 const BLANKS: &[&str] = &["\n", " ", "\t", "\r", "\0", "\u{e9}"];
 

@@ -16,6 +16,8 @@ TWO_NAMES = ("link", "rename", "symlink")
 SET_IDS = ("setuid", "seteuid", "setgid", "setegid")
 OTHERS = ("bind", "close", "connect", "dup", "getuid", "kill", "lseek", "read", "socket", "write")
 ALIASES = ("fsread", "fswrite")
+# The flags of an open, by the emulation: each access alone, two with O_CREAT, one with O_TRUNC, and one with O_CREAT and O_EXCL.
+FLAGS = {"native": (0, 1, 2, 0x201, 0x202, 0x402, 0xA01), "linux": (0, 1, 2, 0x41, 0x42, 0x202, 0xC1)}
 # What a policy most often permits without a question, and with a look at the arguments.
 PERMITTED = ("close", "fork", "seteuid", "setuid", "socket")
 HELD = (*ALIASES, *TWO_NAMES, "chdir", "chmod", "execve", "truncate")
@@ -34,6 +36,7 @@ class Maker:
         pick = self.random.choice
         self.mode = pick(("", "-a", "-t", "-t", "-A", "-A"))
         self.grants = self.random.random() < 0.3
+        self.emulation = pick(("native", "native", "native", "linux"))
         # Long bodies, so that a thread of the host still runs when the next one has begun; short ones, so that threads end.
         self.longest = pick((4, 12, 60, 250))
         # Many calls that set ids, so that calls of other threads get new numbers.
@@ -45,6 +48,7 @@ class Maker:
         options = ["-w", str(self.random.randint(1, 8))]
         options += [self.mode] if self.mode else []
         options += ["-c", "67:67"] if self.grants else []
+        options += ["--linux"] if self.emulation == "linux" else []
         options += [word for word in ("-i", "-u") if self.random.random() < 0.2]
         return Case(self.script(), self.policy(), options)
 
@@ -76,7 +80,7 @@ class Maker:
 
     def swapper(self):
         """Makes a process that none watches, which puts a link in the place of a file and a file in the place of the link."""
-        swap = ["call unlink 0", "call symlink 64 0", "call unlink 0", "call open 0 0x201 420", "call close 3"]
+        swap = ["call unlink 0", "call symlink 64 0", "call unlink 0", f"call open 0 {FLAGS[self.emulation][3]} 420", "call close 3"]
         names = [f'put 0 "{self.random.choice(FILES[:3])}"', 'put 64 "/bin/p0"']
         return ['process x untraced "/bin/p0" 0 0 "/"', "thread x in x", *names, *swap * self.random.randint(1, 12), "end"]
 
@@ -135,7 +139,7 @@ class Maker:
         pick = self.random.choice
         match call:
             case "open":
-                return pick((0, 1, 2, 0x201, 0x202, 0x402, 0xA01)), 0o644
+                return pick(FLAGS[self.emulation]), 0o644
             case "stat" | "lstat":
                 return (BUFFER,)
             case "readlink":
@@ -168,19 +172,19 @@ class Maker:
         for binary in BINARIES:
             if self.random.random() < 0.1:
                 continue
-            rows += [f"Policy: {binary}, Emulation: native", *self.filters()]
+            rows += [f"Policy: {binary}, Emulation: {self.emulation}", *self.filters()]
         return "".join(row + "\n" for row in rows)
 
     def filters(self):
         """Makes the filters of a policy."""
-        rows = []
+        rows, prefix = [], f"{self.emulation}-"
         covered = 0.3 if self.mode in ("-t", "-A") else 0.8
         if self.random.random() < 0.3:
             # Judging takes some time, in which a call may be withdrawn.
-            rows += [f'native-{rule}: filename sub "x{i}" then deny' for i in range(300) for rule in ALIASES]
-        rows += [f"native-{rule}: permit" for rule in PERMITTED if self.random.random() < 0.7]
+            rows += [f'{prefix}{rule}: filename sub "x{i}" then deny' for i in range(300) for rule in ALIASES]
+        rows += [f"{prefix}{rule}: permit" for rule in PERMITTED if self.random.random() < 0.7]
         rows += [self.filter(self.rule(), may_ask=self.mode != "-A") for _ in range(self.random.randint(0, 30))]
-        rows += [f'native-{rule}: filename match "/*" then permit' for rule in HELD if self.random.random() < covered]
+        rows += [f'{prefix}{rule}: filename match "/*" then permit' for rule in HELD if self.random.random() < covered]
         return rows
 
     def rule(self):
@@ -195,7 +199,7 @@ class Maker:
             tail = pick((" as root", " as www:wheel", " as :0"))
         tail += pick(("", "", " log"))
         tail += pick(("", "", "", ", if user = root", ", if group != 0"))
-        return f"native-{rule}: {test}{action}{tail}"
+        return f"{self.emulation}-{rule}: {test}{action}{tail}"
 
     def test(self, rule):
         pick, kind = self.random.choice, self.random.random()

@@ -79,6 +79,7 @@ INPUTS = {
     "a policy is learnt": (["-A", "--print", "policy"], "held.script"),
     "the policy that was learnt": (["-a", "-f", "held.policy"], "held.script"),
     "a reload": (["-f", "held.policy", "--print", "policy"], "reload.script"),
+    "a held call under Linux emulation": (["--linux", "-f", "linux.policy"], "held.script"),
     "a web server": (["-c", "67:67", "-w", "2", "-f", "httpd.policy"], "httpd.script"),
 }
 
@@ -185,6 +186,7 @@ class Refuser:
 
 def files(examples):
     yield from (("held.script", HELD), ("held.policy", HELD_POLICY), ("child.script", CHILD), ("child.policy", CHILD_POLICY))
+    yield "linux.policy", HELD_POLICY.replace("native", "linux")
     yield "reload.script", RELOAD
     yield "rest.schedule", "rest\n"
     for name in ("httpd.script", "httpd.policy"):

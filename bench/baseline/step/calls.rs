@@ -40,6 +40,35 @@ named!(Errno {
     Loop = "ELOOP", NameTooLong = "ENAMETOOLONG", NotEmpty = "ENOTEMPTY", NoSys = "ENOSYS",
 });
 
+impl Errno {
+    /// The error's number in Linux.
+    pub fn linux_number(self) -> u32 {
+        match self {
+            Errno::Perm => 1,
+            Errno::NoEnt => 2,
+            Errno::Srch => 3,
+            Errno::TooBig => 7,
+            Errno::NoExec => 8,
+            Errno::BadF => 9,
+            Errno::Again => 11,
+            Errno::Acces => 13,
+            Errno::Fault => 14,
+            Errno::Exist => 17,
+            Errno::NotDir => 20,
+            Errno::IsDir => 21,
+            Errno::Inval => 22,
+            Errno::MFile => 24,
+            Errno::NoSpc => 28,
+            Errno::NameTooLong => 36,
+            Errno::NoSys => 38,
+            Errno::NotEmpty => 39,
+            Errno::Loop => 40,
+            Errno::AddrInUse => 98,
+            Errno::ConnRefused => 111,
+        }
+    }
+}
+
 #[derive(Clone, Copy, PartialEq, Eq, Hash, Debug)]
 pub enum Rule {
     FsRead,
@@ -90,6 +119,20 @@ pub const O_APPEND: u64 = 8;
 pub const O_CREAT: u64 = 0x200;
 pub const O_TRUNC: u64 = 0x400;
 pub const O_EXCL: u64 = 0x800;
+
+/// The flags of `open` in Linux, each with the native one.
+const LINUX_FLAGS: [(u64, u64); 4] = [(0x40, O_CREAT), (0x80, O_EXCL), (0x200, O_TRUNC), (0x400, O_APPEND)];
+
+/// The native flags for flags of Linux: the access is the same, and bits that are no flag are dropped.
+pub fn native_flags(flags: u64) -> u64 {
+    let set = LINUX_FLAGS.iter().filter(|(linux, _)| flags & linux != 0);
+    set.fold(flags & 3, |all, (_, native)| all | native)
+}
+
+/// The emulation's word.
+pub fn emulation(linux: bool) -> &'static str {
+    if linux { "linux" } else { "native" }
+}
 
 #[derive(Clone, Copy, PartialEq, Eq)]
 pub enum ArgKind {

@@ -16,6 +16,8 @@ pub struct Options {
     pub aliasing: bool,
     pub ids: Option<(u32, u32)>,
     pub workers: usize,
+    /// Whether the programs are those of Linux.
+    pub linux: bool,
 }
 
 struct Thread {

@@ -97,10 +97,20 @@ fn text_of(words: &[String]) -> Result<String, Status> {
 
 /// The canonical text of the policies of one file. The script, where there is one, is read first.
 fn check(words: &[String]) -> Result<String, Status> {
-    let (ids, operands) = match words {
-        [option, ids, rest @ ..] if option == "-c" => (Some(both_ids(ids).ok_or(Status::Usage)?), rest),
-        _ => (None, words),
-    };
+    let (mut ids, mut linux, mut operands) = (None, false, words);
+    loop {
+        operands = match operands {
+            [option, given, rest @ ..] if option == "-c" && ids.is_none() => {
+                ids = Some(both_ids(given).ok_or(Status::Usage)?);
+                rest
+            }
+            [option, rest @ ..] if option == "--linux" && !linux => {
+                linux = true;
+                rest
+            }
+            _ => break,
+        };
+    }
     let (file, script) = match operands {
         [file] => (file, None),
         [file, script] => (file, Some(script)),
@@ -109,12 +119,12 @@ fn check(words: &[String]) -> Result<String, Status> {
     if operands.iter().any(|word| word.starts_with('-')) {
         return Err(Status::Usage);
     }
-    let options = Options { mode: Mode::Enforce, inherit: false, aliasing: true, ids, workers: 1 };
+    let options = Options { mode: Mode::Enforce, inherit: false, aliasing: true, ids, workers: 1, linux };
     let env = match script {
         Some(name) => script::read_script(&fetch(name)?, &options).map_err(|_| Status::Script)?.env,
-        None => Env { elevate: ids.is_some(), ..Env::default() },
+        None => Env { elevate: ids.is_some(), linux, ..Env::default() },
     };
-    let mut printer = Printer::new(PrintKind::Policy);
+    let mut printer = Printer::new(PrintKind::Policy, linux);
     Policies::default().read(&fetch(file)?, &env, &mut printer).map_err(|_| Status::Policy)?;
     Ok(printer.finish())
 }
@@ -123,9 +133,9 @@ fn check(words: &[String]) -> Result<String, Status> {
 fn generate(words: &[String]) -> Result<String, Status> {
     let [number] = words else { return Err(Status::Usage) };
     let number = decimal(number).filter(|n| (1..=512).contains(n)).ok_or(Status::Usage)?;
-    let options = Options { mode: Mode::Enforce, inherit: false, aliasing: true, ids: None, workers: 1 };
+    let options = Options { mode: Mode::Enforce, inherit: false, aliasing: true, ids: None, workers: 1, linux: false };
     let script = script::read_script(generator::script(number).as_bytes(), &options).map_err(|_| Status::Script)?;
-    let mut printer = Printer::new(PrintKind::Summary);
+    let mut printer = Printer::new(PrintKind::Summary, false);
     let mut policies = Policies::default();
     policies.read(generator::POLICY.as_bytes(), &script.env, &mut printer).map_err(|_| Status::Policy)?;
     let mut kernel = Kernel::start(script, policies, &options, printer);
@@ -136,7 +146,7 @@ fn generate(words: &[String]) -> Result<String, Status> {
 /// The machine before its first step, by the files of a command.
 fn machine(command: &Command, kind: PrintKind) -> Result<Kernel, Status> {
     let script = script::read_script(&fetch(&command.script)?, &command.options).map_err(|_| Status::Script)?;
-    let mut printer = Printer::new(kind);
+    let mut printer = Printer::new(kind, command.options.linux);
     let mut policies = Policies::default();
     for name in &command.policies {
         policies.read(&fetch(name)?, &script.env, &mut printer).map_err(|_| Status::Policy)?;
@@ -206,7 +216,7 @@ fn fetch(name: &str) -> Result<Vec<u8>, Status> {
 fn parse(words: &[String], has_last: bool) -> Option<Command> {
     let mut words = words.iter().map(String::as_str);
     let mut policies = Vec::new();
-    let (mut inherit, mut whole_names) = (false, false);
+    let (mut inherit, mut whole_names, mut linux) = (false, false, false);
     let (mut mode, mut ids, mut workers, mut kind) = (None, None, None, None);
     let script = loop {
         let word = words.next()?;
@@ -220,6 +230,7 @@ fn parse(words: &[String], has_last: bool) -> Option<Command> {
             "-t" => mode.replace(Mode::Ask).is_some(),
             "-i" => std::mem::replace(&mut inherit, true),
             "-u" => std::mem::replace(&mut whole_names, true),
+            "--linux" => std::mem::replace(&mut linux, true),
             "-c" => ids.replace(both_ids(words.next()?)?).is_some(),
             "-w" => workers.replace(decimal(words.next()?).filter(|n| (1..=8).contains(n))?).is_some(),
             "--print" => {
@@ -243,7 +254,8 @@ fn parse(words: &[String], has_last: bool) -> Option<Command> {
         return None;
     }
     let mode = mode.unwrap_or(Mode::Enforce);
-    let options = Options { mode, inherit, aliasing: !whole_names, ids, workers: workers.unwrap_or(1) as usize };
+    let workers = workers.unwrap_or(1) as usize;
+    let options = Options { mode, inherit, aliasing: !whole_names, ids, workers, linux };
     Some(Command { policies, options, kind, script: script.to_string(), last: last.map(String::from) })
 }
 

@@ -1,5 +1,5 @@
 //! Policies: their text, and what their filters decide.
-use crate::calls::{Arg, ArgSpec, Call, Errno, Ids, Rule};
+use crate::calls::{self, Arg, ArgSpec, Call, Errno, Ids, Rule};
 use crate::glob::Pattern;
 use crate::print::Printer;
 use crate::tokens::{self, Dollars, Kind, Quoted, Token};
@@ -24,6 +24,7 @@ pub struct Env {
     pub dollars: Dollars,
     pub elevate: bool,
     pub may_ask: bool,
+    pub linux: bool,
 }
 
 impl Default for Env {
@@ -35,6 +36,7 @@ impl Default for Env {
             dollars: Dollars::default(),
             elevate: false,
             may_ask: true,
+            linux: false,
         }
     }
 }
@@ -291,7 +293,7 @@ pub fn read_script_policy(binary: Vec<u8>, lines: &[&[Token]], env: &Env) -> Par
     for line in lines {
         let (name, rule, filter) = read_filter(line, env)?;
         // Writing to a String does not fail.
-        let _ = writeln!(policy.text, "native-{name}: {filter}");
+        let _ = writeln!(policy.text, "{}-{name}: {filter}", calls::emulation(env.linux));
         if let Some(rule) = rule {
             policy.rules.entry(rule).or_default().push(filter);
         }
@@ -468,7 +470,7 @@ impl<'a> Parser<'a> {
         self.take(Kind::Comma)?;
         self.take_word("Emulation")?;
         self.take(Kind::Colon)?;
-        self.take_word("native")?;
+        self.take_word(calls::emulation(self.env.linux))?;
         self.eol()?;
         Ok(binary)
     }
@@ -476,7 +478,8 @@ impl<'a> Parser<'a> {
     /// One filter, after the name that it is for, and its rule where the model has it.
     fn filter(&mut self) -> Parsed<(&'a str, Option<Rule>, Filter)> {
         let word = std::str::from_utf8(self.take(Kind::Word)?).map_err(|_| PolicyError)?;
-        let name = word.strip_prefix("native-").ok_or(PolicyError)?;
+        let name = word.strip_prefix(calls::emulation(self.env.linux)).and_then(|word| word.strip_prefix('-'));
+        let name = name.ok_or(PolicyError)?;
         if name.is_empty() || !name.bytes().all(|b| b.is_ascii_alphanumeric() || b == b'_') {
             return Err(PolicyError);
         }

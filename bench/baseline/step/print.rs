@@ -1,5 +1,5 @@
 //! The texts that a run is printed as, written while it goes.
-use crate::calls::{Arg, Call, Errno, Ids, Regs, Rule};
+use crate::calls::{self, Arg, Call, Errno, Ids, Regs, Rule};
 use crate::policy::{Filter, Verdict};
 use crate::system::Change;
 use crate::tokens::{Quoted, is_word};
@@ -140,6 +140,7 @@ struct PolicyText {
 
 pub struct Printer {
     kind: PrintKind,
+    linux: bool,
     text: String,
     counts: Counts,
     /// The last choices, which were the same.
@@ -150,9 +151,10 @@ pub struct Printer {
 }
 
 impl Printer {
-    pub fn new(kind: PrintKind) -> Printer {
+    pub fn new(kind: PrintKind, linux: bool) -> Printer {
         Printer {
             kind,
+            linux,
             text: String::new(),
             counts: Counts::default(),
             run: None,
@@ -181,7 +183,7 @@ impl Printer {
 
     pub fn audit(&mut self, audit: Audit) {
         if self.kind == PrintKind::Audit {
-            self.line(audit);
+            self.line(AuditLine(audit, self.linux));
         }
     }
 
@@ -202,7 +204,7 @@ impl Printer {
     pub fn policy(&mut self, number: usize, binary: &[u8]) {
         if self.kind == PrintKind::Policy && !self.places.contains_key(&number) {
             self.places.insert(number, self.policies.len());
-            let header = format!("Policy: {}, Emulation: native\n", Binary(binary));
+            let header = format!("Policy: {}, Emulation: {}\n", Binary(binary), calls::emulation(self.linux));
             self.policies.push(PolicyText { header, filters: String::new(), session: String::new() });
         }
     }
@@ -213,15 +215,17 @@ impl Printer {
 
     /// The next filter that was read of a policy that is printed.
     pub fn filter(&mut self, policy: usize, name: &str, filter: &Filter) {
+        let emulation = calls::emulation(self.linux);
         if let Some(text) = self.text(policy) {
-            let _ = writeln!(text.filters, "native-{name}: {filter}");
+            let _ = writeln!(text.filters, "{emulation}-{name}: {filter}");
         }
     }
 
     /// A filter is added to a policy that is printed.
     pub fn session_filter(&mut self, policy: usize, name: &str, filter: &Filter) {
+        let emulation = calls::emulation(self.linux);
         if let Some(text) = self.text(policy) {
-            let _ = writeln!(text.session, "native-{name}: {filter}");
+            let _ = writeln!(text.session, "{emulation}-{name}: {filter}");
         }
     }
 
@@ -440,16 +444,21 @@ impl Display for Change {
     }
 }
 
-impl Display for Audit<'_> {
+/// A line of the audit, and whether it is one of Linux.
+struct AuditLine<'a>(Audit<'a>, bool);
+
+impl Display for AuditLine<'_> {
     fn fmt(&self, f: &mut Formatter) -> fmt::Result {
-        write!(f, "{}.{} {} native-{}", self.pid + 1, self.tid + 1, Quoted(self.policy), self.rule.name())?;
-        for arg in self.args {
+        let AuditLine(audit, linux) = self;
+        let (policy, emulation, rule) = (Quoted(audit.policy), calls::emulation(*linux), audit.rule.name());
+        write!(f, "{}.{} {policy} {emulation}-{rule}", audit.pid + 1, audit.tid + 1)?;
+        for arg in audit.args {
             match arg.index {
                 0 => write!(f, " {}={}", arg.label, Quoted(&arg.text))?,
                 index => write!(f, " {}[{index}]={}", arg.label, Quoted(&arg.text))?,
             }
         }
-        match &self.how {
+        match &audit.how {
             How::Fast => f.write_str(" fast")?,
             How::Barred => f.write_str(" barred#1")?,
             How::Permit { number, granted } => {
@@ -463,6 +472,10 @@ impl Display for Audit<'_> {
             How::Denied(Cause::Fault) => f.write_str(" fault")?,
             How::Denied(Cause::Link(name)) => write!(f, " link {}", Quoted(name))?,
         }
-        write!(f, " = {}{}", Outcome(self.result), if self.log { " log" } else { "" })
+        match audit.result {
+            Err(errno) if *linux => write!(f, " = -{}", errno.linux_number())?,
+            result => write!(f, " = {}", Outcome(result))?,
+        }
+        f.write_str(if audit.log { " log" } else { "" })
     }
 }

@@ -1,5 +1,5 @@
 //! Scripts and schedules.
-use crate::calls::{Call, Regs};
+use crate::calls::{self, Call, Regs};
 use crate::kernel::Options;
 use crate::operator::Mode;
 use crate::policy::{self, Env, Reply, ScriptPolicy};
@@ -78,6 +78,7 @@ struct Reader<'a> {
     filters: usize,
     has_reload: bool,
     inside: Inside,
+    linux: bool,
 }
 
 /// Where a line is.
@@ -107,6 +108,7 @@ pub fn read_script(text: &[u8], options: &Options) -> Parsed<Script> {
         filters: 0,
         has_reload: false,
         inside: Inside::Nothing,
+        linux: options.linux,
     };
     for line in tokens.split(|token| token.kind == Kind::Line).filter(|line| !line.is_empty()) {
         match reader.inside {
@@ -296,6 +298,9 @@ impl<'a> Reader<'a> {
                 for (reg, token) in regs.iter_mut().zip(numbers) {
                     *reg = number(token)?;
                 }
+                if self.linux && call == Call::Open {
+                    regs[1] = calls::native_flags(regs[1]);
+                }
                 self.push(Instr::Call(call, regs))
             }
             b"fork" => {
@@ -359,7 +364,8 @@ impl<'a> Reader<'a> {
         if self.has_reload && options.mode == Mode::Learn {
             return Err(ScriptError);
         }
-        let env = Env { users: self.user_names, groups: self.groups, dollars, elevate, may_ask };
+        let linux = options.linux;
+        let env = Env { users: self.user_names, groups: self.groups, dollars, elevate, may_ask, linux };
         let mut replies = Vec::new();
         for row in self.replies {
             let binary = normal_name(unquote(row[0].text, Some(&env.dollars)))?;
