@@ -1,4 +1,4 @@
-ghost use Rattle.std.specs.Prelude.{◌≡◌, ◌≢◌, ◌↔◌, ◌⊎◌, ℕ, List, [], ◌∷◌, length, Some, slice_get};
+ghost use Rattle.std.specs.Prelude.{◌≡◌, ◌≢◌, ◌↔◌, ◌⊎◌, ℕ, List, [], ◌∷◌, length, map, Some, slice_get};
 ghost use Rattle.std.specs.List.{All, Contains};
 ghost use Rattle.std.specs.Int.{bit_at};
 ghost use Rattle.st_base.specs.Errno.{number_of_error};
@@ -27,10 +27,12 @@ pub fn flags_are_kept_one_to_one()
     ensures no_more { (flags k : ℕ) → k ≢ 0 → k ≢ 1 → k ≢ 3 → k ≢ 9 → k ≢ 10 → k ≢ 11 → bit_at (native_flags flags) k ≡ 0 }
 {}
 
-/// Seven errors have another number in Linux, and no others. Different errors have different numbers there.
+/// Seven errors have another number in Linux, and no others: EAGAIN 11, EADDRINUSE 98, ECONNREFUSED 111, ELOOP 40, ENAMETOOLONG 36, ENOTEMPTY
+/// 39 and ENOSYS 38. Different errors have different numbers there.
 pub fn seven_numbers_differ()
     ensures seven { All (λ errno. linux_number errno ≢ number_of_error errno) (EAGAIN ∷ EADDRINUSE ∷ ECONNREFUSED ∷ ELOOP ∷ ENAMETOOLONG ∷ ENOTEMPTY ∷ ENOSYS ∷ []) }
     ensures others { (errno : Errno) → (linux_number errno ≡ number_of_error errno) ⊎ Contains (EAGAIN ∷ EADDRINUSE ∷ ECONNREFUSED ∷ ELOOP ∷ ENAMETOOLONG ∷ ENOTEMPTY ∷ ENOSYS ∷ []) errno }
+    ensures numbers { map linux_number (EAGAIN ∷ EADDRINUSE ∷ ECONNREFUSED ∷ ELOOP ∷ ENAMETOOLONG ∷ ENOTEMPTY ∷ ENOSYS ∷ []) ≡ 11 ∷ 98 ∷ 111 ∷ 40 ∷ 36 ∷ 39 ∷ 38 ∷ [] }
     ensures apart { (a b : Errno) → linux_number a ≡ linux_number b → a ≡ b }
 {}
 

@@ -1,3 +1,4 @@
+use Rattle.std.proofs.Common.{refl}
 use Rattle.st_linux.proofs.ErrorNumbers.{seven_differ, others_agree, numbers_apart}
 use Rattle.st_linux.proofs.law.seven_numbers_differ.Goals as goal
 
@@ -9,3 +10,6 @@ returns-clause-others c = others_agree
 
 pub returns-clause-apart : goal.returns-clause-apart
 returns-clause-apart c = numbers_apart
+
+pub returns-clause-numbers : goal.returns-clause-numbers
+returns-clause-numbers c = refl
