@@ -22,6 +22,7 @@ pub mod Lessening
 pub mod LesseningAnswers
 pub mod LesseningWork
 pub mod LinkRuns
+pub mod LoadedNames
 pub mod LongRuns
 pub mod LinksMet
 pub mod Living
@@ -33,6 +34,7 @@ pub mod NumberRuns
 pub mod Numbering
 pub mod OneStepTaken
 pub mod OperatorRecorded
+pub mod OwnWords
 pub mod Playing
 pub mod Potential
 pub mod Preserved

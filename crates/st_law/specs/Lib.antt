@@ -6,6 +6,7 @@ pub mod Inputs
 pub mod Lawful
 pub mod Laws
 pub mod Links
+pub mod Loaded
 pub mod Machine
 pub mod Meaning
 pub mod Messages

@@ -24,10 +24,12 @@ use Rattle.st_names.specs.declared.seen.SeenText.{SeenText}
 use Rattle.st_effects.specs.Progress.{ArgRequest, Progress, Ready, progress}
 use Rattle.st_effects.specs.System.{Request, System}
 use Rattle.st_trace.specs.declared.start.ProcessRow.{ProcessRow}
+use Rattle.st_trace.specs.declared.start.Start.{Start}
 use Rattle.st_trace.specs.declared.start.ThreadRow.{ThreadRow}
 use Rattle.st_trace.specs.declared.start.TreeRow.{TreeRow}
 use Rattle.st_law.specs.declared.input.Input.{Input}
 use Rattle.st_law.specs.declared.input.Mode.TheVariants.{Learn, AskText}
+use Rattle.st_law.specs.Loaded.{process_by_script, IsAloneAt, IsNextStore, IsStoredIn}
 use Rattle.st_law.specs.Messages.{Head}
 use Rattle.st_law.specs.OneStep.{AreTakenInOneStep}
 use Rattle.st_law.specs.Processes.{first_process}
@@ -201,3 +203,19 @@ pub record ConsolesBegin (count : ℕ) (table : Table) : Type 0 where
   pub no_more : (p fd : ℕ) → p < count → 3 ≤ fd → file_number_at table (suc p) fd ≡ None
   pub no_other : (p fd : ℕ) → count ≤ p → file_number_at table (suc p) fd ≡ None
   pub files : table.files ≡ replicate (3 * count) (record { kind = Console; read = true; write = true; append = false; offset = 0 })
+
+-- ---- loads without a lock
+
+-- one of a thread's first stores is of this word at this place, and none after it is there
+pub record IsOwnLast (start : Start) (t made place word : ℕ) : Type 0 where
+  pub count : ℕ
+  pub within : count < made
+  pub store : IsNextStore start t count place word
+  pub none_after : (later other : ℕ) → count < later → later < made → IsNextStore start t later place other → ⊥
+
+-- A loaded word is 0 or one that a thread of the process stores there. Where one of the thread's first stores is there, it is one that a
+-- thread of the process stores there. Where besides no other thread of the process stores there, it is the word of the last of those stores.
+pub record IsLoadExplained (start : Start) (t made place word : ℕ) : Type 0 where
+  pub known : (word ≡ 0) ⊎ IsStoredIn start (process_by_script start t) place word
+  pub stored : (count own : ℕ) → count < made → IsNextStore start t count place own → IsStoredIn start (process_by_script start t) place word
+  pub last : (own : ℕ) → IsOwnLast start t made place own → IsAloneAt start t place → word ≡ own

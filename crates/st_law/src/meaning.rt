@@ -19,13 +19,15 @@ ghost use Rattle.st_trace.specs.declared.entry.Change.{Change};
 ghost use Rattle.st_trace.specs.declared.entry.Entry.TheVariants.{Denied, Entered, Used};
 ghost use Rattle.st_trace.specs.declared.entry.Way.TheVariants.{Barred, Fast};
 ghost use Rattle.st_trace.specs.declared.start.ProcessRow.{ProcessRow};
+ghost use Rattle.st_trace.specs.declared.start.Start.{Start};
 ghost use Rattle.st_trace.specs.declared.start.ThreadRow.{ThreadRow};
 ghost use Rattle.st_law.specs.declared.input.Input.{Input};
 ghost use Rattle.st_law.specs.Bars.{IsDeniedByBar, IsEnteredSince, answer_at};
 ghost use Rattle.st_law.specs.Inputs.{IsStartable};
 ghost use Rattle.st_law.specs.Lawful.{IsLawfulBack};
 ghost use Rattle.st_law.specs.Links.{IsFirstLinkInWay};
-ghost use Rattle.st_law.specs.Meaning.{AreArgumentsOf, AreCopies, AreKeptFor, ConsolesBegin, IsAsking, IsWorkerAt, IsFirstFilter, IsSystemOfState, IsMadeWith, IsNextReply, IsPlainDenial, IsPlainPermit, IsWordAt, IsWorker, ProcessBegins, ThreadBegins, TreeBegins};
+ghost use Rattle.st_law.specs.Loaded.{IsLoaded};
+ghost use Rattle.st_law.specs.Meaning.{AreArgumentsOf, AreCopies, AreKeptFor, ConsolesBegin, IsAsking, IsWorkerAt, IsFirstFilter, IsLoadExplained, IsSystemOfState, IsMadeWith, IsNextReply, IsPlainDenial, IsPlainPermit, IsWordAt, IsWorker, ProcessBegins, ThreadBegins, TreeBegins};
 ghost use Rattle.st_law.specs.Messages.{Head};
 ghost use Rattle.st_law.specs.Processes.{first_descriptors, first_tree};
 ghost use Rattle.st_law.specs.Sessions.{session_filters};
@@ -98,4 +100,10 @@ pub fn a_bar_is_final()
 pub fn a_fast_call_is_never_denied()
     ensures permitted { (i : Input) (t : ℕ) (call : SysCall) (regs : List ℕ) (h : History) → IsLawfulBack i (Entered t call regs Fast ∷ h) → answer_at i h t call regs ≡ answer.Permit }
     ensures undenied { (i : Input) (t : ℕ) (call : SysCall) (regs : List ℕ) (later earlier : History) → IsEnteredSince i t call regs Fast later earlier → (seq : Option ℕ) (errno : Errno) (cause : Cause) → IsLawfulBack i (Denied t seq errno cause ∷ (later ++ Entered t call regs Fast ∷ earlier)) → ⊥ }
+{}
+
+/// What a load without a lock can give: 0 or a word that a thread of the process stores there by its body. Where the loading thread has
+/// stored there, it is a word that a thread of the process stores there, and where besides no other thread does, it is its own last store.
+pub fn what_a_load_gives()
+    ensures { (start : Start) (t made place word : ℕ) → IsLoaded start t made place word ↔ IsLoadExplained start t made place word }
 {}
