@@ -1,0 +1,5 @@
+mod LoadedWords
+mod NextThreads
+mod ScriptStores
+mod SeatStates
+mod WordSteps
