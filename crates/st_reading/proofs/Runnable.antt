@@ -4,6 +4,7 @@ use Rattle.std.proofs.Common.{◌≡◌, ◌≤◌, ◌∙◌, ℕ, true, List, 
 use Rattle.st_outside.specs.Files.{CanHold}
 use Rattle.st_outside.specs.declared.files.TheConstants.{FILE_LIMIT}
 use Rattle.st_emulation.specs.declared.emulation.Emulation.{Emulation}
+use Rattle.st_emulation.specs.declared.emulation.Emulation.TheVariants.{Native, Linux}
 use Rattle.st_filter.specs.declared.set.BinaryPolicy.{BinaryPolicy}
 use Rattle.st_printing.specs.Canon.{canon}
 use Rattle.st_grammar.specs.Grammar.{Reads}
@@ -23,6 +24,7 @@ use Rattle.st_schedule.specs.Schedule.{schedule_in}
 use Rattle.st_script.specs.Reading.{script_in}
 use Rattle.st_script.specs.Startable.{input_with, native_start}
 use Rattle.st_script.specs.declared.reading.ReadScript.{ReadScript}
+use Rattle.st_trace.specs.declared.start.Start.{Start}
 use Rattle.st_command.specs.Words.{Word}
 use Rattle.st_command.specs.Command.{StepWords, ReplayWords, CheckWords, check_options}
 use Rattle.st_command.specs.Reading.{IsWithinLimits}
@@ -32,7 +34,7 @@ use Rattle.st_reading.specs.Ends.{AskedTo, as_meaning}
 use Rattle.st_reading.specs.Bare.{bare_env}
 use Rattle.st_reading.specs.Kinds.{OnlyPrints, OnlyReplays, OnlyRuns}
 use Rattle.st_reading.specs.Meaning.{Contents, Fetches, InputWords, Meaning, Means, Stops, Refuses, Runs, Replays, Prints, SaysScript, MeansInput, MeansSchedule, MeansStep, MeansTrace, MeansReplay, MeansCanon, MeansCheck, step_input, replay_input, last_file}
-use Rattle.st_reading.specs.Runnable.{IsRunnable, StartsNatively}
+use Rattle.st_reading.specs.Runnable.{IsRunnable, IsStartFor, StartsNatively}
 use Rattle.st_reading.specs.declared.reading.Reading.{Reading}
 use Rattle.st_reading.specs.declared.reading.Reading.TheVariants as reading_is
 use Rattle.st_reading.specs.declared.refusal.Refusal.{Refusal}
@@ -116,6 +118,10 @@ runnable replies blocks contents step input schedule meant =
 
 -- ---- starts
 
+start_for : (emulation : Emulation) (written : Start) → IsStartFor emulation written (native_start emulation written)
+start_for Native written = refl
+start_for Linux written = refl
+
 -- an input that was read starts natively
 pub starts_natively : (contents : Contents) (words : InputWords) (Read : Input → Type 0) (x : IsInputRead AreClean contents words Read) (input : Input) →
     input ≡ input_with x.policies words.options x.script → StartsNatively contents words input
@@ -123,8 +129,10 @@ starts_natively contents words Read x input is = record {
   script = x.script;
   script_is = record { text = x.script_text; content = x.script_held; within = x.script_within; says = x.script_is };
   start_is =
+      let run : input.start ≡ native_start words.emulation x.script.start =
       ap (λ (i : Input). i.start) is ∙
-      ap (λ (emulation : Emulation). native_start emulation x.script.start) (emulation_is x.script_text words.options words.emulation x.script x.script_is);
+      ap (λ (emulation : Emulation). native_start emulation x.script.start) (emulation_is x.script_text words.options words.emulation x.script x.script_is) in
+      subst (IsStartFor words.emulation x.script.start) (sym run) (start_for words.emulation x.script.start);
 }
 
 pub step_starts : (contents : Contents) (step : StepWords) (input : Input) (schedule : ReadSchedule) → MeansStep contents step (Runs input schedule) → StartsNatively contents (step_input step) input

@@ -31,7 +31,7 @@ use std::alloc::{AllocError, Global};
 /// A script that was read.
 #[derive(Debug, Drop)]
 pub struct ReadScript {
-    /// The start of its run, as it is written.
+    /// The start of its run: as the text says it, until it is made native.
     pub start: Start,
     /// The environment that policies are read with.
     pub env: Env,
