@@ -16,7 +16,7 @@ use st_script_diagnostics::script_fault::{ReadWith, script_message};
 use st_script_faults::ScriptFault;
 use st_top::{Status, Which};
 use st_trace_diagnostics::trace_message;
-use st_usage::wrong_words::usage_message;
+use st_wrong_words::wrong_words::usage_message;
 use std::alloc::{AllocError, Global};
 
 // Why a policy file is refused.

@@ -1,17 +1,9 @@
-//! Runs a kernel by threads. Each body, each worker and the operator is a runner: it takes the one lock, makes one step and lets go.
-//! Calls are judged outside the lock.
+//! Runs a kernel by threads: its runners share one lock, and calls are judged outside it.
 #![tactic(auto)]
 
-mod bodies;
-pub mod gate;
-pub mod monitor;
 pub mod run;
-mod servers;
 pub mod shared;
 
-pub use bodies::run_body;
-pub use gate::{Gate, OpenGate};
-pub use monitor::Monitor;
 pub use run::run_all;
-pub use servers::{run_operator, run_worker, serve};
 pub use shared::Shared;
+pub use st_runners::{Gate, OpenGate};

@@ -6,8 +6,6 @@ ghost use Rattle.st_law.specs.Machine.{IsSettled};
 ghost use Rattle.st_reached.specs.Reached.{most_numbers};
 ghost use Rattle.st_kernel.specs.Kernel.{state_in, trace_of};
 
-use crate::gate::Gate;
-use crate::monitor::Monitor;
 use st_base::Worker;
 use st_calls::{Snapshot, Verdict};
 use st_compile::Compiled;
@@ -18,6 +16,7 @@ use st_law::Input;
 use st_messages::Poster;
 use st_recorded::{RecordedRun, RunName};
 use st_report::Recorder;
+use st_runners::{Gate, Monitor};
 use std::alloc::{AllocError, Global};
 use std::sync::Wait;
 

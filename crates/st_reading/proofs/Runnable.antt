@@ -16,7 +16,7 @@ use Rattle.st_law.specs.declared.input.Options.{Options}
 use Rattle.st_learn.specs.Learnt.{NoneAsks}
 use Rattle.st_reached.specs.Grants.{RepliesUngranted, SetIdsUngranted}
 use Rattle.st_reached.specs.Runnable.{CanRun}
-use Rattle.st_script_faults.specs.Environment.{learns}
+use Rattle.st_script_names.specs.Environment.{learns}
 use Rattle.st_script.proofs.ReadTexts.{emulation_is, read_has}
 use Rattle.st_script.proofs.Startable.{script_can_start}
 use Rattle.st_script.proofs.Ungranted.{read_ungranted}

@@ -9,16 +9,16 @@ use Rattle.st_report.specs.ChangeText.{change_field, change_text, changes_fields
 use Rattle.st_report.specs.Fields.{bytes_field, four_ids, mode_field, name_field, number_field, number_fields, text_field, word_field}
 use Rattle.st_trace.specs.declared.entry.Change.{Change}
 use Rattle.st_trace.specs.declared.entry.Change.TheVariants.{Made, Linked, Removed, Renamed, Written, Cut, Moded, Owned, Put, Forked, Execed, SetIds, Cwd, Dying, Renewed, Policy}
-use Rattle.st_readtrace.specs.Words.{is_inner, kind_of_word}
-use Rattle.st_readtrace.specs.Fields.{word_at}
+use Rattle.st_fields.specs.Words.{is_inner, kind_of_word}
+use Rattle.st_fields.specs.Fields.{word_at}
 use Rattle.st_readtrace.specs.Changes.{made_at, linked_at, removed_at, renamed_at, cwd_at, written_at, cut_at, moded_at, owned_at, put_at, forked_at, execed_at, set_ids_at, dying_at, renewed_at, policy_at, process_change, object_change, name_change, change_at, next_change_at, changes_from, changes_at}
-use Rattle.st_readtrace.specs.Written.{AreChanges, AreIds, Has32, IsChange, IsKind, IsName, IsText}
-use Rattle.st_readtrace.proofs.Fronts.{Stops, word_again}
-use Rattle.st_readtrace.proofs.Regrouped.{regroup_8}
-use Rattle.st_readtrace.proofs.Spellings.{again_16, again_32, again_64, mode_again}
-use Rattle.st_readtrace.proofs.Quoting.{bytes_again, text_again}
-use Rattle.st_readtrace.proofs.Names.{name_again}
-use Rattle.st_readtrace.proofs.Arguments.{fields_1, fields_2, fields_3, ids_again}
+use Rattle.st_written.specs.Written.{AreChanges, AreIds, Has32, IsChange, IsKind, IsName, IsText}
+use Rattle.st_fields.proofs.Fronts.{Stops, word_again}
+use Rattle.st_fields.proofs.Regrouped.{regroup_8}
+use Rattle.st_fields.proofs.Spellings.{again_16, again_32, again_64, mode_again}
+use Rattle.st_fields.proofs.Quoting.{bytes_again, text_again}
+use Rattle.st_fields.proofs.Names.{name_again}
+use Rattle.st_fields.proofs.Arguments.{fields_1, fields_2, fields_3, ids_again}
 
 -- ---- changes of names
 

@@ -9,7 +9,7 @@ use Rattle.std.specs.Prelude.{unwrap_or}
 use Rattle.st_lex.specs.Quoted.{newline}
 use Rattle.st_lex.specs.Tokens.{is_no_newline}
 use Rattle.st_readtrace.specs.Lines.{IsLineOf, after_first_line, closed, first_line}
-use Rattle.st_readtrace.proofs.Fronts.{front_len}
+use Rattle.st_fields.proofs.Fronts.{front_len}
 
 -- the first line has no newline
 pub first-plain : (text : List ℕ) → list_all is_no_newline (first_line text) ≡ true

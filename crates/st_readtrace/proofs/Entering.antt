@@ -25,15 +25,15 @@ use Rattle.st_trace.specs.declared.entry.Entry.{Entry}
 use Rattle.st_trace.specs.declared.entry.Entry.TheVariants.{Stored, Entered, Claimed, Copied, Looked, Faulted, Answered, Replied, Learned, Used, Denied, Ended, Reloaded}
 use Rattle.st_trace.specs.declared.entry.Way.{Way}
 use Rattle.st_trace.specs.declared.entry.Way.TheVariants.{Fast, Barred, Held, Untraced}
-use Rattle.st_readtrace.specs.Words.{error_of_name, is_inner, result_of_word}
+use Rattle.st_fields.specs.Words.{error_of_name, is_inner, result_of_word}
 use Rattle.st_readtrace.specs.Entries.{answered_at, cause_at, claimed_at, copied_at, denied_at, ended_at, entered_at, entry_at, entry_by, faulted_at, learned_at, looked_at, operator_entry, reloaded_at, replied_at, seen_at, stored_at, used_at, way_at, worker_entry}
-use Rattle.st_readtrace.specs.Fields.{spelled_at}
-use Rattle.st_readtrace.specs.Written.{IsEntry}
-use Rattle.st_readtrace.proofs.Fronts.{Stops, split_again, word_again}
-use Rattle.st_readtrace.proofs.Regrouped.{regroup_4, regroup_5, regroup_6, regroup_8}
-use Rattle.st_readtrace.proofs.Spellings.{again, again_16, again_32, again_64, call_spells, error_spells, result_spells, seq_again}
-use Rattle.st_readtrace.proofs.Names.{name_again}
-use Rattle.st_readtrace.proofs.Arguments.{args_again, args_stop, fields_1, fields_2, ids_again, numbers_stop, regs_again}
+use Rattle.st_fields.specs.Fields.{spelled_at}
+use Rattle.st_written.specs.Written.{IsEntry}
+use Rattle.st_fields.proofs.Fronts.{Stops, split_again, word_again}
+use Rattle.st_fields.proofs.Regrouped.{regroup_4, regroup_5, regroup_6, regroup_8}
+use Rattle.st_fields.proofs.Spellings.{again, again_16, again_32, again_64, call_spells, error_spells, result_spells, seq_again}
+use Rattle.st_fields.proofs.Names.{name_again}
+use Rattle.st_fields.proofs.Arguments.{args_again, args_stop, fields_1, fields_2, ids_again, numbers_stop, regs_again}
 use Rattle.st_readtrace.proofs.Changing.{changes_again, changes_stop}
 use Rattle.st_readtrace.proofs.Parts.{applied_again, cause_again, done_again, seen_again, snapshot_again, snapshot_fields, verdict_again, way_again}
 

@@ -4,11 +4,11 @@ use Rattle.std.specs.Prelude.{IfSome}
 use Rattle.std.specs.Str.{bytes_eq}
 use Rattle.st_model.specs.declared.object.NewKind.TheVariants.{Dir, File, Link}
 use Rattle.st_trace.specs.declared.entry.Change.{Change}
-use Rattle.st_readtrace.specs.Words.{after_byte, bytes_of_word, comma, kind_of_word, number_of_16, number_of_32, number_of_64, octal_number}
-use Rattle.st_readtrace.specs.Fields.{ids_at, name_at, spelled_at, text_at, word_at}
+use Rattle.st_fields.specs.Words.{after_byte, bytes_of_word, comma, kind_of_word, number_of_16, number_of_32, number_of_64, octal_number}
+use Rattle.st_fields.specs.Fields.{ids_at, name_at, spelled_at, text_at, word_at}
 use Rattle.st_readtrace.specs.Changes.{made_at, linked_at, removed_at, renamed_at, cwd_at, written_at, cut_at, moded_at, owned_at, put_at, forked_at, execed_at, set_ids_at, dying_at, renewed_at, policy_at, process_change, object_change, name_change, change_at, next_change_at, changes_from, changes_at}
-use Rattle.st_readtrace.specs.Written.{AreChanges, AreIds, Has16, Has32, Has64, IsChange, IsKind, IsName, IsText}
-use Rattle.st_readtrace.proofs.Fits.{Fits, after_fits, and_then, bytes_fit, fits_16, fits_32, fits_64, ids_fit, mode_fits, name_fits, text_fits, word_fits}
+use Rattle.st_written.specs.Written.{AreChanges, AreIds, Has16, Has32, Has64, IsChange, IsKind, IsName, IsText}
+use Rattle.st_fields.proofs.Fits.{Fits, after_fits, and_then, bytes_fit, fits_16, fits_32, fits_64, ids_fit, mode_fits, name_fits, text_fits, word_fits}
 
 -- ---- changes of names
 

@@ -9,13 +9,13 @@ use Rattle.st_names.specs.declared.seen.SeenText.TheVariants as seen
 use Rattle.st_trace.specs.declared.entry.Cause.TheVariants as cause
 use Rattle.st_trace.specs.declared.entry.Entry.{Entry}
 use Rattle.st_trace.specs.declared.entry.Way.TheVariants.{Fast, Barred, Held, Untraced}
-use Rattle.st_readtrace.specs.Reads.{◌>>=◌}
-use Rattle.st_readtrace.specs.Words.{error_of_name, number_of_16, number_of_32, number_of_64, result_of_word, rule_after_prefix, seq_of_word, split_word}
-use Rattle.st_readtrace.specs.Fields.{args_at, ids_at, name_at, regs_at, spelled_at, text_at, word_at}
+use Rattle.st_fields.specs.Reads.{◌>>=◌}
+use Rattle.st_fields.specs.Words.{error_of_name, number_of_16, number_of_32, number_of_64, result_of_word, rule_after_prefix, seq_of_word, split_word}
+use Rattle.st_fields.specs.Fields.{args_at, ids_at, name_at, regs_at, spelled_at, text_at, word_at}
 use Rattle.st_readtrace.specs.Changes.{changes_at}
 use Rattle.st_readtrace.specs.Entries.{answered_at, cause_at, cause_by, claimed_at, copied_at, denied_at, ended_at, entered_at, entry_at, entry_by, faulted_at, flag_at, learned_at, looked_at, operator_entry, reloaded_at, replied_at, seen_at, seen_by, snapshot_at, stored_at, used_at, verdict_at, verdict_by, version_at, way_at, way_by, worker_entry}
-use Rattle.st_readtrace.specs.Written.{AreArgs, AreChanges, AreIds, AreRegs, Has16, Has32, Has64, IsCause, IsEntry, IsName, IsResult, IsSeen, IsSeq, IsSnapshot, IsText, IsVerdict, IsWay}
-use Rattle.st_readtrace.proofs.Fits.{Any, Fits, and_then, any_spelled, args_fit, fits_16, fits_32, fits_64, ids_fit, name_fits, regs_fit, result_fits, seq_fits, split_text, text_fits, word_fits}
+use Rattle.st_written.specs.Written.{AreArgs, AreChanges, AreIds, AreRegs, Has16, Has32, Has64, IsCause, IsEntry, IsName, IsResult, IsSeen, IsSeq, IsSnapshot, IsText, IsVerdict, IsWay}
+use Rattle.st_fields.proofs.Fits.{Any, Fits, and_then, any_spelled, args_fit, fits_16, fits_32, fits_64, ids_fit, name_fits, regs_fit, result_fits, seq_fits, split_text, text_fits, word_fits}
 use Rattle.st_readtrace.proofs.FittingChanges.{changes_fit}
 
 -- ---- the parts of entries

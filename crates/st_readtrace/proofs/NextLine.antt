@@ -1,23 +1,19 @@
 -- The line with which a text begins, as it is read.
-use Rattle.std.proofs.Common.{suc, ◌≡◌, ◌≢◌, ℕ, ◌+◌, ◌<◌, List, [], ◌∷◌, ◌++◌, length, drop, get_or, Option, Some, None, Result, Ok, Err, refl, ap, sym, ◌∙◌, arith, subst}
+use Rattle.std.proofs.Common.{◌≡◌, ◌≢◌, ℕ, ◌+◌, ◌<◌, List, [], ◌∷◌, ◌++◌, length, drop, Option, Some, None, Result, Ok, Err, refl, ap, sym, ◌∙◌, arith, subst}
 use Rattle.std.proofs.lemmas.List.{length-append}
 use Rattle.std.specs.List.{prefix_len}
 use Rattle.std.specs.Prelude.{IsErr, IsErrAnd}
 use Rattle.st_lex.specs.Tokens.{is_no_newline}
 use Rattle.st_report.specs.TraceText.{entry_line, trace_text}
 use Rattle.st_trace.specs.declared.entry.Entry.{Entry}
-use Rattle.st_readtrace.specs.declared.fault.LineFault.{LineFault}
-use Rattle.st_readtrace.specs.declared.fault.LineFault.TheVariants.{NotInGrammar, NoMemory}
+use Rattle.st_fields.specs.declared.fault.LineFault.{LineFault}
+use Rattle.st_fields.specs.declared.fault.LineFault.TheVariants.{NotInGrammar, NoMemory}
 use Rattle.st_readtrace.specs.Entries.{entry_of_line}
 use Rattle.st_readtrace.specs.Lines.{IsFirstLine, IsNextEntry, IsReadAs, Unread, closed, first_line}
-use Rattle.st_readtrace.specs.Reads.{Gives}
-use Rattle.st_readtrace.specs.Written.{AreEntries, IsText}
+use Rattle.st_fields.specs.Reads.{Gives}
+use Rattle.st_written.specs.Written.{AreEntries, IsText}
 use Rattle.st_readtrace.proofs.Closings.{closed-some}
 use Rattle.st_readtrace.proofs.Reading.{begins_badly, first_line_text, line_fits, next_is, trace_more, two_bytes}
-
-pub text_of_bytes : (bytes : List ℕ) → ((k : ℕ) → get_or bytes k 0 < 256) → IsText bytes
-text_of_bytes [] small = tt
-text_of_bytes (b ∷ bytes) small = (small 0, text_of_bytes bytes (λ k. small (suc k)))
 
 -- what the first line is read as
 pub is_first : (text : List ℕ) (result : Result Entry LineFault) → IsText text → text ≢ [] → Gives result (entry_of_line (first_line text)) → IsFirstLine result text

@@ -45,7 +45,7 @@ use Rattle.st_trace.specs.declared.entry.Entry.{Entry}
 use Rattle.st_trace.specs.declared.entry.Entry.TheVariants.{Stored, Entered, Claimed, Copied, Looked, Faulted, Answered, Replied, Learned, Used, Denied, Ended, Reloaded}
 use Rattle.st_trace.specs.declared.entry.Way.{Way}
 use Rattle.st_trace.specs.declared.entry.Way.TheVariants.{Fast, Barred, Held, Untraced}
-use Rattle.st_readtrace.specs.Written.{AreArgs, AreChanges, AreIds, AreRegs, Has32, Has64, IsArg, IsCause, IsChange, IsEntry, IsResult, IsSeq, IsSnapshot, IsVerdict, IsWay}
+use Rattle.st_written.specs.Written.{AreArgs, AreChanges, AreIds, AreRegs, Has32, Has64, IsArg, IsCause, IsChange, IsEntry, IsResult, IsSeq, IsSnapshot, IsVerdict, IsWay}
 
 -- the bytes have no newline
 abbrev pub IsLine : List ℕ → Type 0

@@ -17,15 +17,15 @@ use Rattle.st_trace.specs.declared.entry.Cause.{Cause}
 use Rattle.st_trace.specs.declared.entry.Cause.TheVariants as cause
 use Rattle.st_trace.specs.declared.entry.Way.{Way}
 use Rattle.st_trace.specs.declared.entry.Way.TheVariants.{Fast, Barred, Held, Untraced}
-use Rattle.st_readtrace.specs.Words.{error_of_name, is_inner, rule_after_prefix}
-use Rattle.st_readtrace.specs.Fields.{word_at}
+use Rattle.st_fields.specs.Words.{error_of_name, is_inner, rule_after_prefix}
+use Rattle.st_fields.specs.Fields.{word_at}
 use Rattle.st_readtrace.specs.Entries.{cause_at, cause_by, flag_at, seen_at, seen_by, snapshot_at, verdict_at, verdict_by, version_at, way_at, way_by}
-use Rattle.st_readtrace.specs.Written.{Has32, IsCause, IsSeen, IsSnapshot, IsVerdict, IsWay}
-use Rattle.st_readtrace.proofs.Fronts.{Stops, word_again}
-use Rattle.st_readtrace.proofs.Spellings.{again, again_16, again_32, call_spells, error_spells, rule_spells}
-use Rattle.st_readtrace.proofs.Quoting.{text_again}
-use Rattle.st_readtrace.proofs.Names.{name_again}
-use Rattle.st_readtrace.proofs.Arguments.{args_again, args_stop, fields_1, ids_again, numbers_stop, regs_again}
+use Rattle.st_written.specs.Written.{Has32, IsCause, IsSeen, IsSnapshot, IsVerdict, IsWay}
+use Rattle.st_fields.proofs.Fronts.{Stops, word_again}
+use Rattle.st_fields.proofs.Spellings.{again, again_16, again_32, call_spells, error_spells, rule_spells}
+use Rattle.st_fields.proofs.Quoting.{text_again}
+use Rattle.st_fields.proofs.Names.{name_again}
+use Rattle.st_fields.proofs.Arguments.{args_again, args_stop, fields_1, ids_again, numbers_stop, regs_again}
 
 -- ---- ways
 

@@ -15,11 +15,11 @@ use Rattle.st_trace.specs.declared.entry.Entry.{Entry}
 use Rattle.st_trace.specs.declared.entry.Entry.TheVariants.{Stored}
 use Rattle.st_readtrace.specs.Entries.{entry_at, entry_of_line, printed_as}
 use Rattle.st_readtrace.specs.Lines.{BeginsBadly, IsReadAs, after_first_line, closed, first_line}
-use Rattle.st_readtrace.specs.Written.{AreEntries, IsEntry, IsText}
+use Rattle.st_written.specs.Written.{AreEntries, IsEntry, IsText}
 use Rattle.st_readtrace.specs.declared.trace.ReadTrace.{ReadTrace}
 use Rattle.st_readtrace.proofs.Closings.{closed-cut, closed-whole, first-plain, one_cut}
 use Rattle.st_readtrace.proofs.Entering.{seems_again}
-use Rattle.st_readtrace.proofs.Fits.{take_text}
+use Rattle.st_fields.proofs.Fits.{take_text}
 use Rattle.st_readtrace.proofs.FittingEntries.{seems_fit}
 use Rattle.st_readtrace.proofs.OneLine.{entry_is_line}
 

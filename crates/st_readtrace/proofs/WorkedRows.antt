@@ -19,7 +19,7 @@ use Rattle.st_trace.specs.declared.entry.Change.TheVariants as change
 use Rattle.st_trace.specs.declared.entry.Entry.{Entry}
 use Rattle.st_trace.specs.declared.entry.Entry.TheVariants.{Stored, Entered, Claimed, Copied, Looked, Faulted, Answered, Replied, Learned, Used, Denied, Ended, Reloaded}
 use Rattle.st_trace.specs.declared.entry.Way.TheVariants.{Fast, Barred, Held, Untraced}
-use Rattle.st_readtrace.specs.Fields.{arg_at, args_from, ids_at, name_at, regs_at, spelled_at, text_at, word_at}
+use Rattle.st_fields.specs.Fields.{arg_at, args_from, ids_at, name_at, regs_at, spelled_at, text_at, word_at}
 use Rattle.st_readtrace.specs.Changes.{made_at, linked_at, removed_at, renamed_at, cwd_at, written_at, cut_at, moded_at, owned_at, put_at, forked_at, execed_at, set_ids_at, dying_at, renewed_at, policy_at, process_change, object_change, name_change, change_at, next_change_at, changes_from}
 use Rattle.st_readtrace.specs.Entries.{answered_at, cause_at, cause_by, claimed_at, copied_at, denied_at, ended_at, entered_at, entry_by, entry_of_line, faulted_at, flag_at, learned_at, looked_at, operator_entry, reloaded_at, replied_at, seen_at, seen_by, snapshot_at, stored_at, used_at, verdict_at, verdict_by, version_at, way_at, way_by, worker_entry}
 use Rattle.st_readtrace.specs.Lines.{closed}

@@ -3,9 +3,9 @@ use Rattle.std.specs.Prelude.{ℕ, zero, suc, if◌then◌else◌, List, [], ◌
 use Rattle.std.specs.Str.{bytes_eq}
 use Rattle.st_trace.specs.declared.entry.Change.{Change}
 use Rattle.st_trace.specs.declared.entry.Change.TheVariants.{Made, Linked, Removed, Renamed, Written, Cut, Moded, Owned, Put, Forked, Execed, SetIds, Cwd, Dying, Renewed, Policy}
-use Rattle.st_readtrace.specs.Reads.{◌>>=◌}
-use Rattle.st_readtrace.specs.Words.{after_byte, comma, number_of_16, number_of_32, number_of_64, octal_number, bytes_of_word, kind_of_word}
-use Rattle.st_readtrace.specs.Fields.{word_at, spelled_at, text_at, name_at, ids_at}
+use Rattle.st_fields.specs.Reads.{◌>>=◌}
+use Rattle.st_fields.specs.Words.{after_byte, comma, number_of_16, number_of_32, number_of_64, octal_number, bytes_of_word, kind_of_word}
+use Rattle.st_fields.specs.Fields.{word_at, spelled_at, text_at, name_at, ids_at}
 
 -- ---- changes of names
 

@@ -15,9 +15,9 @@ use Rattle.st_trace.specs.declared.entry.Entry.{Entry}
 use Rattle.st_trace.specs.declared.entry.Entry.TheVariants.{Stored, Entered, Claimed, Copied, Looked, Faulted, Answered, Replied, Learned, Used, Denied, Ended, Reloaded}
 use Rattle.st_trace.specs.declared.entry.Way.{Way}
 use Rattle.st_trace.specs.declared.entry.Way.TheVariants.{Fast, Barred, Held, Untraced}
-use Rattle.st_readtrace.specs.Reads.{◌>>=◌}
-use Rattle.st_readtrace.specs.Words.{error_of_name, number_of_16, number_of_32, number_of_64, result_of_word, rule_after_prefix, seq_of_word, split_word}
-use Rattle.st_readtrace.specs.Fields.{word_at, spelled_at, text_at, name_at, ids_at, regs_at, args_at}
+use Rattle.st_fields.specs.Reads.{◌>>=◌}
+use Rattle.st_fields.specs.Words.{error_of_name, number_of_16, number_of_32, number_of_64, result_of_word, rule_after_prefix, seq_of_word, split_word}
+use Rattle.st_fields.specs.Fields.{word_at, spelled_at, text_at, name_at, ids_at, regs_at, args_at}
 use Rattle.st_readtrace.specs.Changes.{changes_at}
 
 -- ---- the parts of lines

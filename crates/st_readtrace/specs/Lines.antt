@@ -5,10 +5,10 @@ use Rattle.st_lex.specs.Quoted.{newline}
 use Rattle.st_lex.specs.Tokens.{is_no_newline}
 use Rattle.st_report.specs.TraceText.{entry_line, trace_text}
 use Rattle.st_trace.specs.declared.entry.Entry.{Entry}
-use Rattle.st_readtrace.specs.declared.fault.LineFault.{LineFault}
-use Rattle.st_readtrace.specs.declared.fault.LineFault.TheVariants.{NotInGrammar, NoMemory}
+use Rattle.st_fields.specs.declared.fault.LineFault.{LineFault}
+use Rattle.st_fields.specs.declared.fault.LineFault.TheVariants.{NotInGrammar, NoMemory}
 use Rattle.st_readtrace.specs.declared.trace.ReadTrace.{ReadTrace}
-use Rattle.st_readtrace.specs.Written.{AreEntries, IsEntry}
+use Rattle.st_written.specs.Written.{AreEntries, IsEntry}
 
 -- the bytes before the first newline
 abbrev pub first_line : List ℕ → List ℕ

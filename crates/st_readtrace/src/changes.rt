@@ -1,11 +1,9 @@
 ghost use Rattle.std.specs.Prelude.{◌≡◌, ◌-◌, length};
-ghost use Rattle.st_readtrace.specs.Reads.{Gives, Reads};
+ghost use Rattle.st_fields.specs.Reads.{Gives, Reads};
 ghost use Rattle.st_readtrace.specs.Changes.{made_at, linked_at, removed_at, renamed_at, cwd_at, written_at, cut_at, moded_at, owned_at, put_at, forked_at, execed_at, set_ids_at, dying_at, renewed_at, policy_at, process_change, object_change, name_change, change_at, next_change_at, changes_from, changes_at};
 
-use crate::LineFault;
-use crate::fields::Fields;
-use crate::words::kind_of_word;
 use st_base::{Sequence, is_same_text};
+use st_fields::{Fields, LineFault, kind_of_word};
 use st_trace::Change;
 use std::alloc::Global;
 

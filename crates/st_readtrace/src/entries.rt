@@ -1,12 +1,11 @@
 ghost use Rattle.std.specs.Prelude.{◌≡◌};
-ghost use Rattle.st_readtrace.specs.Reads.{Gives, Reads};
+ghost use Rattle.st_fields.specs.Reads.{Gives, Reads};
 ghost use Rattle.st_readtrace.specs.Entries.{way_by, way_at, seen_by, seen_at, verdict_by, verdict_at, cause_by, cause_at, version_at, snapshot_at, flag_at, stored_at, entered_at, used_at, denied_at, ended_at, reloaded_at, claimed_at, copied_at, looked_at, faulted_at, answered_at, replied_at, learned_at, operator_entry, worker_entry, entry_by, entry_at, printed_as, entry_of_line};
 
-use crate::LineFault;
 use crate::changes::read_changes;
-use crate::fields::{Fields, read_args};
 use st_base::{Shared, Text, is_same_text};
 use st_calls::{Snapshot, Verdict};
+use st_fields::{Fields, LineFault, read_args};
 use st_names::SeenText;
 use st_report::append_entry;
 use st_trace::{CallArgs, Cause, Entry, Way};

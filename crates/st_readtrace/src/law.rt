@@ -4,8 +4,8 @@ ghost use Rattle.st_law.specs.declared.input.Input.{Input};
 ghost use Rattle.st_report.specs.TraceText.{entry_text, trace_text};
 ghost use Rattle.st_trace.specs.declared.entry.Entry.{Entry};
 ghost use Rattle.st_readtrace.specs.Lines.{IsReadAs};
-ghost use Rattle.st_readtrace.specs.Normal.{HasNormalDirectories, HaveTypes};
-ghost use Rattle.st_readtrace.specs.Written.{AreEntries, IsEntry};
+ghost use Rattle.st_written.specs.Normal.{HasNormalDirectories, HaveTypes};
+ghost use Rattle.st_written.specs.Written.{AreEntries, IsEntry};
 ghost use Rattle.st_readtrace.specs.declared.trace.ReadTrace.{ReadTrace};
 
 /// No two entries are printed as the same line.

@@ -3,21 +3,14 @@
 
 mod changes;
 mod entries;
-mod fault;
-pub mod fields;
 pub mod law;
 pub mod place;
 pub mod reader;
 pub mod trace;
-mod words;
-pub mod written;
 
-pub use fault::LineFault;
-pub use fields::Fields;
 pub use law::{
     lawful_traces_are_read_again, no_two_entries_have_one_line, printed_traces_are_read_again,
 };
 pub use place::fault_place;
 pub use reader::TraceReader;
 pub use trace::{ReadTrace, read_trace};
-pub use written::is_written;

@@ -1,9 +1,8 @@
 ghost use Rattle.std.specs.Prelude.{◌≤◌, length, IfOk};
 
-use crate::LineFault;
 use crate::entries::read_entry_by;
-use crate::fields::Fields;
 use st_base::Text;
+use st_fields::{Fields, LineFault};
 use st_report::append_entry;
 use std::alloc::{AllocError, Global};
 

@@ -3,10 +3,10 @@ ghost use Rattle.std.specs.List.{prefix_len};
 ghost use Rattle.st_lex.specs.Tokens.{is_no_newline};
 ghost use Rattle.st_readtrace.specs.Lines.{after_first_line, closed, IsFirstLine, IsLineOf, IsNextEntry};
 
-use crate::LineFault;
 use crate::entries::entry_of_line;
 use memchr::memchr;
 use st_base::Text;
+use st_fields::LineFault;
 use st_trace::Entry;
 use std::alloc::Global;
 use std::marker::Model;

@@ -1,9 +1,9 @@
 ghost use Rattle.std.specs.Prelude.{◌^◌, ◌<◌, length, IfOk};
 ghost use Rattle.st_readtrace.specs.Lines.{IsReadAs};
 
-use crate::LineFault;
 use crate::reader::TraceReader;
 use st_base::Sequence;
+use st_fields::LineFault;
 use st_trace::Entry;
 use std::alloc::{AllocError, Global};
 

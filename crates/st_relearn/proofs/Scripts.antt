@@ -31,9 +31,9 @@ use Rattle.st_names.specs.Name.{components_of}
 use Rattle.st_grammar.specs.OneFilter.{FilterResult, ReadsFilter, filter_in}
 use Rattle.st_reread.specs.Readable.{AreTextBytes, HasPlainDollars, HasSmallIds, WasRead}
 use Rattle.st_grammar.specs.declared.env.Env.{Env}
-use Rattle.st_script_faults.specs.Environment.{dollars_by, dollars_of, environment_of, first_traced, group_id, groups_below, is_given, learns, new_group, new_user, script_process, user_id, user_of, users_below}
+use Rattle.st_script_names.specs.Environment.{dollars_by, dollars_of, environment_of, first_traced, group_id, groups_below, is_given, learns, new_group, new_user, script_process, user_id, user_of, users_below}
 use Rattle.st_script_faults.specs.Faults.{filter_read, filter_said, policy_said, reply_filter, reply_said, script_fault, unless_ask}
-use Rattle.st_script_faults.specs.Names.{Name, is_name_among, with_new_name}
+use Rattle.st_script_names.specs.Names.{Name, is_name_among, with_new_name}
 use Rattle.st_script_faults.specs.declared.fault.ScriptFault.{ScriptFault}
 use Rattle.st_script.specs.Reading.{blocks_in, filters_below, object_said, process_said, script_in, script_with, start_of, unless_begun, unless_fault, with_block}
 use Rattle.st_script.specs.Startable.{IsRunnableScript, input_with, native_start}

@@ -25,7 +25,7 @@ use Rattle.st_schedule.specs.Schedule.{schedule_in}
 use Rattle.st_script.specs.Reading.{script_in}
 use Rattle.st_script.specs.Startable.{input_with}
 use Rattle.st_script.specs.declared.reading.ReadScript.{ReadScript}
-use Rattle.st_script_faults.specs.Environment.{environment_of}
+use Rattle.st_script_names.specs.Environment.{environment_of}
 use Rattle.st_statements.specs.Statements.{lines_in}
 use Rattle.st_trace.specs.declared.entry.Choice.{Choice}
 use Rattle.st_top.specs.Learning.{PermitsWhatWasMade, policies_after}

@@ -20,9 +20,9 @@ use Rattle.st_grammar.specs.declared.env.NamedId.{NamedId}
 use Rattle.st_script.specs.Reading.{blocks_in, filters_below, read_lines, script_in, script_with, start_of, unless_begun, unless_fault, with_block}
 use Rattle.st_script.specs.declared.reading.ReadScript.{ReadScript}
 use Rattle.st_script.proofs.ReadTexts.{read_has}
-use Rattle.st_script_faults.specs.Environment.{dollars_by, dollars_of, environment_of, first_traced, group_id, groups_below, learns, user_id, user_of, users_below}
+use Rattle.st_script_names.specs.Environment.{dollars_by, dollars_of, environment_of, first_traced, group_id, groups_below, learns, user_id, user_of, users_below}
 use Rattle.st_script_faults.specs.Faults.{WholeScript, filter_read, filter_said, first_fault, first_of, is_invalid, is_too_many, is_unknown, line_fault, or_invalid, policy_said, reply_for, reply_in, reply_said, row_fault, script_fault, script_lexical_fault, started_after, statement_fault, threads_after, whole_of}
-use Rattle.st_script_faults.specs.Names.{Name, Names, no_names, with_says}
+use Rattle.st_script_names.specs.Names.{Name, Names, no_names, with_says}
 use Rattle.st_script_faults.specs.declared.fault.ScriptFault.{ScriptFault}
 use Rattle.st_script_faults.specs.declared.fault.ScriptFault.TheVariants.{Expected, ReloadWithLearn, TooMany, UnknownName}
 use Rattle.st_script_faults.specs.declared.row_value.RowValue.TheVariants as value

@@ -8,8 +8,8 @@ use Rattle.st_lex.specs.Rows.{rows}
 use Rattle.st_lex.specs.Tokens.{lexed_text}
 use Rattle.st_reached.specs.Scripts.{IsBounded}
 use Rattle.st_script_faults.specs.Faults.{WholeScript, first_fault, started_after, threads_after}
-use Rattle.st_script_faults.specs.Names.{no_names}
-use Rattle.st_script_faults.specs.declared.limits.TheConstants.{MOST_THREADS}
+use Rattle.st_script_names.specs.Names.{no_names}
+use Rattle.st_script_names.specs.declared.limits.TheConstants.{MOST_THREADS}
 use Rattle.st_statements.specs.Lines.{tokens_before_fault_line}
 use Rattle.st_statements.specs.Statements.{lines_in}
 use Rattle.st_statements.specs.declared.statement.OpenBody.TheVariants.{NoBody}

@@ -26,13 +26,13 @@ use Rattle.st_grammar.specs.OneFilter.{FilterResult, filter_in}
 use Rattle.st_grammar.specs.declared.env.Env.{Env}
 use Rattle.st_script_faults.specs.Faults.{WholeScript, expects_other, filter_read, is_invalid, is_left_open, is_unknown, is_duplicate, is_too_many, is_large, or_invalid, policy_binary, reloads_while_learning, row_value, row_fault, statement_fault, first_fault, line_fault, unless_ask, reply_filter, reply_in, reply_said, threads_after, with_thread_name}
 use Rattle.st_script.specs.Bounds.{IsWithinBounds}
-use Rattle.st_script_faults.specs.Names.{Name, Names, no_names, is_name_among, with_new_name, name_number, with_says}
+use Rattle.st_script_names.specs.Names.{Name, Names, no_names, is_name_among, with_new_name, name_number, with_says}
 use Rattle.st_statements.specs.Parts.{is_long, is_normal}
 use Rattle.st_statements.specs.Statements.{lines_in}
 use Rattle.st_trace.specs.declared.start.ThreadRow.{ThreadRow}
 use Rattle.st_script.specs.Reading.{BodyNames, blocks_in, body_in, body_names, filters_below, policy_names_after, unless_begun, with_block, with_policy_name, object_said, process_said, processes_after, script_in, script_with, thread_said, thread_with, threads_in, with_process_name}
 use Rattle.st_script_faults.specs.declared.fault.ScriptFault.{ScriptFault}
-use Rattle.st_script_faults.specs.declared.limits.TheConstants.{MOST_PROCESSES, MOST_THREADS, MOST_TREE_ROWS}
+use Rattle.st_script_names.specs.declared.limits.TheConstants.{MOST_PROCESSES, MOST_THREADS, MOST_TREE_ROWS}
 use Rattle.st_script.specs.declared.reading.ReadScript.{ReadScript}
 use Rattle.st_statements.specs.declared.statement.ScriptLine.{ScriptLine}
 use Rattle.st_statements.specs.declared.statement.Statement.{Statement}

@@ -4,8 +4,8 @@ use Rattle.std.proofs.lemmas.Bool.{ltb-false}
 use Rattle.std.proofs.lemmas.List.{length-append}
 use Rattle.std.proofs.lemmas.List.FromFn.{length-map-range_with_len}
 use Rattle.st_script_faults.specs.Faults.{WholeScript}
-use Rattle.st_script_faults.specs.Names.{Names, store_count, with_says}
-use Rattle.st_script_faults.specs.declared.limits.TheConstants.{MOST_INSTRUCTIONS}
+use Rattle.st_script_names.specs.Names.{Names, store_count, with_says}
+use Rattle.st_script_names.specs.declared.limits.TheConstants.{MOST_INSTRUCTIONS}
 use Rattle.st_statements.specs.declared.statement.ScriptLine.{ScriptLine}
 use Rattle.st_statements.specs.declared.statement.Statement.TheVariants as says
 use Rattle.st_script.specs.Reading.{BodyNames, store_of, stores}

@@ -18,7 +18,7 @@ use Rattle.st_lex.specs.Tokens.{lexed_text}
 use Rattle.st_lex.specs.declared.token.LexFault.{LexFault}
 use Rattle.st_lex.specs.declared.token.Token.{Token}
 use Rattle.st_script_faults.specs.Faults.{policy_binary}
-use Rattle.st_script_faults.specs.Names.{Name}
+use Rattle.st_script_names.specs.Names.{Name}
 use Rattle.st_statements.specs.Accounts.{group_row, user_row}
 use Rattle.st_statements.specs.Lines.{tokens_before_fault_line, up_to_last_line, whole_lines}
 use Rattle.st_statements.specs.Objects.{dir_row, file_row, link_row}

@@ -9,7 +9,7 @@ use Rattle.st_filter.specs.declared.set.Reply.{Reply}
 use Rattle.st_grammar.specs.OneFilter.{filter_in}
 use Rattle.st_grammar.specs.declared.env.Env.{Env}
 use Rattle.st_script_faults.specs.Faults.{ScriptFiltersValue, filter_read, filters_after, no_filters, or_invalid, policy_binary, reply_in, reply_said, with_line, with_value}
-use Rattle.st_script_faults.specs.Names.{Name}
+use Rattle.st_script_names.specs.Names.{Name}
 use Rattle.st_script_faults.specs.declared.row_value.RowValue.TheVariants as value
 use Rattle.st_script.specs.Reading.{blocks_in, filters_below, unless_begun, with_block}
 use Rattle.st_statements.specs.declared.statement.ScriptLine.{ScriptLine}

@@ -7,7 +7,7 @@ use Rattle.std.specs.Prelude.{IfSome}
 use Rattle.st_model.specs.declared.limits.TheConstants.{SPACE_BYTES, SPACE_WORDS}
 use Rattle.st_reached.specs.Scripts.{IsInMemory}
 use Rattle.st_script_faults.specs.Faults.{ends_body}
-use Rattle.st_script_faults.specs.Names.{Name, store_count}
+use Rattle.st_script_names.specs.Names.{Name, store_count}
 use Rattle.st_statements.specs.Lines.{saturated}
 use Rattle.st_statements.specs.declared.statement.ScriptLine.{ScriptLine}
 use Rattle.st_statements.specs.declared.statement.Statement.{Statement}

@@ -3,7 +3,7 @@ use Rattle.std.proofs.Common.{◌≡◌, true, if◌then◌else◌, List, [], �
 use Rattle.std.specs.List.{flat_map}
 use Rattle.std.specs.Prelude.{IfSome}
 use Rattle.st_script_faults.specs.Faults.{is_end}
-use Rattle.st_script_faults.specs.Names.{Name}
+use Rattle.st_script_names.specs.Names.{Name}
 use Rattle.st_statements.specs.Statements.{body_after}
 use Rattle.st_statements.specs.declared.statement.OpenBody.{OpenBody}
 use Rattle.st_statements.specs.declared.statement.OpenBody.TheVariants.{NoBody, ThreadBody, PolicyBody}

@@ -6,7 +6,7 @@ use Rattle.st_law.specs.declared.input.Options.{Options}
 use Rattle.st_lex.specs.Tokens.{lexed_text}
 use Rattle.st_lex.specs.declared.token.LexFault.{LexFault}
 use Rattle.st_script_faults.specs.Faults.{WholeScript, first_fault, first_of, script_lexical_fault, script_fault, whole_of}
-use Rattle.st_script_faults.specs.Names.{no_names}
+use Rattle.st_script_names.specs.Names.{no_names}
 use Rattle.st_script_faults.specs.declared.fault.ScriptFault.{ScriptFault}
 use Rattle.st_statements.specs.Statements.{lines_in}
 use Rattle.st_script.specs.Reading.{script_in, script_with, unless_fault}

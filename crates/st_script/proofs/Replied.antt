@@ -15,7 +15,7 @@ use Rattle.st_grammar.specs.OneFilter.{FilterResult, ReadsFilter, filter_in}
 use Rattle.st_grammar.specs.declared.env.Env.{Env}
 use Rattle.st_reached.specs.Grants.{IsUngrantedForSetting, RepliesUngranted, SetIdsUngranted}
 use Rattle.st_script_faults.specs.Faults.{filter_read, filter_said, policy_said, reply_filter, reply_in, reply_said, unless_ask}
-use Rattle.st_script_faults.specs.Names.{Name}
+use Rattle.st_script_names.specs.Names.{Name}
 use Rattle.st_statements.specs.Parts.{is_normal}
 use Rattle.st_statements.specs.Statements.{lines_in}
 use Rattle.st_statements.specs.declared.statement.ScriptLine.{ScriptLine}

@@ -8,7 +8,7 @@ use Rattle.std.specs.List.{filter, flat_map, starts_with}
 use Rattle.std.specs.Prelude.{codes, nat_eq, slice_index}
 use Rattle.st_names.proofs.Spelled.{has_slash_drop, is_last_slash, slashed-parts, spelled_after}
 use Rattle.st_names.specs.Name.{Components, IsLastSlash, components_of, has_slash, is_component, parent, parts_after, printed_name, slash, split_at_slashes, with_slash}
-use Rattle.st_script_faults.specs.Names.{directory_of, last_slash}
+use Rattle.st_script_names.specs.Names.{directory_of, last_slash}
 use Rattle.st_statements.specs.Parts.{is_normal}
 use Rattle.st_script.specs.Reading.{object_name}
 

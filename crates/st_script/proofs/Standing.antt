@@ -23,8 +23,8 @@ use Rattle.st_names.specs.Name.{Components, last_part, parent, parts_after}
 use Rattle.st_names.specs.declared.seen.SeenText.{SeenText}
 use Rattle.st_names.specs.declared.seen.SeenText.TheVariants.{NotDir, Dir}
 use Rattle.st_script_faults.specs.Faults.{WholeScript}
-use Rattle.st_script_faults.specs.Names.{Name, Names, directory_of, is_name_among, is_known_directory, no_names, with_object, with_says}
-use Rattle.st_script_faults.specs.declared.limits.TheConstants.{MOST_TREE_ROWS}
+use Rattle.st_script_names.specs.Names.{Name, Names, directory_of, is_name_among, is_known_directory, no_names, with_object, with_says}
+use Rattle.st_script_names.specs.declared.limits.TheConstants.{MOST_TREE_ROWS}
 use Rattle.st_statements.specs.declared.statement.ScriptLine.{ScriptLine}
 use Rattle.st_statements.specs.declared.statement.Statement.TheVariants as says
 use Rattle.st_trace.specs.declared.start.TreeRow.{TreeRow}

@@ -23,7 +23,7 @@ use Rattle.st_base.proofs.Each.{each-append}
 use Rattle.st_linux.proofs.Kept.{bounded_kept, can_start_kept, startable_kept}
 use Rattle.st_reached.specs.Scripts.{IsBounded}
 use Rattle.st_script_faults.specs.Faults.{WholeScript, first_fault, started_after, threads_after}
-use Rattle.st_script_faults.specs.Names.{Name, Names, is_name_among, no_names, with_says}
+use Rattle.st_script_names.specs.Names.{Name, Names, is_name_among, no_names, with_says}
 use Rattle.st_statements.specs.Lines.{tokens_before_fault_line}
 use Rattle.st_statements.specs.Parts.{is_long}
 use Rattle.st_statements.specs.Statements.{lines_in}

@@ -11,8 +11,8 @@ use Rattle.std.specs.Str.{bytes_eq}
 use Rattle.st_base.specs.Numbered.{item_at_number}
 use Rattle.st_reached.specs.Scripts.{is_start_of, starts_by_row}
 use Rattle.st_script_faults.specs.Faults.{WholeScript, is_started, started_after, threads_after, with_started, with_thread_name}
-use Rattle.st_script_faults.specs.Names.{Name, Names, is_name_among, no_names, name_number, store_count, with_new_name, with_says}
-use Rattle.st_script_faults.specs.declared.limits.TheConstants.{MOST_THREADS}
+use Rattle.st_script_names.specs.Names.{Name, Names, is_name_among, no_names, name_number, store_count, with_new_name, with_says}
+use Rattle.st_script_names.specs.declared.limits.TheConstants.{MOST_THREADS}
 use Rattle.st_statements.specs.declared.statement.OpenBody.TheVariants.{NoBody}
 use Rattle.st_statements.specs.declared.statement.ScriptLine.{ScriptLine}
 use Rattle.st_statements.specs.declared.statement.Statement.{Statement}

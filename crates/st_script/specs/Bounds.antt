@@ -3,7 +3,7 @@ use Rattle.std.specs.Prelude.{◌≢◌, ◌≤◌, length}
 use Rattle.std.specs.List.{AllByRecursion}
 use Rattle.st_filter.specs.declared.filter.Action.TheVariants as action
 use Rattle.st_law.specs.Inputs.{HasProcess, HasShortTarget}
-use Rattle.st_script_faults.specs.declared.limits.TheConstants.{MOST_PROCESSES, MOST_THREADS, MOST_TREE_ROWS}
+use Rattle.st_script_names.specs.declared.limits.TheConstants.{MOST_PROCESSES, MOST_THREADS, MOST_TREE_ROWS}
 use Rattle.st_script.specs.declared.reading.ReadScript.{ReadScript}
 
 -- there are no more rows than a script may have, threads start in existing processes, targets are short, and no reply asks

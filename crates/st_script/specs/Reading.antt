@@ -12,10 +12,10 @@ use Rattle.st_lex.specs.declared.token.LexFault.{LexFault}
 use Rattle.st_model.specs.Memory.{word_of}
 use Rattle.st_names.specs.Name.{Components, components_of, split_at_slashes}
 use Rattle.st_grammar.specs.declared.env.Env.{Env}
-use Rattle.st_script_faults.specs.Environment.{environment_of, script_process}
+use Rattle.st_script_names.specs.Environment.{environment_of, script_process}
 use Rattle.st_script_faults.specs.Faults.{ends_body, filter_said, policy_said, reply_said, script_fault, threads_after}
 use Rattle.st_statements.specs.Lines.{saturated}
-use Rattle.st_script_faults.specs.Names.{Name, name_number, store_count, with_new_name}
+use Rattle.st_script_names.specs.Names.{Name, name_number, store_count, with_new_name}
 use Rattle.st_statements.specs.Statements.{lines_in}
 use Rattle.st_script_faults.specs.declared.fault.ScriptFault.{ScriptFault}
 use Rattle.st_script.specs.declared.reading.ReadScript.{ReadScript}

@@ -4,7 +4,7 @@ ghost use Rattle.st_script.specs.Reading.{stores, instructions_said, body_in, th
 
 use st_base::{Sequence, Text};
 use st_script_faults::faults::{ends_body, threads_of};
-use st_script_faults::names::{NameIndex, store_count};
+use st_script_names::names::{NameIndex, store_count};
 use st_statements::lines::saturated;
 use st_statements::{ScriptLine, Statement};
 use st_trace::{Instr, ThreadRow};

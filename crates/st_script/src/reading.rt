@@ -7,9 +7,9 @@ ghost use Rattle.st_reached.specs.Scripts.{IsBounded};
 ghost use Rattle.st_script.specs.Bounds.{IsWithinBounds};
 ghost use Rattle.st_script.specs.Startable.{IsRunnableScript};
 ghost use Rattle.st_script.specs.declared.reading.ReadScript.{ReadScript};
-ghost use Rattle.st_script_faults.specs.Environment.{environment_of};
+ghost use Rattle.st_script_names.specs.Environment.{environment_of};
 ghost use Rattle.st_script_faults.specs.Faults.{filters_after, first_fault, first_of, no_filters, script_fault, script_lexical_fault};
-ghost use Rattle.st_script_faults.specs.Names.{no_names};
+ghost use Rattle.st_script_names.specs.Names.{no_names};
 ghost use Rattle.st_script.specs.Reading.{object_name, started_process, with_row, with_rows, only_threads, start_of, script_with, read_lines, script_in};
 
 use crate::bodies::threads_in;

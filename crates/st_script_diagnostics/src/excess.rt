@@ -1,11 +1,11 @@
 //! What is wrong with a row that is one too many, or has too much in it.
 
-use crate::given::{Kind, count_given};
-use crate::refused_row::{Misfit, RefusedRow};
-use crate::slot::append_shorter_name;
 use st_base::Text;
-use st_script_faults::names::store_count;
-use st_script_faults::{MOST_PROCESSES, MOST_TREE_ROWS};
+use st_row_diagnostics::given::{Kind, count_given};
+use st_row_diagnostics::refused_row::{Misfit, RefusedRow};
+use st_row_diagnostics::slot::append_shorter_name;
+use st_script_names::names::store_count;
+use st_script_names::{MOST_PROCESSES, MOST_TREE_ROWS};
 use st_statements::parts::is_long;
 use st_statements::{ScriptProcess, Statement};
 use st_trace::NewKind;

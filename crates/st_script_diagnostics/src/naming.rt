@@ -1,10 +1,12 @@
 //! What is wrong with a row that names what isn't there, or what is there already.
 
-use crate::given::{Kind, append_policies, append_processes, append_threads, line_giving};
-use crate::refused_row::{Misfit, RefusedRow};
 use st_base::Text;
 use st_policy_diagnostics::shown::append_shown;
-use st_script_faults::names::directory_of;
+use st_row_diagnostics::given::{
+    Kind, append_policies, append_processes, append_threads, line_giving,
+};
+use st_row_diagnostics::refused_row::{Misfit, RefusedRow};
+use st_script_names::names::directory_of;
 use st_statements::{ScriptLine, Statement};
 use std::alloc::{AllocError, Global};
 

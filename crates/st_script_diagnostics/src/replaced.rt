@@ -2,8 +2,6 @@
 //! language of policies.
 
 use crate::excess::long_binary;
-use crate::refused_row::{Misfit, RefusedRow};
-use crate::slot::append_expected_name;
 use st_base::Text;
 use st_grammar::{Env, Place, PolicyFault, PolicyRefusal, Symbol};
 use st_lex::{Token, unquote};
@@ -11,6 +9,8 @@ use st_policy_diagnostics::policy_fault::refusal_message;
 use st_policy_diagnostics::refusal::{FilterSource, Refusal};
 use st_policy_diagnostics::shown::append_shown;
 use st_policy_states::Reader;
+use st_row_diagnostics::refused_row::{Misfit, RefusedRow};
+use st_row_diagnostics::slot::append_expected_name;
 use st_script_faults::ScriptFault;
 use st_statements::parts::{is_long, is_normal};
 use std::alloc::{AllocError, Global};

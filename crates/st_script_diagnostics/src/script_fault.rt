@@ -2,9 +2,7 @@ ghost use Rattle.std.specs.Prelude.{◌≤◌, length};
 ghost use Rattle.st_outside.specs.declared.files.TheConstants.{FILE_LIMIT};
 
 use crate::excess::too_much;
-use crate::misfit::{OUTSIDE, unexpected};
 use crate::naming::{duplicate_name, unknown_name};
-use crate::refused_row::{Misfit, RefusedRow};
 use crate::replaced::{policy_filter_message, reply_message, wrong_policy_binary};
 use st_base::Text;
 use st_emulation::Emulation;
@@ -18,8 +16,10 @@ use st_policy_diagnostics::row::row_numbered;
 use st_policy_diagnostics::shown::{
     OUT_OF_MEMORY, broken, found_at, place_of, row_message, token_for,
 };
+use st_row_diagnostics::misfit::{OUTSIDE, unexpected};
+use st_row_diagnostics::refused_row::{Misfit, RefusedRow};
 use st_script_faults::ScriptFault;
-use st_script_faults::environment::environment_of;
+use st_script_names::environment::environment_of;
 use st_statements::lines::looked_at;
 use st_statements::{Statement, lines_of_tokens};
 use std::alloc::{AllocError, Global};

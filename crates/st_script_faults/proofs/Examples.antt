@@ -7,7 +7,7 @@ use Rattle.st_law.specs.declared.input.Options.{Options}
 use Rattle.st_lex.specs.Tokens.{lexed_text}
 use Rattle.st_lex.specs.declared.token.LexFault.TheVariants.{OpenQuote}
 use Rattle.st_script_faults.specs.Faults.{WholeScript, row_fault, script_fault, whole_of}
-use Rattle.st_script_faults.specs.Names.{Names, no_names}
+use Rattle.st_script_names.specs.Names.{Names, no_names}
 use Rattle.st_script_faults.specs.declared.fault.ScriptFault.{ScriptFault}
 use Rattle.st_script_faults.specs.declared.fault.ScriptFault.TheVariants.{Duplicate, Expected, Lex, ReloadWithLearn, TooMany, UnknownName}
 use Rattle.st_statements.specs.Statements.{lines_in}

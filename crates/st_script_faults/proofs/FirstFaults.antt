@@ -2,7 +2,7 @@
 use Rattle.std.proofs.Common.{◌≡◌, List, [], ◌∷◌, Option, Some, None, refl, ap, subst, ◌∙◌}
 use Rattle.st_script_faults.specs.FirstFault.{IsFirstScriptFault}
 use Rattle.st_script_faults.specs.Faults.{WholeScript, line_fault, first_fault}
-use Rattle.st_script_faults.specs.Names.{Names, with_says}
+use Rattle.st_script_names.specs.Names.{Names, with_says}
 use Rattle.st_script_faults.specs.declared.fault.ScriptFault.{ScriptFault}
 use Rattle.st_statements.specs.declared.statement.ScriptLine.{ScriptLine}
 

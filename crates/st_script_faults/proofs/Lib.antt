@@ -1,5 +1,4 @@
 mod Examples
 mod FirstFaults
-mod Indexed
 mod LastPolicy
 mod RepliesRead

@@ -4,7 +4,7 @@ use Rattle.st_filter.specs.Formula.{FilterValue}
 use Rattle.st_lex.specs.Unquote.{unquoted}
 use Rattle.st_grammar.specs.OneFilter.{filter_in}
 use Rattle.st_script_faults.specs.Faults.{WholeScript, HasBinaryOf, expects_other, is_invalid, is_left_open, or_invalid, replied_binary, reply_filter, row_value}
-use Rattle.st_script_faults.specs.Names.{Name}
+use Rattle.st_script_names.specs.Names.{Name}
 use Rattle.st_script_faults.specs.declared.row_value.RowValue.{RowValue}
 use Rattle.st_script_faults.specs.declared.row_value.RowValue.TheVariants as value
 use Rattle.st_statements.specs.Parts.{is_normal}

@@ -20,12 +20,12 @@ use Rattle.st_model.specs.declared.object.NewKind.TheVariants as kind
 use Rattle.st_grammar.specs.Grammar.{if_absolute}
 use Rattle.st_grammar.specs.OneFilter.{FilterResult, filter_in}
 use Rattle.st_grammar.specs.declared.env.Env.{Env}
-use Rattle.st_script_faults.specs.Environment.{environment_of}
-use Rattle.st_script_faults.specs.Names.{Name, Names, no_names, is_name_among, with_new_name, with_says, store_count, directory_of, is_known_directory}
+use Rattle.st_script_names.specs.Environment.{environment_of}
+use Rattle.st_script_names.specs.Names.{Name, Names, no_names, is_name_among, with_new_name, with_says, store_count, directory_of, is_known_directory}
 use Rattle.st_script_faults.specs.declared.row_value.RowValue.{RowValue}
 use Rattle.st_script_faults.specs.declared.row_value.RowValue.TheVariants as value
 use Rattle.st_statements.specs.Parts.{is_normal, is_long}
-use Rattle.st_script_faults.specs.declared.limits.TheConstants.{MOST_INSTRUCTIONS, MOST_PROCESSES, MOST_THREADS, MOST_TREE_ROWS}
+use Rattle.st_script_names.specs.declared.limits.TheConstants.{MOST_INSTRUCTIONS, MOST_PROCESSES, MOST_THREADS, MOST_TREE_ROWS}
 use Rattle.st_statements.specs.declared.statement.ScriptLine.{ScriptLine}
 use Rattle.st_statements.specs.declared.statement.Statement.{Statement}
 use Rattle.st_statements.specs.declared.statement.Statement.TheVariants as says

@@ -1,7 +1,7 @@
 -- What it means that a fault is the first of some lines.
 use Rattle.std.specs.Prelude.{◌≡◌, List, [], ◌∷◌, ◌++◌, Some, None}
 use Rattle.st_script_faults.specs.Faults.{WholeScript, line_fault}
-use Rattle.st_script_faults.specs.Names.{Names, with_says}
+use Rattle.st_script_names.specs.Names.{Names, with_says}
 use Rattle.st_script_faults.specs.declared.fault.ScriptFault.{ScriptFault}
 use Rattle.st_statements.specs.declared.statement.ScriptLine.{ScriptLine}
 

@@ -1,4 +1,2 @@
-pub mod Environment
 pub mod Faults
 pub mod FirstFault
-pub mod Names

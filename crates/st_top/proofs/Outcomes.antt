@@ -21,7 +21,7 @@ use Rattle.st_reading.specs.declared.refusal.Refusal.{Refusal}
 use Rattle.st_reading.specs.declared.refusal.Refusal.TheVariants as refusal
 use Rattle.st_reading.proofs.Meanings.{one_meaning, some_meaning}
 use Rattle.st_reading.proofs.Runnable.{AllReplayable, check_prints, step_runs}
-use Rattle.st_readtrace.specs.Written.{IsText}
+use Rattle.st_written.specs.Written.{IsText}
 use Rattle.st_trace_replay.proofs.Breaking.{some_replayed}
 use Rattle.st_trace_replay.proofs.Outcomes.{one_replayed}
 use Rattle.st_top.proofs.GenMeaning.{generates_no_replay, one_generated, some_generated}

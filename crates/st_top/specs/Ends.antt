@@ -23,7 +23,7 @@ use Rattle.st_reading.specs.Meaning.{Contents, Meaning, Refuses, Runs, Replays, 
 use Rattle.st_reading.specs.declared.refusal.Refusal.TheVariants as refusal
 use Rattle.st_reading.specs.declared.refusal.Which.{Which}
 use Rattle.st_reading.specs.declared.refusal.Which.TheVariants as which
-use Rattle.st_readtrace.specs.Written.{IsText}
+use Rattle.st_written.specs.Written.{IsText}
 use Rattle.st_trace_replay.specs.Replayed.{BreaksAt, IsLawfulText}
 use Rattle.st_top.specs.Outcome as outcome
 use Rattle.st_top.specs.Outcome.{CommandOutcome, lawful_text, printed}

@@ -3,8 +3,9 @@
 ghost use Rattle.std.specs.Prelude.{◌<◌, ◌^◌, length};
 ghost use Rattle.st_reached.specs.Runnable.{CanRun};
 
+use st_fields::LineFault;
 use st_law::Input;
-use st_readtrace::{LineFault, TraceReader};
+use st_readtrace::TraceReader;
 use st_replay::{Mismatch, Replay, ReplayFault};
 use st_schedule_diagnostics::threads::Threads;
 use st_trace::Entry;

@@ -8,9 +8,9 @@ use Rattle.st_law.specs.declared.input.Input.{Input}
 use Rattle.st_lex.specs.Tokens.{is_no_newline}
 use Rattle.st_readtrace.specs.Entries.{entry_of_line}
 use Rattle.st_readtrace.specs.Lines.{after_first_line, closed, first_line}
-use Rattle.st_readtrace.specs.Written.{AreEntries, IsEntry, IsText}
+use Rattle.st_written.specs.Written.{AreEntries, IsEntry, IsText}
 use Rattle.st_readtrace.proofs.Closings.{closed-some}
-use Rattle.st_readtrace.proofs.Fits.{drop_text}
+use Rattle.st_fields.proofs.Fits.{drop_text}
 use Rattle.st_readtrace.proofs.Reading.{begins_badly, entries_more, first_line_text, line_fits, next_is, trace_more}
 use Rattle.st_replay.specs.Told.{TraceSoFar, entry_told}
 use Rattle.st_replay.proofs.Lawful.{entry_law}

@@ -5,9 +5,9 @@ use Rattle.std.proofs.lemmas.Option.{same_Some}
 use Rattle.st_lex.specs.Quoted.{newline}
 use Rattle.st_law.specs.declared.input.Input.{Input}
 use Rattle.st_law.specs.Numbers.{IsLawfulByNumber}
-use Rattle.st_readtrace.specs.declared.fault.LineFault.TheVariants.{NotInGrammar}
+use Rattle.st_fields.specs.declared.fault.LineFault.TheVariants.{NotInGrammar}
 use Rattle.st_readtrace.specs.Lines.{BeginsBadly, IsLineOf, IsNextEntry, Unread, after_first_line, closed}
-use Rattle.st_readtrace.specs.Written.{AreEntries, IsEntry}
+use Rattle.st_written.specs.Written.{AreEntries, IsEntry}
 use Rattle.st_readtrace.proofs.Closings.{one_cut}
 use Rattle.st_readtrace.proofs.OneLine.{entry_is_line}
 use Rattle.st_readtrace.proofs.Reading.{entries_more, line_and_rest, no_trace, one_line, trace_more, two_bytes}

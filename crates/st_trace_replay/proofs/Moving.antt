@@ -3,14 +3,14 @@ use Rattle.std.proofs.Common.{◌≡◌, ℕ, true, List, [], ◌∷◌, ◌++�
 use Rattle.std.specs.List.{list_all}
 use Rattle.std.specs.Option.{option_map}
 use Rattle.st_base.specs.Errno.{name_of_error}
-use Rattle.st_readtrace.specs.Fields.{spelled_at}
-use Rattle.st_readtrace.specs.Words.{is_inner, number_of_16, number_of_32}
-use Rattle.st_readtrace.specs.Written.{Has16, Has32, IsEntry}
-use Rattle.st_readtrace.proofs.Arguments.{fields_1, fields_2}
+use Rattle.st_fields.specs.Fields.{spelled_at}
+use Rattle.st_fields.specs.Words.{is_inner, number_of_16, number_of_32}
+use Rattle.st_written.specs.Written.{Has16, Has32, IsEntry}
+use Rattle.st_fields.proofs.Arguments.{fields_1, fields_2}
 use Rattle.st_readtrace.proofs.Entering.{seq_stop}
-use Rattle.st_readtrace.proofs.Fronts.{Stops, split_again}
-use Rattle.st_readtrace.proofs.Regrouped.{regroup_4, regroup_5, regroup_8}
-use Rattle.st_readtrace.proofs.Spellings.{again_16, again_32}
+use Rattle.st_fields.proofs.Fronts.{Stops, split_again}
+use Rattle.st_fields.proofs.Regrouped.{regroup_4, regroup_5, regroup_8}
+use Rattle.st_fields.proofs.Spellings.{again_16, again_32}
 use Rattle.st_replay.specs.Told.{mover_of}
 use Rattle.st_replay.specs.declared.mover.Mover.{Mover}
 use Rattle.st_replay.specs.declared.mover.Mover.TheVariants as who

@@ -5,7 +5,7 @@ use Rattle.st_law.specs.Lawful.{IsLawfulBack}
 use Rattle.st_law.specs.Numbers.{IsLawfulByNumber, drawn_back, largest_number, numbered_back}
 use Rattle.st_law.specs.Threads.{History}
 use Rattle.st_law.specs.declared.input.Input.{Input}
-use Rattle.st_readtrace.specs.Written.{AreEntries, IsEntry}
+use Rattle.st_written.specs.Written.{AreEntries, IsEntry}
 use Rattle.st_readtrace.proofs.Closings.{one_cut}
 use Rattle.st_readtrace.proofs.OneLine.{entry_is_line}
 use Rattle.st_readtrace.proofs.Reading.{line_and_rest, no_trace, one_line}

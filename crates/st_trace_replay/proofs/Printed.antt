@@ -5,9 +5,9 @@ use Rattle.std.specs.List.{AllByRecursion}
 use Rattle.st_law.specs.Numbers.{IsLawfulByNumber, drawn, largest_number, numbered_back, numbered_change, numbered_entry, numbers_at}
 use Rattle.st_law.specs.Threads.{History}
 use Rattle.st_law.specs.declared.input.Input.{Input}
-use Rattle.st_readtrace.specs.Normal.{AreNormalChanges, HasNormalDirectories, HaveTypes, IsNormalChange, IsNormalEntry}
-use Rattle.st_readtrace.proofs.LawfulTraces.{all_reversed, typed}
-use Rattle.st_readtrace.proofs.NormalStates.{lawful_normal}
+use Rattle.st_written.specs.Normal.{AreNormalChanges, HasNormalDirectories, HaveTypes, IsNormalChange, IsNormalEntry}
+use Rattle.st_written.proofs.LawfulEntries.{all_reversed, typed}
+use Rattle.st_written.proofs.NormalStates.{lawful_normal}
 use Rattle.st_readtrace.proofs.Reading.{trace_closed}
 use Rattle.st_report.specs.TraceText.{trace_text}
 use Rattle.st_trace.specs.declared.entry.Change.{Change}

@@ -1,8 +1,8 @@
 -- Who moves by the line of an entry: its first word and the number after it say so.
 use Rattle.std.specs.Prelude.{ℕ, Bool, ◌||◌, if◌then◌else◌, List, codes, Option, Some, None, option_map}
 use Rattle.std.specs.Str.{bytes_eq}
-use Rattle.st_readtrace.specs.Fields.{spelled_at}
-use Rattle.st_readtrace.specs.Words.{number_of_16, number_of_32, split_word}
+use Rattle.st_fields.specs.Fields.{spelled_at}
+use Rattle.st_fields.specs.Words.{number_of_16, number_of_32, split_word}
 use Rattle.st_replay.specs.declared.mover.Mover.{Mover}
 use Rattle.st_replay.specs.declared.mover.Mover.TheVariants.{Thread, Worker, Number, Operator}
 

@@ -3,7 +3,7 @@ use Rattle.std.specs.Prelude.{ℕ, ◌≡◌, ◌≢◌, ◌+◌, List, [], ◌�
 use Rattle.st_law.specs.Numbers.{IsLawfulByNumber}
 use Rattle.st_law.specs.declared.input.Input.{Input}
 use Rattle.st_readtrace.specs.Lines.{closed}
-use Rattle.st_readtrace.specs.Written.{AreEntries, IsEntry}
+use Rattle.st_written.specs.Written.{AreEntries, IsEntry}
 use Rattle.st_report.specs.TraceText.{entry_line, trace_text}
 use Rattle.st_trace.specs.declared.entry.Entry.{Entry}
 

@@ -2,7 +2,7 @@
 use Rattle.std.specs.Prelude.{◌≡◌, ◌≢◌, ◌+◌, [], ◌++◌, List, ℕ, length}
 use Rattle.st_law.specs.declared.input.Input.{Input}
 use Rattle.st_readtrace.specs.Lines.{Unread, closed}
-use Rattle.st_readtrace.specs.Written.{AreEntries, IsEntry}
+use Rattle.st_written.specs.Written.{AreEntries, IsEntry}
 use Rattle.st_replay.specs.Told.{IsLawfulSoFar, TraceSoFar, with_entry}
 use Rattle.st_report.specs.TraceText.{entry_line, trace_text}
 use Rattle.st_trace.specs.declared.entry.Entry.{Entry}

@@ -1,9 +1,9 @@
 ghost use Rattle.std.specs.Prelude.{◌≡◌};
-ghost use Rattle.st_readtrace.specs.Reads.{Gives};
+ghost use Rattle.st_fields.specs.Reads.{Gives};
 ghost use Rattle.st_trace_replay.specs.Movers.{tells_thread, tells_worker, tells_number, tells_operator, mover_by, mover_of_line};
 
 use st_base::is_same_text;
-use st_readtrace::{Fields, LineFault};
+use st_fields::{Fields, LineFault};
 use st_replay::Mover;
 
 // Whether a line that begins with this word is that of a thread's entry.

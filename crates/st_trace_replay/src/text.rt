@@ -1,18 +1,20 @@
 ghost use Rattle.std.specs.Prelude.{◌+◌, ◌<◌, ◌^◌, Some, length, IfOk};
 ghost use Rattle.st_reached.specs.Runnable.{CanRun};
 ghost use Rattle.st_readtrace.specs.Lines.{IsLineOf};
-ghost use Rattle.st_readtrace.specs.Written.{IsEntry};
+ghost use Rattle.st_written.specs.Written.{IsEntry};
 ghost use Rattle.st_trace_replay.specs.Replayed.{IsReplayed};
 ghost use Rattle.st_trace_replay.specs.Steps.{IsCompared, IsNextLine};
 
 use crate::mover::mover_of_line;
 use st_base::{Text, is_same_text};
+use st_fields::LineFault;
 use st_law::Input;
-use st_readtrace::{LineFault, TraceReader, is_written};
+use st_readtrace::TraceReader;
 use st_replay::Replay;
 use st_report::append_entry;
 use st_same::is_same_entry;
 use st_trace::Entry;
+use st_written::is_written;
 use std::alloc::{AllocError, Global};
 
 /// What the next line of a printed trace is.

@@ -1,8 +1,9 @@
 use Rattle.std.proofs.Common.{◌≡◌, ◌≢◌, ℕ, ◌+◌, ◌-◌, List, [], ap, sym, subst, ◌∙◌, arith}
 use Rattle.st_trace.specs.declared.entry.Change.{Change}
 use Rattle.st_readtrace.specs.Changes.{changes_at, changes_from}
-use Rattle.st_readtrace.specs.Reads.{Fails}
-use Rattle.st_readtrace.proofs.Loops.{changes-end, changes-fault, changes-go_on, changes-left, gives_none, not_empty, with_front}
+use Rattle.st_fields.specs.Reads.{Fails}
+use Rattle.st_fields.proofs.Loops.{gives_none, not_empty, with_front}
+use Rattle.st_readtrace.proofs.ChangeLoops.{changes-end, changes-fault, changes-go_on, changes-left}
 use Rattle.st_readtrace.proofs.changes.read_changes.Goals as goal
 
 pub returns-then-is_empty : goal.returns-then-is_empty

@@ -1,6 +1,6 @@
 use Rattle.std.proofs.Common.{◌≡◌, ◌-◌}
 use Rattle.st_readtrace.specs.Changes.{changes_from}
-use Rattle.st_readtrace.proofs.Loops.{with_front}
+use Rattle.st_fields.proofs.Loops.{with_front}
 use Rattle.st_readtrace.proofs.changes.read_changes.Given as goal
 
 -- the changes so far and those of the rest are all changes

@@ -1,7 +1,8 @@
 use Rattle.std.proofs.Common.{ℕ, take, subst}
 use Rattle.st_readtrace.specs.Entries.{entry_of_line}
-use Rattle.st_readtrace.specs.Reads.{Gives}
-use Rattle.st_readtrace.proofs.NextLine.{is_first, text_of_bytes}
+use Rattle.st_fields.specs.Reads.{Gives}
+use Rattle.st_written.proofs.Parted.{text_of_bytes}
+use Rattle.st_readtrace.proofs.NextLine.{is_first}
 use Rattle.st_readtrace.proofs.reader.first_entry.Goals as goal
 
 pub returns : goal.returns

@@ -1,7 +1,7 @@
 use Rattle.std.proofs.Common.{◌≡◌, ◌++◌, length}
 use Rattle.st_report.specs.TraceText.{trace_text}
 use Rattle.st_readtrace.specs.Lines.{closed}
-use Rattle.st_readtrace.specs.Written.{AreEntries}
+use Rattle.st_written.specs.Written.{AreEntries}
 use Rattle.st_readtrace.proofs.trace.read_trace.Given as goal
 
 -- the text is that of the entries so far, and the rest; each was a line

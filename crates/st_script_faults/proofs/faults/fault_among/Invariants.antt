@@ -1,7 +1,7 @@
 use Rattle.std.proofs.Common.{◌≡◌, ◌≤◌, length}
 use Rattle.st_filter.specs.declared.set.TheConstants.{MOST_FILTERS}
 use Rattle.st_script_faults.specs.Faults.{first_fault, filters_after}
-use Rattle.st_script_faults.specs.declared.limits.TheConstants.{MOST_INSTRUCTIONS}
+use Rattle.st_script_names.specs.declared.limits.TheConstants.{MOST_INSTRUCTIONS}
 use Rattle.st_script_faults.proofs.faults.fault_among.Given as goal
 
 -- the lines that are left give the answer, and what they are read as follows what was added

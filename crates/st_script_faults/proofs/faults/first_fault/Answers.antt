@@ -1,6 +1,6 @@
 use Rattle.std.proofs.Common.{◌≡◌, IfOk, subst}
 use Rattle.st_script_faults.specs.Faults.{first_fault}
-use Rattle.st_script_faults.specs.Names.{Names}
+use Rattle.st_script_names.specs.Names.{Names}
 use Rattle.st_script_faults.proofs.faults.first_fault.Goals as goal
 
 pub returns-clause-fault : goal.returns-clause-fault

@@ -1,7 +1,0 @@
-use Rattle.std.proofs.Common.{drop}
-use Rattle.st_readtrace.specs.Written.{AreArgs}
-use Rattle.st_readtrace.proofs.written.are_args.Given as goal
-
--- all arguments have their types if those that are left have
-abbrev pub invariant-loop-arg : goal.invariant-loop-arg
-invariant-loop-arg l = AreArgs (drop l.arg-index l.args) → AreArgs l.args

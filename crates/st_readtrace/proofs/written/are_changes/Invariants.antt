@@ -1,8 +1,0 @@
-use Rattle.std.specs.Prelude.{◌↔◌}
-use Rattle.std.proofs.Common.{drop}
-use Rattle.st_readtrace.specs.Written.{AreChanges}
-use Rattle.st_readtrace.proofs.written.are_changes.Given as goal
-
--- all changes are those of written entries exactly if those that are left are
-abbrev pub invariant-loop-change : goal.invariant-loop-change
-invariant-loop-change l = AreChanges (drop l.change-index l.changes) ↔ AreChanges l.changes

@@ -1,0 +1,5 @@
+pub mod LawfulEntries
+pub mod NormalChanges
+pub mod NormalStates
+pub mod NormalWalks
+pub mod Parted
