@@ -7,7 +7,6 @@ mod choosing;
 mod entering;
 pub mod machine;
 mod making;
-mod own_call;
 mod placing;
 mod reloading;
 mod renewing;

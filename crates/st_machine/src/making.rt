@@ -1,18 +1,18 @@
 // Makes calls, and ends the threads and held calls that their changes end.
 ghost use Rattle.std.specs.Prelude.{◌≡◌, IfOk, OnOk, OnErr};
-ghost use Rattle.st_machine.specs.Making.{MakesCall, RenewsNone};
+ghost use Rattle.st_steps.specs.Making.{MakesCall, RenewsNone};
 ghost use Rattle.st_decide.specs.Machine.{IsStep, SameState};
 ghost use Rattle.st_decide.specs.NextSteps.{CanStep};
 ghost use Rattle.st_decide.specs.declared.step.Step.TheVariants as steps;
 ghost use Rattle.st_trace.specs.declared.entry.Choice.TheVariants.{Thread};
 
 use crate::machine::Machine;
-use crate::own_call::{OwnCall, end_made};
 use crate::placing::leave;
 use st_base::Tid;
 use st_decide::ReadyCall;
 use st_procs::ids_after;
 use st_request::Outcome;
+use st_steps::{OwnCall, end_made};
 use st_threads::CallingThread;
 use st_trace::Entry;
 use std::alloc::{AllocError, Global};

@@ -1,6 +1,6 @@
 // Gives held calls new drawings after a call that sets the ids of their process.
 ghost use Rattle.std.specs.Prelude.{◌≡◌, true, slice_index_or, None, IfOk, OnErr};
-ghost use Rattle.st_machine.specs.Making.{MakesCall};
+ghost use Rattle.st_steps.specs.Making.{MakesCall};
 ghost use Rattle.st_decide.specs.Machine.{SameState};
 ghost use Rattle.st_decide.specs.NextSteps.{CanStep};
 ghost use Rattle.st_decide.specs.declared.step.Step.TheVariants as steps;
@@ -8,10 +8,10 @@ ghost use Rattle.st_calls.specs.Call.{sets_ids};
 ghost use Rattle.st_model.specs.Identity.{ids_after_set, set_refused};
 
 use crate::machine::Machine;
-use crate::own_call::{OwnCall, renew_others};
 use st_base::{Ids, Tid};
 use st_decide::ReadyCall;
 use st_request::Outcome;
+use st_steps::{OwnCall, renew_others};
 use st_threads::{CallingThread, RenewedCalls, WhichCalls, plan_renewals};
 use st_trace::Change;
 use std::alloc::{AllocError, Global};

@@ -1,7 +1,7 @@
 // The steps of workers. Each changes the messages as its entry says, and stores the entry in the caller's `added`.
 ghost use Rattle.std.specs.Prelude.{◌≡◌, ◌<◌, ℕ, Some, OnOk, OnErr};
 ghost use Rattle.st_decide.specs.Machine.{HasTask, IsStep, SameState};
-ghost use Rattle.st_machine.specs.Serving.{is_applied, IsVerdictFor};
+ghost use Rattle.st_steps.specs.Serving.{is_applied, IsVerdictFor};
 ghost use Rattle.st_messages.specs.Messages.{HasWorker};
 ghost use Rattle.st_trace.specs.declared.entry.Choice.TheVariants.{Worker};
 ghost use Rattle.st_workers.specs.declared.task.Task.TheVariants as tasks;

@@ -6,4 +6,4 @@ pub mod shared;
 
 pub use run::run_all;
 pub use shared::Shared;
-pub use st_runners::{Gate, OpenGate};
+pub use st_desk::{Gate, OpenGate};

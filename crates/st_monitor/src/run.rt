@@ -9,11 +9,11 @@ ghost use Rattle.st_kernel.specs.Kernel.{state_in, trace_of};
 ghost use Rattle.st_recorded.specs.Tickets.{new_takers};
 
 use crate::shared::Shared;
+use st_desk::{Gate, Monitor, run_bodies, run_operator, run_worker};
 use st_kernel::Kernel;
 use st_messages::{Poster, Taker};
 use st_recorded::{RecordedRun, Run, RunName, tickets_for};
 use st_report::Recorder;
-use st_runners::{Gate, Monitor, run_bodies, run_operator, run_worker};
 use std::alloc::{AllocError, Global};
 use std::marker::Brand;
 use std::sync::Wait;

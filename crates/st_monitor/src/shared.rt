@@ -9,14 +9,13 @@ ghost use Rattle.st_kernel.specs.Kernel.{state_in, trace_of};
 use st_base::Worker;
 use st_calls::{Snapshot, Verdict};
 use st_compile::Compiled;
-use st_desk::Turns;
+use st_desk::{Gate, Monitor, Turns};
 use st_filter::Judged;
 use st_kernel::Kernel;
 use st_law::Input;
 use st_messages::Poster;
 use st_recorded::{RecordedRun, RunName};
 use st_report::Recorder;
-use st_runners::{Gate, Monitor};
 use std::alloc::{AllocError, Global};
 use std::sync::Wait;
 

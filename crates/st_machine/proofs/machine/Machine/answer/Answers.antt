@@ -2,14 +2,14 @@ use Rattle.std.proofs.Common.{◌≡◌, sym, subst, ◌∙◌}
 use Rattle.st_trace.specs.declared.entry.Choice.TheVariants as choice
 use Rattle.st_trace.specs.declared.entry.Entry.TheVariants as entry
 use Rattle.st_decide.specs.Machine.{HasTask, IsDrawnStep, Running}
-use Rattle.st_machine.proofs.Served.{answered, applied_as, left_as, running_step, with_workers}
+use Rattle.st_steps.proofs.Served.{answered, applied_as, left_as, running_step, with_workers}
 use Rattle.st_workers.specs.declared.task.Task.TheVariants as tasks
 use Rattle.st_filter.specs.Judged.{verdict_under}
-use Rattle.st_machine.specs.Serving.{IsVerdictFor}
+use Rattle.st_steps.specs.Serving.{IsVerdictFor}
 use Rattle.st_messages.specs.Messages.{is_live_drawing}
 use Rattle.st_machine.proofs.Running.{running_of}
 use Rattle.st_workers.proofs.Fewer.{fewer_one}
-use Rattle.st_machine.proofs.EntryNumbers.{answered_has}
+use Rattle.st_steps.proofs.EntryNumbers.{answered_has}
 use Rattle.st_workers.specs.Refinement.{drawn_copies}
 use Rattle.st_machine.proofs.machine.Machine.answer.Goals as goal
 

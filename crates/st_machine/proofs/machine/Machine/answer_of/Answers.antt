@@ -6,7 +6,7 @@ use Rattle.st_filter.specs.Policies.{PoliciesValue}
 use Rattle.st_workers.specs.UnderWay.{turn_of_worker}
 use Rattle.st_workers.specs.declared.turn.Turn.TheVariants.{Ready}
 use Rattle.st_machine.proofs.Running.{running_of}
-use Rattle.st_machine.proofs.Served.{same_copies}
+use Rattle.st_steps.proofs.Served.{same_copies}
 use Rattle.st_machine.proofs.machine.Machine.answer_of.Goals as goal
 
 -- the copies that were judged are those that the worker is ready with

@@ -8,8 +8,8 @@ use Rattle.st_decide.specs.Machine.{Refines, Running}
 use Rattle.st_decide.specs.Questions.{IsLeastFound}
 use Rattle.st_decide.proofs.Asked.{answers_here}
 use Rattle.st_decide.proofs.Questions.{answers_drawn}
-use Rattle.st_machine.proofs.Answered.{answered_numbers, answered_on, at_drawing, with_operator}
-use Rattle.st_machine.proofs.Served.{left_as, running_step}
+use Rattle.st_steps.proofs.Answered.{answered_numbers, answered_on, at_drawing, with_operator}
+use Rattle.st_steps.proofs.Served.{left_as, running_step}
 use Rattle.st_machine.proofs.Running.{running_of}
 use Rattle.st_machine.proofs.machine.Machine.ask.Goals as goal
 

@@ -2,10 +2,10 @@ use Rattle.std.proofs.Common.{◌∙◌, sym}
 use Rattle.st_trace.specs.declared.entry.Choice.TheVariants as choice
 use Rattle.st_trace.specs.declared.entry.Entry.TheVariants as entry
 use Rattle.st_decide.specs.Machine.{IsDrawnStep, Running}
-use Rattle.st_machine.proofs.Served.{claimed, left_as, running_step, with_workers}
+use Rattle.st_steps.proofs.Served.{claimed, left_as, running_step, with_workers}
 use Rattle.st_machine.proofs.Running.{running_of}
 use Rattle.st_workers.proofs.Fewer.{fewer_same}
-use Rattle.st_machine.proofs.EntryNumbers.{claimed_has}
+use Rattle.st_steps.proofs.EntryNumbers.{claimed_has}
 use Rattle.st_workers.proofs.Numbered.{live_has_seq}
 use Rattle.st_machine.proofs.machine.Machine.claim.Goals as goal
 

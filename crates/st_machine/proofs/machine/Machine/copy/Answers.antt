@@ -2,11 +2,11 @@ use Rattle.std.proofs.Common.{sym, subst}
 use Rattle.st_trace.specs.declared.entry.Choice.TheVariants as choice
 use Rattle.st_trace.specs.declared.entry.Entry.TheVariants as entry
 use Rattle.st_decide.specs.Machine.{HasTask, IsDrawnStep, Running, SameState}
-use Rattle.st_machine.proofs.Served.{copied, left_as, on_err, process_there, running_stands, running_step, stands_so, with_workers}
+use Rattle.st_steps.proofs.Served.{copied, left_as, on_err, process_there, running_stands, running_step, stands_so, with_workers}
 use Rattle.st_workers.specs.declared.task.Task.TheVariants as tasks
 use Rattle.st_machine.proofs.Running.{running_of}
 use Rattle.st_workers.proofs.Fewer.{fewer_none}
-use Rattle.st_machine.proofs.EntryNumbers.{copied_has}
+use Rattle.st_steps.proofs.EntryNumbers.{copied_has}
 use Rattle.st_workers.proofs.Numbered.{live_has_seq}
 use Rattle.st_machine.proofs.machine.Machine.copy.Goals as goal
 

@@ -7,12 +7,12 @@ use Rattle.st_workers.proofs.Turns.{read_is}
 use Rattle.st_decide.specs.Machine.{IsNextStep, IsDrawnStep, Running}
 use Rattle.st_threads.specs.Thread.{ThreadRow}
 use Rattle.st_decide.specs.declared.step.Step.TheVariants as steps
-use Rattle.st_machine.proofs.After.{with_parts}
-use Rattle.st_machine.proofs.Moving.{denied_lives, denied_step, place_in, row_here}
+use Rattle.st_steps.proofs.After.{with_parts}
+use Rattle.st_steps.proofs.Moving.{denied_lives, denied_step, place_in, row_here}
 use Rattle.st_machine.proofs.Running.{running_of}
-use Rattle.st_machine.proofs.Served.{left_as, running_step}
+use Rattle.st_steps.proofs.Served.{left_as, running_step}
 use Rattle.st_workers.specs.Numbers.{IsNumbered}
-use Rattle.st_machine.proofs.EntryNumbers.{denied_has}
+use Rattle.st_steps.proofs.EntryNumbers.{denied_has}
 use Rattle.st_machine.proofs.machine.Machine.deny.Goals as goal
 
 pub overflow_sub-tid : goal.overflow_sub-tid

@@ -6,9 +6,9 @@ use Rattle.st_workers.proofs.Turns.{read_is}
 use Rattle.st_decide.specs.Machine.{IsNextStep, IsDrawnStep, Running}
 use Rattle.st_threads.specs.Thread.{ThreadRow}
 use Rattle.st_decide.specs.declared.step.Step.TheVariants as steps
-use Rattle.st_machine.proofs.After.{with_parts}
-use Rattle.st_machine.proofs.Moving.{ended_step, place_in, row_here}
-use Rattle.st_machine.proofs.Served.{left_as, running_step}
+use Rattle.st_steps.proofs.After.{with_parts}
+use Rattle.st_steps.proofs.Moving.{ended_step, place_in, row_here}
+use Rattle.st_steps.proofs.Served.{left_as, running_step}
 use Rattle.st_machine.proofs.Running.{running_of}
 use Rattle.st_machine.proofs.machine.Machine.end.Goals as goal
 

@@ -4,7 +4,7 @@ use Rattle.st_threads.specs.declared.way.CallWay.{CallWay}
 use Rattle.st_trace.specs.declared.entry.Way.TheVariants.{Held}
 use Rattle.st_decide.specs.Entering.{IsKeptAnswer, IsUnposted, IsWayOf}
 use Rattle.st_decide.specs.Machine.{Running}
-use Rattle.st_machine.proofs.Entered.{next_number}
+use Rattle.st_steps.proofs.Entered.{next_number}
 use Rattle.st_machine.proofs.machine.Machine.enter.Goals as goal
 
 pub enter_held-requires-clause-way : goal.enter_held-requires-clause-way

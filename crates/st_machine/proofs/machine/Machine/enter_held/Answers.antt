@@ -15,15 +15,15 @@ use Rattle.st_decide.specs.Machine.{Refines, IsNextStep, IsDrawnStep, Running, S
 use Rattle.st_threads.specs.Thread.{ThreadRow, row_entered}
 use Rattle.st_decide.specs.declared.step.NewCall.{NewCall}
 use Rattle.st_decide.specs.declared.step.Step.TheVariants as steps
-use Rattle.st_machine.proofs.After.{with_parts}
-use Rattle.st_machine.proofs.Entered.{held_step, no_number}
-use Rattle.st_machine.proofs.Moving.{row_entering}
+use Rattle.st_steps.proofs.After.{with_parts}
+use Rattle.st_steps.proofs.Entered.{held_step, no_number}
+use Rattle.st_steps.proofs.Moving.{row_entering}
 use Rattle.st_decide.proofs.NextSteps.{owner_is}
 use Rattle.st_decide.proofs.FewCalls.{few_calls}
-use Rattle.st_machine.proofs.Room.{room_left}
-use Rattle.st_machine.proofs.Served.{left_as, on_err, running_stands, running_step, stands_so, with_workers}
+use Rattle.st_steps.proofs.Room.{room_left}
+use Rattle.st_steps.proofs.Served.{left_as, on_err, running_stands, running_step, stands_so, with_workers}
 use Rattle.st_machine.proofs.Running.{running_of}
-use Rattle.st_machine.proofs.EntryNumbers.{held_has}
+use Rattle.st_steps.proofs.EntryNumbers.{held_has}
 use Rattle.st_machine.proofs.machine.Machine.enter_held.Goals as goal
 
 pub post-requires-clause-thread : goal.post-requires-clause-thread

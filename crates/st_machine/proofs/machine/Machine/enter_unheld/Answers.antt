@@ -9,12 +9,12 @@ use Rattle.st_decide.specs.Machine.{IsNextStep, IsDrawnStep, Running}
 use Rattle.st_threads.specs.Thread.{ThreadRow, row_entered}
 use Rattle.st_threads.specs.Ways.{drawn_way}
 use Rattle.st_decide.specs.declared.step.Step.TheVariants as steps
-use Rattle.st_machine.proofs.After.{with_parts}
-use Rattle.st_machine.proofs.Entered.{unheld_step}
-use Rattle.st_machine.proofs.Moving.{place_in, row_entering}
-use Rattle.st_machine.proofs.Served.{left_as, running_step}
+use Rattle.st_steps.proofs.After.{with_parts}
+use Rattle.st_steps.proofs.Entered.{unheld_step}
+use Rattle.st_steps.proofs.Moving.{place_in, row_entering}
+use Rattle.st_steps.proofs.Served.{left_as, running_step}
 use Rattle.st_machine.proofs.Running.{running_of}
-use Rattle.st_machine.proofs.EntryNumbers.{unheld_has}
+use Rattle.st_steps.proofs.EntryNumbers.{unheld_has}
 use Rattle.st_machine.proofs.machine.Machine.enter_unheld.Goals as goal
 
 pub overflow_sub-tid : goal.overflow_sub-tid

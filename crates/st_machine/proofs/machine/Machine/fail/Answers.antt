@@ -5,10 +5,10 @@ use Rattle.st_workers.proofs.Turns.{read_is}
 use Rattle.st_decide.specs.Machine.{IsNextStep, IsDrawnStep, Running}
 use Rattle.st_threads.specs.Thread.{ThreadRow}
 use Rattle.st_decide.specs.declared.step.Step.TheVariants as steps
-use Rattle.st_machine.proofs.After.{with_parts}
-use Rattle.st_machine.proofs.Moving.{entry_failed, failed_step, place_in, row_here}
+use Rattle.st_steps.proofs.After.{with_parts}
+use Rattle.st_steps.proofs.Moving.{entry_failed, failed_step, place_in, row_here}
 use Rattle.st_machine.proofs.Running.{running_of}
-use Rattle.st_machine.proofs.Served.{left_as, running_step}
+use Rattle.st_steps.proofs.Served.{left_as, running_step}
 use Rattle.st_machine.proofs.machine.Machine.fail.Goals as goal
 
 pub overflow_sub-tid : goal.overflow_sub-tid

@@ -2,11 +2,11 @@ use Rattle.std.proofs.Common.{sym, subst}
 use Rattle.st_trace.specs.declared.entry.Choice.TheVariants as choice
 use Rattle.st_trace.specs.declared.entry.Entry.TheVariants as entry
 use Rattle.st_decide.specs.Machine.{HasTask, IsDrawnStep, Running}
-use Rattle.st_machine.proofs.Served.{faulted, left_as, running_step, with_workers}
+use Rattle.st_steps.proofs.Served.{faulted, left_as, running_step, with_workers}
 use Rattle.st_workers.specs.declared.task.Task.TheVariants as tasks
 use Rattle.st_machine.proofs.Running.{running_of}
 use Rattle.st_workers.proofs.Fewer.{fewer_same}
-use Rattle.st_machine.proofs.EntryNumbers.{faulted_has}
+use Rattle.st_steps.proofs.EntryNumbers.{faulted_has}
 use Rattle.st_workers.proofs.Numbered.{live_has_seq}
 use Rattle.st_machine.proofs.machine.Machine.fault.Goals as goal
 

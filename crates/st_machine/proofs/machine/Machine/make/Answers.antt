@@ -5,13 +5,13 @@ use Rattle.st_decide.specs.Machine.{Running}
 use Rattle.st_decide.specs.Making.{request_with}
 use Rattle.st_decide.specs.NextSteps.{CanStep}
 use Rattle.st_decide.specs.declared.step.Step.TheVariants as steps
-use Rattle.st_machine.specs.Making.{MakesCall}
-use Rattle.st_machine.proofs.CallsMade.{call_lives, call_there, made_so, others_held, own_call, running_made}
-use Rattle.st_machine.proofs.CanMake.{can_use}
+use Rattle.st_steps.specs.Making.{MakesCall}
+use Rattle.st_steps.proofs.CallsMade.{call_lives, call_there, made_so, others_held, own_call, running_made}
+use Rattle.st_steps.proofs.CanMake.{can_use}
 use Rattle.st_machine.proofs.Running.{running_of}
 use Rattle.st_trace.specs.declared.entry.Change.{Change}
-use Rattle.st_machine.proofs.After.{with_parts}
-use Rattle.st_machine.specs.Making.{EndsMade}
+use Rattle.st_steps.proofs.After.{with_parts}
+use Rattle.st_steps.specs.Making.{EndsMade}
 use Rattle.st_machine.proofs.machine.Machine.make.Goals as goal
 
 pub execute-requires : goal.execute-requires

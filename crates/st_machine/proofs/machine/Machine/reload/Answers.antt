@@ -10,12 +10,12 @@ use Rattle.st_threads.specs.Thread.{ThreadRow}
 use Rattle.st_threads.specs.declared.renewing.RenewedCall.{RenewedCall}
 use Rattle.st_threads.specs.declared.which.WhichCalls.TheVariants.{Under}
 use Rattle.st_decide.specs.declared.step.Step.TheVariants as steps
-use Rattle.st_machine.proofs.After.{with_all}
-use Rattle.st_machine.proofs.Answered.{kept_in_vain, with_operator}
-use Rattle.st_machine.proofs.EntryNumbers.{reloaded_has}
-use Rattle.st_machine.proofs.Moving.{place_in}
-use Rattle.st_machine.proofs.ReloadedSteps.{calls_gone, can_gone, few_gone, known_block, never_absent, numbered_gone, room_gone, step_gone}
-use Rattle.st_machine.proofs.Served.{left_as, on_err, running_stands, running_step}
+use Rattle.st_steps.proofs.After.{with_all}
+use Rattle.st_steps.proofs.Answered.{kept_in_vain, with_operator}
+use Rattle.st_steps.proofs.EntryNumbers.{reloaded_has}
+use Rattle.st_steps.proofs.Moving.{place_in}
+use Rattle.st_steps.proofs.ReloadedSteps.{calls_gone, can_gone, few_gone, known_block, never_absent, numbered_gone, room_gone, step_gone}
+use Rattle.st_steps.proofs.Served.{left_as, on_err, running_stands, running_step}
 use Rattle.st_machine.proofs.Running.{running_of}
 use Rattle.st_machine.proofs.machine.Machine.reload.Goals as goal
 

@@ -5,10 +5,10 @@ use Rattle.st_decide.specs.Machine.{Running}
 use Rattle.st_decide.specs.Making.{request_with}
 use Rattle.st_decide.specs.NextSteps.{CanStep}
 use Rattle.st_decide.specs.declared.step.Step.TheVariants as steps
-use Rattle.st_machine.specs.Making.{others, MakesCall}
-use Rattle.st_machine.proofs.After.{with_parts}
-use Rattle.st_machine.proofs.CallsMade.{others_can, own_call, running_made, set_so}
-use Rattle.st_machine.proofs.CanMake.{can_use}
+use Rattle.st_steps.specs.Making.{others, MakesCall}
+use Rattle.st_steps.proofs.After.{with_parts}
+use Rattle.st_steps.proofs.CallsMade.{others_can, own_call, running_made, set_so}
+use Rattle.st_steps.proofs.CanMake.{can_use}
 use Rattle.st_machine.proofs.Running.{running_of}
 use Rattle.st_law.specs.State.{State}
 use Rattle.st_law.specs.declared.input.Input.{Input}

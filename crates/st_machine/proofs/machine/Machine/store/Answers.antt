@@ -7,9 +7,9 @@ use Rattle.st_decide.specs.Machine.{IsNextStep, IsDrawnStep, Running, SameState}
 use Rattle.st_system.specs.System.{Parts}
 use Rattle.st_threads.specs.Thread.{ThreadRow}
 use Rattle.st_decide.specs.declared.step.Step.TheVariants as steps
-use Rattle.st_machine.proofs.After.{with_parts}
-use Rattle.st_machine.proofs.Moving.{place_in, row_here, stored_inside, stored_started, stored_step}
-use Rattle.st_machine.proofs.Served.{left_as, on_err, running_stands, running_step}
+use Rattle.st_steps.proofs.After.{with_parts}
+use Rattle.st_steps.proofs.Moving.{place_in, row_here, stored_inside, stored_started, stored_step}
+use Rattle.st_steps.proofs.Served.{left_as, on_err, running_stands, running_step}
 use Rattle.st_machine.proofs.Running.{running_of}
 use Rattle.st_machine.proofs.machine.Machine.store.Goals as goal
 

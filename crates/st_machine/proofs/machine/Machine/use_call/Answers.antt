@@ -6,10 +6,10 @@ use Rattle.st_workers.specs.Numbers.{seq_if, IsNumbered}
 use Rattle.st_decide.specs.Machine.{Running}
 use Rattle.st_decide.specs.NextSteps.{CanStep}
 use Rattle.st_decide.specs.declared.step.Step.TheVariants as steps
-use Rattle.st_machine.proofs.MadeSteps.{drawing_there}
-use Rattle.st_machine.proofs.Moving.{row_making}
+use Rattle.st_steps.proofs.MadeSteps.{drawing_there}
+use Rattle.st_steps.proofs.Moving.{row_making}
 use Rattle.st_machine.proofs.Running.{running_of}
-use Rattle.st_machine.proofs.Served.{left_as}
+use Rattle.st_steps.proofs.Served.{left_as}
 use Rattle.st_machine.proofs.machine.Machine.use_call.Goals as goal
 
 pub seq_if-seq-requires : goal.seq_if-seq-requires

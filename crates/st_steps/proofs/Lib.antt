@@ -1,0 +1,16 @@
+pub mod After
+pub mod Answered
+pub mod CallsMade
+pub mod CanMake
+pub mod Entered
+pub mod EntryNumbers
+pub mod Made
+pub mod MadeSteps
+pub mod Moving
+pub mod OwnCalls
+pub mod ReloadedSteps
+pub mod Renewals
+pub mod RenewedSteps
+pub mod Room
+pub mod Served
+pub mod SettingIds
